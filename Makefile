@@ -1,0 +1,13 @@
+# make test: the gate. Every step's output is printed; the last line is rt ci's own tally, and the exit status is non-zero if any step failed.
+.SILENT:
+.PHONY: test check fmt
+
+test:
+	sh tools/gate
+
+# prove what has changed, and run the programs
+check:
+	rt check
+
+fmt:
+	rt fmt

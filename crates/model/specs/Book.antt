@@ -1,0 +1,146 @@
+-- 01, the run, the book and Demand 3; and the two claims about bits. Each claim is a type: `recovery` is to prove them.
+use Prim.Native.Nat.{ℕ, _+_, _≤_, _<_}
+use mathlib.Core.Path.{_≡_}
+use mathlib.Core.Bool.{Bool, true, false, cond, _&&_, _||_}
+use mathlib.Core.List.{List, [], _∷_, _++_}
+use lib.ListN.{length, getD}
+use lib.Dec.{eqb, leb, ltb}
+use Rattle.model.specs.declared.Session.{Session}
+use Rattle.model.specs.Lists.{any}
+use Rattle.model.specs.Image.{region, workAt}
+use Rattle.model.specs.Name.{Key}
+use Rattle.model.specs.Entry.{stateAt, Value}
+use Rattle.model.specs.Walk.{Entry}
+use Rattle.model.specs.Region.{entries, tailAt, valuesOf}
+use Rattle.model.specs.Work.{recordSpace}
+use Rattle.model.specs.Request.{Request}
+use Rattle.model.specs.Change.{Change, nothing, remove, put, changeIn, step}
+use Rattle.model.specs.Stores.{Store, byte, erase, apply, Bytes, Cut, Clears, difference}
+use Rattle.model.specs.Set.{Plan, setPlan, fitsTail}
+use Rattle.model.specs.StartUp.{startUpPlan}
+use Rattle.model.specs.Answers.{Outcome, done, stopped, refused, outcome, imageAfter, storesOf, decided, getPlan, nextPlan}
+
+-- "sets (deletes among them), gets, next-names and start-ups": each with its session and arguments, a start-up with custom mode and R
+pub data Call : Type 0 where
+  set : Session → Request → Call
+  get : Session → Key → List ℕ → Call
+  next : Session → Key → List ℕ → Call
+  startUp : ℕ → ℕ → Call
+
+-- what each is to do to an image
+unfoldable pub planOf : Call → List ℕ → Plan
+planOf (set s r) img = setPlan s r img
+planOf (get s k buffer) img = getPlan s k buffer img
+planOf (next s k buffer) img = nextPlan s k buffer img
+planOf (startUp custom reserve) img = startUpPlan img
+
+-- arguments are bytes, a GUID is 16 of them
+abbrev pub Sized : Call → Type 0
+Sized (set s r) = Bytes (r .name) × Bytes (r .vendor) × (length (r .vendor) ≡ 16) × Bytes (r .bytes)
+Sized (get s k buffer) = Unit {0}
+Sized (next s k buffer) = Unit {0}
+Sized (startUp custom reserve) = Unit {0}
+
+-- the book: "only a set that is done, or had that store complete, changes it"
+unfoldable pub entered : Call → List Value → List Value
+entered (set s r) book = step (changeIn r book) book
+entered (get s k buffer) book = book
+entered (next s k buffer) book = book
+entered (startUp custom reserve) book = book
+
+-- of a call that ran with n: done, or stopped with its deciding store complete
+abbrev pub counts : Outcome → Bool → Bool
+counts (done stores) complete = true
+counts stopped complete = complete
+counts (refused rule) complete = false
+
+unfoldable pub bookAfter : Call → Bool → List Value → List Value
+bookAfter c true book = entered c book
+bookAfter c false book = book
+
+-- "A run is any list, also empty, of" calls: image and book after it, from the image that it began on
+pub data Run (start : List ℕ) : List ℕ → List Value → Type 0 where
+  begin : Run start start (valuesOf start)
+  ran : {img : List ℕ}
+      {book : List Value}
+      → Run start img book
+      → (c : Call)
+      → Sized c
+      → (n : ℕ)
+      → Run start (imageAfter n (planOf c img) img) (bookAfter c (counts (outcome n (planOf c img)) (decided n (planOf c img))) book)
+  cut : {img img′ : List ℕ}
+      {book : List Value}
+      → Run start img book
+      → (c : Call)
+      → Sized c
+      → (k : ℕ)
+      → Cut (storesOf (planOf c img)) k img img′
+      → Run start img′ (bookAfter c (decided k (planOf c img)) book)
+
+-- "an image as a done start-up left it"
+pub record Started (img : List ℕ) : Type 0 where
+  pub before : List ℕ
+  pub bytes : Bytes before
+  pub n : ℕ
+  pub stores : ℕ
+  pub finished : outcome n (startUpPlan before) ≡ done stores
+  pub left : img ≡ imageAfter n (startUpPlan before) before
+
+-- the claim about one call of a run: a start-up that is done leaves the values of the book
+abbrev pub Agrees : Call → ℕ → List ℕ → List Value → Type 0
+Agrees (set s r) n img book = Unit {0}
+Agrees (get s k buffer) n img book = Unit {0}
+Agrees (next s k buffer) n img book = Unit {0}
+Agrees (startUp custom reserve) n img book =
+    (stores : ℕ) → outcome n (startUpPlan img) ≡ done stores → valuesOf (imageAfter n (startUpPlan img) img) ≡ book
+
+-- "after every start-up in it that is done, the image's list of values equals the book as it then stands"
+abbrev pub AgreesAll : {start img : List ℕ} {book : List Value} → Run start img book → Type 0
+AgreesAll begin = Unit {0}
+AgreesAll (ran {img} {book} run c sized n) = AgreesAll run × Agrees c n img book
+AgreesAll (cut run c sized k left) = AgreesAll run
+
+-- *Demand 3*
+abbrev pub Demand3 : Type 0
+Demand3 = (start img : List ℕ) (book : List Value) → Started start → (run : Run start img book) → AgreesAll run
+
+-- "it may only clear bits": no byte store of any call, on any image, asks a cleared bit to rise
+abbrev pub NoBitRises : Type 0
+NoBitRises = (img : List ℕ) → Bytes img → (c : Call) → Sized c → Clears (storesOf (planOf c img)) img
+
+-- the places of records, and of the states of entries, also of the next one
+unfoldable pub isRecord : List ℕ → ℕ → Bool
+isRecord img at = leb (workAt img) at && ltb at (workAt img + recordSpace)
+
+unfoldable pub isState : List ℕ → ℕ → Bool
+isState img at =
+    any (λ e. eqb at (e .at + stateAt)) (entries (region img)) || eqb at (tailAt (region img) + stateAt)
+
+-- a list's byte stores at such places clear exactly one bit
+abbrev pub ClearsOne : (ℕ → Bool) → List Store → List ℕ → Type 0
+ClearsOne marks [] img = Unit {0}
+ClearsOne marks (byte at v ∷ ss) img =
+    (marks at ≡ true → difference (getD img at 0) v ≡ 1) × ClearsOne marks ss (apply (byte at v) img)
+ClearsOne marks (erase b ∷ ss) img = ClearsOne marks ss (apply (erase b) img)
+
+-- a change in place, by a tail write or a delete: a compaction fills spare and region with whole bytes, which are no marks of states
+unfoldable pub inPlace : List ℕ → Change → Bool
+inPlace img nothing = true
+inPlace img (remove k) = true
+inPlace img (put v) = fitsTail (region img) v
+
+abbrev pub StatesClearOneBit : Call → List ℕ → Type 0
+StatesClearOneBit (set s r) img =
+    inPlace img (changeIn r (valuesOf img)) ≡ true → ClearsOne (isState img) (storesOf (setPlan s r img)) img
+StatesClearOneBit (get s k buffer) img = Unit {0}
+StatesClearOneBit (next s k buffer) img = Unit {0}
+StatesClearOneBit (startUp custom reserve) img = Unit {0}
+
+-- "Every change of state clears exactly one bit": every mark of a record, by any call, and of a state, by a set in place
+abbrev pub MarksClearOneBit : Type 0
+MarksClearOneBit =
+    (img : List ℕ)
+    → Bytes img
+    → (c : Call)
+    → Sized c
+    → ClearsOne (isRecord img) (storesOf (planOf c img)) img × StatesClearOneBit c img

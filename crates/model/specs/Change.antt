@@ -1,0 +1,76 @@
+-- 01, "What a set does": the change that a call makes of the list of values, for the book, for rule 13 and for a compaction alike.
+use Prim.Native.Nat.{ℕ, _+_}
+use mathlib.Core.Bool.{Bool, false, not, cond, _&&_, _||_}
+use mathlib.Core.List.{List, [], _∷_, _++_}
+use mathlib.Core.Option.{Option}
+use lib.Dec.{eqb}
+use Rattle.model.specs.Lists.{same, keep, isEmpty, onSome}
+use Rattle.model.specs.Image.{regionHeaderSize}
+use Rattle.model.specs.Name.{Key, sameKey}
+use Rattle.model.specs.Entry.{Value, keyOf, entrySize}
+use Rattle.model.specs.Region.{find}
+use Rattle.model.specs.Request.{Request, requestKey, timeBased, appends, withoutAppend, dataProper, stampToStore}
+
+pub data Change : Type 0 where
+  nothing : Change
+  remove : Key → Change
+  put : Value → Change
+
+-- "Attributes 0, or empty data proper without append, delete."
+unfoldable pub deletes : Request → Bool
+deletes r = eqb (r .attributes) 0 || (isEmpty (dataProper r) && not (appends (r .attributes)))
+
+-- "An empty append changes nothing."
+unfoldable pub emptyAppend : Request → Bool
+emptyAppend r = isEmpty (dataProper r) && appends (r .attributes)
+
+-- "Equal data and attributes, neither 0x20 nor 0x40 among them: no stores."
+unfoldable pub equalTo : Request → Value → Bool
+equalTo r v =
+    same (dataProper r) (v .bytes)
+    && eqb (r .attributes) (v .attributes)
+    && not (timeBased (r .attributes))
+    && not (appends (r .attributes))
+
+-- "Append joins the data, and creates if absent."
+unfoldable pub newData : Request → Option Value → List ℕ
+newData r old = cond (appends (r .attributes)) (onSome old (λ v. v .bytes) [] ++ dataProper r) (dataProper r)
+
+-- "name, GUID, attributes without 0x40, stamp to be stored, data proper, an append's behind the old data"
+unfoldable pub newValue : Request → Option Value → Value
+newValue r old = record {
+  name = r .name;
+  vendor = r .vendor;
+  attributes = withoutAppend (r .attributes);
+  stamp = stampToStore r;
+  bytes = newData r old;
+}
+
+-- the change that a set asks for, from its arguments and the value that stands
+unfoldable pub changeOf : Request → Option Value → Change
+changeOf r old =
+    cond
+    (deletes r)
+    (remove (requestKey r))
+    (cond (emptyAppend r || onSome old (equalTo r) false) nothing (put (newValue r old)))
+
+-- the list of values after a change: a delete takes its value out, any other drops the old value and adds at the end
+unfoldable pub without : Key → List Value → List Value
+without k vs = keep (λ v. not (sameKey (keyOf v) k)) vs
+
+unfoldable pub step : Change → List Value → List Value
+step nothing vs = vs
+step (remove k) vs = without k vs
+step (put v) vs = without (keyOf v) vs ++ (v ∷ [])
+
+-- the change of a set over a list of values
+unfoldable pub changeIn : Request → List Value → Change
+changeIn r vs = changeOf r (find (requestKey r) vs)
+
+-- the space that values take: "28 plus the rounded entry sizes of all values"
+unfoldable pub entrySizes : List Value → ℕ
+entrySizes [] = 0
+entrySizes (v ∷ vs) = entrySize v + entrySizes vs
+
+unfoldable pub spaceOf : List Value → ℕ
+spaceOf vs = regionHeaderSize + entrySizes vs

@@ -1,0 +1,79 @@
+-- 01, "What a set does": the stores of a set, up to the deciding store and on from there.
+use Prim.Native.Nat.{ℕ, _+_, _-_}
+use mathlib.Core.Bool.{Bool, cond}
+use mathlib.Core.List.{List, [], _∷_, _++_}
+use mathlib.Core.Option.{Option, none, some}
+use lib.ListN.{length}
+use lib.Dec.{leb}
+use Rattle.model.specs.declared.Session.{Session}
+use Rattle.model.specs.declared.Rule.{Rule}
+use Rattle.model.specs.Lists.{onSome}
+use Rattle.model.specs.Image.{region}
+use Rattle.model.specs.Name.{Key}
+use Rattle.model.specs.Entry.{headerSize, stateAt, Value, keyOf, entrySize, headerFront, headerRest}
+use Rattle.model.specs.Walk.{Entry, stateOf}
+use Rattle.model.specs.Region.{entries, tailAt, valuesOf, added, replacing, standing}
+use Rattle.model.specs.Request.{Request}
+use Rattle.model.specs.Change.{Change, nothing, remove, put, changeIn, step}
+use Rattle.model.specs.Rules.{setBroken}
+use Rattle.model.specs.Stores.{Store, run, mark}
+use Rattle.model.specs.Compact.{compactTo, compactOn}
+
+-- what a call is to do: a refusal, or its stores up to the deciding one and on from there
+pub data Plan : Type 0 where
+  refuse : Rule → Plan
+  make : List Store → List Store → Plan
+
+-- an entry's state is changed; the region stands at the image's front, so its offsets are the image's
+abbrev pub markState : ℕ → ℕ → List Store
+markState at state = mark (at + stateAt) state
+
+-- "a leftover 3E beside a 3F becomes 3C"
+unfoldable pub leftover : Key → List Entry → List Store
+leftover k es = onSome (added k es) (λ f. onSome (replacing k es) (λ e. markState (e .at) 0x3C) []) []
+
+-- "header bytes in rising order without state; state 7F; name; data"
+unfoldable pub entryStores : ℕ → Value → List Store
+entryStores at v =
+    run at headerFront
+    ++ run (at + stateAt + 1) (headerRest v)
+    ++ markState at 0x7F
+    ++ run (at + headerSize) (v .name)
+    ++ run (at + headerSize + length (v .name)) (v .bytes)
+
+-- "In the tail ..: a leftover 3E beside a 3F becomes 3C; the 3F becomes 3E; (the entry); state 3F (deciding);
+unfoldable pub tailTo : ℕ → Value → List Entry → List Store
+tailTo at v es =
+    leftover (keyOf v) es
+    ++ onSome (added (keyOf v) es) (λ e. markState (e .at) 0x3E) []
+    ++ entryStores at v
+    ++ markState at 0x3F
+
+--  the old entry 3C."
+unfoldable pub tailOn : Value → List Entry → List Store
+tailOn v es = onSome (standing (keyOf v) es) (λ e. markState (e .at) 0x3C) []
+
+-- "Delete: leftover first, then bit 0x02 of the state cleared (deciding)": 3F becomes 3D, 3E alone becomes 3C
+unfoldable pub deleteTo : Key → List Entry → List Store
+deleteTo k es = leftover k es ++ onSome (standing k es) (λ e. markState (e .at) (stateOf e - 0x02)) []
+
+-- "In the tail, if the rounded entry fits"
+unfoldable pub fitsTail : List ℕ → Value → Bool
+fitsTail r v = leb (tailAt r + entrySize v) (length r)
+
+-- the stores of a change: none; a delete; a tail write; "Otherwise the region is compacted with the change folded in"
+unfoldable pub putPlan : List ℕ → Value → Plan
+putPlan img v =
+    cond
+    (fitsTail (region img) v)
+    (make (tailTo (tailAt (region img)) v (entries (region img))) (tailOn v (entries (region img))))
+    (make (compactTo img (step (put v) (valuesOf img))) (compactOn img (step (put v) (valuesOf img))))
+
+unfoldable pub changePlan : List ℕ → Change → Plan
+changePlan img nothing = make [] []
+changePlan img (remove k) = make (deleteTo k (entries (region img))) []
+changePlan img (put v) = putPlan img v
+
+-- a set, a delete or an append, whole
+unfoldable pub setPlan : Session → Request → List ℕ → Plan
+setPlan s r img = onSome (setBroken s r img) refuse (changePlan img (changeIn r (valuesOf img)))
