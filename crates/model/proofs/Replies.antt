@@ -25,38 +25,38 @@ begin = record { name = zeros 2; vendor = zeros 16 }
 abbrev room : ℕ → List ℕ
 room n = replicate n 0xA5
 
-abbrev no : ℕ → ℕ → List ℕ → Reply
-no rule needed buffer = record { outcome = refused rule; size = 0; attributes = 0; needed = needed; buffer = buffer }
+abbrev no : ℕ → List ℕ → Reply
+no needed buffer = record { size = 0; attributes = 0; needed = needed; buffer = buffer }
 
 -- a get writes the front of the buffer; it tells the size needed where that is too short
 got : getReply boot theRate (room 6) rateStands
-    ≡ record { outcome = done 0; size = 4; attributes = 0x07; needed = 0; buffer = four 0x64 ++ room 2 }
+    ≡ record { size = 4; attributes = 0x07; needed = 0; buffer = four 0x64 ++ room 2 }
 unfolding computed
 got = refl
 
-gotShort : getReply boot theRate (room 3) rateStands ≡ no 14 4 (room 3)
+gotShort : getReply boot theRate (room 3) rateStands ≡ no 4 (room 3)
 unfolding computed
 gotShort = refl
 
-gotNothing : getReply boot other (room 6) rateStands ≡ no 11 0 (room 6)
+gotNothing : getReply boot other (room 6) rateStands ≡ no 0 (room 6)
 unfolding computed
 gotNothing = refl
 
 -- next-name begins with the empty name, whatever its GUID, and ends after the last value
 namedFirst : nextReply boot begin (room 30) rateStands
-    ≡ record { outcome = done 0; size = 26; attributes = 0; needed = 0; buffer = guid ++ rate ++ room 4 }
+    ≡ record { size = 26; attributes = 0; needed = 0; buffer = guid ++ rate ++ room 4 }
 unfolding computed
 namedFirst = refl
 
-namedShort : nextReply boot begin (room 25) rateStands ≡ no 14 26 (room 25)
+namedShort : nextReply boot begin (room 25) rateStands ≡ no 26 (room 25)
 unfolding computed
 namedShort = refl
 
-namedLast : nextReply boot theRate (room 30) rateStands ≡ no 11 0 (room 30)
+namedLast : nextReply boot theRate (room 30) rateStands ≡ no 0 (room 30)
 unfolding computed
 namedLast = refl
 
-namedAbsent : nextReply boot other (room 30) rateStands ≡ no 11 0 (room 30)
+namedAbsent : nextReply boot other (room 30) rateStands ≡ no 0 (room 30)
 unfolding computed
 namedAbsent = refl
 

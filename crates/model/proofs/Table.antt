@@ -1,7 +1,7 @@
 -- The cases with a star of 01, "Values to try", as rows of one table; `starred` says that all of them hold.
 -- Assumes nothing.
 use Prim.Native.Nat.{ℕ}
-use mathlib.Core.Path.{_≡_, refl}
+use mathlib.Core.Path.{refl}
 use mathlib.Core.List.{List, [], _∷_, _++_}
 use lib.ListN.{replicate}
 use Rattle.model.specs.Answers.{done}

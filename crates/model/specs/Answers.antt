@@ -1,8 +1,7 @@
 -- 01, "Rules a call can break" and "What a set does": what the calls answer, and what they leave in the image, the buffer and the session.
-use Prim.Native.Nat.{ℕ, _+_}
-use mathlib.Core.Bool.{Bool, true, false, not, cond, _&&_}
-use mathlib.Core.List.{List, [], _∷_, _++_}
-use mathlib.Core.Option.{Option, none, some}
+use Prim.Native.Nat.{ℕ}
+use mathlib.Core.Bool.{Bool, false, not, cond, _&&_}
+use mathlib.Core.List.{List, [], _++_}
 use lib.ListN.{length}
 use lib.Dec.{eqb, leb}
 use Rattle.model.specs.declared.Session.{Session}
@@ -12,7 +11,6 @@ use Rattle.model.specs.declared.Answer.{Answer}
 use Rattle.model.specs.declared.Answer.the-variants.{Done, Stopped, Refused}
 use Rattle.model.specs.Lists.{overlay, isEmpty, onSome}
 use Rattle.model.specs.Name.{Key}
-use Rattle.model.specs.Entry.{Value}
 use Rattle.model.specs.Session.{lockedSession}
 use Rattle.model.specs.Rules.{getBroken, nextBroken, lockBroken, valueToGet, valueToName, gotBytes, namedBytes}
 use Rattle.model.specs.Stores.{Store, after}
@@ -63,14 +61,13 @@ outcome n (make to on) = cond (leb (length (to ++ on)) n) (done (length (to ++ o
 unfoldable pub imageAfter : ℕ → Plan → List ℕ → List ℕ
 imageAfter n plan img = after n (storesOf plan) img
 
--- the deciding store is among the first k; a refusal and a call with no stores decide nothing
+-- the deciding store is among the first k; a refusal, a call with no stores, a start-up and a format decide nothing
 unfoldable pub decided : ℕ → Plan → Bool
 decided k (refuse rule) = false
 decided k (make to on) = not (isEmpty to) && leb (length to) k
 
--- what a get or next-name gives back and leaves in the caller's buffer
+-- what a get or next-name gives back beside its answer, and leaves in the caller's buffer
 pub record Reply : Type 0 where
-  pub outcome : Outcome
   pub size : ℕ
   pub attributes : ℕ
   pub needed : ℕ
@@ -79,7 +76,6 @@ pub record Reply : Type 0 where
 -- refused: nothing is written; the size needed is told where the buffer is too short
 unfoldable pub refusal : Rule → ℕ → List ℕ → Reply
 refusal rule size buffer = record {
-  outcome = refused (ruleNumber rule);
   size = 0;
   attributes = 0;
   needed = cond (eqb (ruleNumber rule) 14) size 0;
@@ -89,7 +85,6 @@ refusal rule size buffer = record {
 -- done: "write the front of the buffer and no more, and also give the size written; get gives the attributes too"
 unfoldable pub written : List ℕ → ℕ → List ℕ → Reply
 written bytes attributes buffer = record {
-  outcome = done 0;
   size = length bytes;
   attributes = attributes;
   needed = 0;
@@ -113,7 +108,7 @@ nextReply s k buffer img =
     (λ rule. refusal rule (onSome (valueToName s k img) (λ v. length (namedBytes v)) 0) buffer)
     (onSome (valueToName s k img) (λ v. written (namedBytes v) 0 buffer) (written [] 0 buffer))
 
--- get and next-name make no stores
+-- their answers: get and next-name make no stores
 unfoldable pub getPlan : Session → Key → List ℕ → List ℕ → Plan
 getPlan s k buffer img = onSome (getBroken s k buffer img) refuse (make [] [])
 

@@ -1,23 +1,23 @@
 -- 01, the run, the book and Demand 3; and the two claims about bits. Each claim is a type: `recovery` is to prove them.
-use Prim.Native.Nat.{ℕ, _+_, _≤_, _<_}
+use Prim.Native.Nat.{ℕ, _+_}
 use mathlib.Core.Path.{_≡_}
-use mathlib.Core.Bool.{Bool, true, false, cond, _&&_, _||_}
-use mathlib.Core.List.{List, [], _∷_, _++_}
+use mathlib.Core.Bool.{Bool, true, false, _&&_, _||_}
+use mathlib.Core.List.{List, [], _∷_}
 use lib.ListN.{length, getD}
 use lib.Dec.{eqb, leb, ltb}
+use lib.Bits.{bitAnd}
 use Rattle.model.specs.declared.Session.{Session}
 use Rattle.model.specs.Lists.{any}
 use Rattle.model.specs.Image.{region, workAt}
 use Rattle.model.specs.Name.{Key}
 use Rattle.model.specs.Entry.{stateAt, Value}
-use Rattle.model.specs.Walk.{Entry}
 use Rattle.model.specs.Region.{entries, tailAt, valuesOf}
 use Rattle.model.specs.Work.{recordSpace}
 use Rattle.model.specs.Request.{Request}
 use Rattle.model.specs.Change.{Change, nothing, remove, put, changeIn, step}
-use Rattle.model.specs.Stores.{Store, byte, erase, apply, Bytes, Cut, Clears, difference}
+use Rattle.model.specs.Stores.{Store, byte, erase, apply, Bytes, Uncleared, Cut, Clears, difference}
 use Rattle.model.specs.Set.{Plan, setPlan, fitsTail}
-use Rattle.model.specs.StartUp.{startUpPlan}
+use Rattle.model.specs.StartUp.{startUpPlan, formatPlan}
 use Rattle.model.specs.Answers.{Outcome, done, stopped, refused, outcome, imageAfter, storesOf, decided, getPlan, nextPlan}
 
 -- "sets (deletes among them), gets, next-names and start-ups": each with its session and arguments, a start-up with custom mode and R
@@ -78,7 +78,7 @@ pub data Run (start : List ℕ) : List ℕ → List Value → Type 0 where
       → Run start img′ (bookAfter c (decided k (planOf c img)) book)
 
 -- "an image as a done start-up left it"
-pub record Started (img : List ℕ) : Type 0 where
+pub record StartedUp (img : List ℕ) : Type 0 where
   pub before : List ℕ
   pub bytes : Bytes before
   pub n : ℕ
@@ -102,11 +102,14 @@ AgreesAll (cut run c sized k left) = AgreesAll run
 
 -- *Demand 3*
 abbrev pub Demand3 : Type 0
-Demand3 = (start img : List ℕ) (book : List Value) → Started start → (run : Run start img book) → AgreesAll run
+Demand3 = (start img : List ℕ) (book : List Value) → StartedUp start → (run : Run start img book) → AgreesAll run
 
--- "it may only clear bits": no byte store of any call, on any image, asks a cleared bit to rise
+-- "it may only clear bits": no byte store of any call, formatting among them, on any image, asks a cleared bit to rise
 abbrev pub NoBitRises : Type 0
-NoBitRises = (img : List ℕ) → Bytes img → (c : Call) → Sized c → Clears (storesOf (planOf c img)) img
+NoBitRises =
+    (img : List ℕ)
+    → Bytes img
+    → ((c : Call) → Sized c → Clears (storesOf (planOf c img)) img) × Clears (storesOf (formatPlan img)) img
 
 -- the places of records, and of the states of entries, also of the next one
 unfoldable pub isRecord : List ℕ → ℕ → Bool
@@ -116,11 +119,16 @@ unfoldable pub isState : List ℕ → ℕ → Bool
 isState img at =
     any (λ e. eqb at (e .at + stateAt)) (entries (region img)) || eqb at (tailAt (region img) + stateAt)
 
--- a list's byte stores at such places clear exactly one bit
+-- a byte store clears exactly one bit: none rises, and old and new differ in one; "so a cut leaves the old state or the new"
+abbrev pub ClearsOneBit : ℕ → ℕ → Type 0
+ClearsOneBit old new =
+    (bitAnd old new ≡ new) × (difference old new ≡ 1) × ((x : ℕ) → Uncleared old new x → x ≡ old)
+
+-- a list's byte stores at such places do
 abbrev pub ClearsOne : (ℕ → Bool) → List Store → List ℕ → Type 0
 ClearsOne marks [] img = Unit {0}
 ClearsOne marks (byte at v ∷ ss) img =
-    (marks at ≡ true → difference (getD img at 0) v ≡ 1) × ClearsOne marks ss (apply (byte at v) img)
+    (marks at ≡ true → ClearsOneBit (getD img at 0) v) × ClearsOne marks ss (apply (byte at v) img)
 ClearsOne marks (erase b ∷ ss) img = ClearsOne marks ss (apply (erase b) img)
 
 -- a change in place, by a tail write or a delete: a compaction fills spare and region with whole bytes, which are no marks of states

@@ -1,6 +1,6 @@
 -- 01, "Flash image": when a region is sound and clean, and which values it holds.
 use Prim.Native.Nat.{ℕ}
-use mathlib.Core.Bool.{Bool, true, not, cond, _&&_, _||_}
+use mathlib.Core.Bool.{Bool, true, not, _&&_, _||_}
 use mathlib.Core.List.{List, [], _∷_, map}
 use mathlib.Core.Option.{Option}
 use lib.ListN.{length, take, drop}
@@ -42,10 +42,11 @@ live e = eqb (stateOf e) 0x3F || eqb (stateOf e) 0x3E
 abbrev pub storedAttributes : List ℕ
 storedAttributes = 0x03 ∷ 0x07 ∷ 0x23 ∷ 0x27 ∷ []
 
--- "every 3F and 3E entry has a well-formed name, data size 1 to 2,048 and attributes .."
+-- "data size 1 to 2,048"
 abbrev pub maxData : ℕ
 maxData = 2048
 
+-- "every 3F and 3E entry has a well-formed name, data size .. and attributes .."
 unfoldable pub rightLive : Entry → Bool
 rightLive e =
     not (live e)

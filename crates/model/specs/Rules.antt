@@ -1,6 +1,6 @@
 -- 01, "Rules a call can break, in checking order". ruleN says whether rule N is broken.
 use Prim.Native.Nat.{ℕ, _+_}
-use mathlib.Core.Bool.{Bool, true, false, not, cond, _&&_, _||_}
+use mathlib.Core.Bool.{Bool, false, not, cond, _&&_, _||_}
 use mathlib.Core.List.{List, [], _∷_, _++_}
 use mathlib.Core.Option.{Option, none, some}
 use lib.ListN.{length}
@@ -83,7 +83,7 @@ unfoldable pub rule10 : Session → Request → List Value → Bool
 rule10 s r vs =
     verdictWanted s r vs && onSome (find (requestKey r) vs) (λ v. not (later (stampToStore r) (v .stamp))) false
 
--- 11. "The value to get, delete or go on from is absent (at runtime, values without RT are absent to get and next-name), or next-name has reached the end."
+-- 11. "The value to get, delete or go on from is absent (..), or next-name has reached the end.": of a set, and of a get or next-name
 unfoldable pub removesAbsent : Change → List Value → Bool
 removesAbsent nothing vs = false
 removesAbsent (remove k) vs = not (isSome (find k vs))
@@ -92,7 +92,10 @@ removesAbsent (put v) vs = false
 unfoldable pub rule11 : Request → List Value → Bool
 rule11 r vs = removesAbsent (changeIn r vs) vs
 
--- what a call's change puts, if it puts anything: "a delete, or a set that stores nothing, never meets" 13
+unfoldable pub rule11Read : Option Value → Bool
+rule11Read found = not (isSome found)
+
+-- a test of the value that a change puts; "a delete, or a set that stores nothing, never meets" 13, nor has it data that would exceed a limit
 abbrev pub onPut : Change → (Value → Bool) → Bool
 onPut nothing f = false
 onPut (remove k) f = false
@@ -176,7 +179,7 @@ getBroken s k buffer img =
     firstBroken
     (imageRules img
     ++ ((Name, rule3 k)
-    ∷ (Absent, not (isSome (valueToGet s k img)))
+    ∷ (Absent, rule11Read (valueToGet s k img))
     ∷ (Buffer, rule14 (valueToGet s k img) gotBytes buffer)
     ∷ []))
 
@@ -185,7 +188,7 @@ nextBroken s k buffer img =
     firstBroken
     (imageRules img
     ++ ((Name, rule3Next k)
-    ∷ (Absent, not (isSome (valueToName s k img)))
+    ∷ (Absent, rule11Read (valueToName s k img))
     ∷ (Buffer, rule14 (valueToName s k img) namedBytes buffer)
     ∷ []))
 

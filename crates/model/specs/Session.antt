@@ -1,14 +1,14 @@
 -- 01, "Session": phases, custom mode, the run-time reserve and the lock list; what a lock and a phase change make of a session.
 use Prim.Native.Nat.{ℕ, _+_, _*_, _-_, min}
 use mathlib.Core.Bool.{Bool, not, cond, _&&_}
-use mathlib.Core.List.{List, [], _∷_, _++_}
+use mathlib.Core.List.{List, _++_}
 use lib.ListN.{length, getD, set, replicate}
 use lib.Dec.{eqb, leb}
 use Rattle.model.specs.declared.Session.{Session}
 use Rattle.model.specs.Lists.{part, overlay, range, any}
 use Rattle.model.specs.Name.{Key, sameKey, wellNamed}
 
--- "phase (boot, after EndOfDxe, runtime)": 0, 1, 2; a number above 2 counts as 2
+-- "phase (boot, after EndOfDxe, runtime; ..)": 0, 1, 2; a number above 2 counts as 2
 abbrev pub countedPhase : ℕ → ℕ
 countedPhase p = min p 2
 
@@ -25,7 +25,7 @@ isYes n = not (eqb n 0)
 unfoldable pub customMode : Session → Bool
 customMode s = isYes (s .custom)
 
--- "R above 4,096 counts as 4,096"
+-- "R above 4,096 counts .. as 4,096"
 abbrev pub countedReserve : ℕ → ℕ
 countedReserve r = min r 4096
 
@@ -33,7 +33,7 @@ countedReserve r = min r 4096
 unfoldable pub reserved : Session → ℕ
 reserved s = cond (atRuntime s) (countedReserve (s .reserve)) 0
 
--- "up to 16 names with GUIDs, 144 bytes each"; "a lock count above 16 counts as 16"
+-- "up to 16 names with GUIDs, 144 bytes each"; "a lock count above 16 as 16"
 abbrev pub lockSpace : ℕ
 lockSpace = 16
 
@@ -44,13 +44,13 @@ countedLocks s = min (s .count) lockSpace
 abbrev pub placeSize : ℕ
 placeSize = 144
 
-abbrev pub placeName : ℕ
-placeName = 128
+abbrev pub nameSpace : ℕ
+nameSpace = 128
 
 unfoldable pub lockAt : Session → ℕ → Key
 lockAt s i = record {
   name = part (placeSize * i) (getD (s .sizes) i 0) (s .locks);
-  vendor = part (placeSize * i + placeName) 16 (s .locks);
+  vendor = part (placeSize * i + nameSpace) 16 (s .locks);
 }
 
 -- a name is locked if it is listed; "a listed name that is not well formed locks nothing"
@@ -59,7 +59,7 @@ locked s k = any (λ i. wellNamed (lockAt s i .name) && sameKey (lockAt s i) k) 
 
 -- one more lock: all 144 bytes of the next place, its size and the count, and nothing else
 unfoldable pub placeBytes : Key → List ℕ
-placeBytes k = k .name ++ replicate (placeName - length (k .name)) 0 ++ k .vendor
+placeBytes k = k .name ++ replicate (nameSpace - length (k .name)) 0 ++ k .vendor
 
 unfoldable pub withLock : Session → Key → Session
 withLock s k = record {
@@ -96,7 +96,8 @@ noLocks = replicate 2304 0
 unfoldable pub noSizes : List ℕ
 noSizes = replicate lockSpace 0
 
--- "A start-up is given custom mode and R and makes a fresh session: boot, no locks, list bytes zero"; R "is kept by a start-up" as 4,096 if above
+-- "A start-up is given custom mode and R and makes a fresh session: boot, no locks, list bytes zero, also when it is refused or stopped": of every
+-- start-up, whatever its answer; R "(.. is kept by a start-up) as 4,096" if above
 unfoldable pub freshSession : ℕ → ℕ → Session
 freshSession custom reserve = record {
   phase = 0;

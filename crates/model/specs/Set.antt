@@ -1,8 +1,7 @@
 -- 01, "What a set does": the stores of a set, up to the deciding store and on from there.
 use Prim.Native.Nat.{ℕ, _+_, _-_}
 use mathlib.Core.Bool.{Bool, cond}
-use mathlib.Core.List.{List, [], _∷_, _++_}
-use mathlib.Core.Option.{Option, none, some}
+use mathlib.Core.List.{List, [], _++_}
 use lib.ListN.{length}
 use lib.Dec.{leb}
 use Rattle.model.specs.declared.Session.{Session}

@@ -1,8 +1,7 @@
 -- 01, "What a set does": start-up; and formatting.
 use Prim.Native.Nat.{ℕ, _+_, _*_, _-_}
-use mathlib.Core.Bool.{Bool, cond}
+use mathlib.Core.Bool.{cond}
 use mathlib.Core.List.{List, [], _∷_, _++_}
-use mathlib.Core.Option.{Option, none, some}
 use Rattle.model.specs.Lists.{allFF, onSome}
 use Rattle.model.specs.Image.{blocks, regionSize, regionHeader, region, work, spare}
 use Rattle.model.specs.Region.{tail, valuesOf}

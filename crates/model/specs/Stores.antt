@@ -1,9 +1,9 @@
 -- 01, "Flash image" and "What a set does": stores, lists of stores, what a cut leaves.
-use Prim.Native.Nat.{ℕ, zero, suc, _+_, _*_, _<_}
+use Prim.Native.Nat.{ℕ, zero, suc, _*_, _<_}
 use mathlib.Core.Path.{_≡_}
 use mathlib.Core.Logic.{_⊎_, _≢_}
-use mathlib.Core.List.{List, [], _∷_, _++_}
-use lib.ListN.{length, take, drop, getD, set, replicate}
+use mathlib.Core.List.{List, [], _∷_}
+use lib.ListN.{length, take, getD, set, replicate}
 use lib.Bits.{bitAnd, bitXor}
 use lib.Count.{ones}
 use Rattle.model.specs.Lists.{overlay}
