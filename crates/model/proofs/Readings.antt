@@ -15,7 +15,7 @@ use Rattle.model.specs.StartUp.{resume, tidySpare, tidyWork, tidyTail, a
 use Rattle.model.specs.Answers.{done, outcome, storesOf}
 use Rattle.model.specs.Book.{Call, set, startUp, planOf}
 use Rattle.model.proofs.Pieces.{Piece, store, clear, flat, laidAll, allInside, flat-laid}
-use Rattle.model.proofs.Row.{Row, Holds, HoldAll, held, computed, refuses, unlimited, ff, zeros, header, headerOf, image, guid, rate, four, behindState, startId, rateHeader, rateEntry, setting, rateStands}
+use Rattle.model.proofs.Row.{Row, Holds, HoldAll, end, _and_, held, computed, refuses, unlimited, ff, zeros, header, headerOf, image, guid, rate, four, behindState, startId, rateHeader, rateEntry, setting, rateStands}
 
 -- ---- a 3E entry alone is the value: 76 stores to replace it, 3E becomes 3C to delete it, an equal set stores nothing
 
@@ -258,18 +258,38 @@ allRecords-holds = held allRecords refl refl tt tt refl refl
 
 -- ---- the run-time reserve counts at runtime alone: one byte of it, where the region would be exactly full
 
-abbrev atRuntime : ℕ → List ℕ → Call
-atRuntime reserve bytes =
+abbrev inPhase : ℕ → Call
+inPhase phase =
     set
-    (record { phase = 2; custom = 0; reserve = reserve; count = 0; sizes = replicate 16 0; locks = replicate 2304 0 })
-    (record { name = nameB; vendor = guid; attributes = 0x07; bytes = bytes; presence = 0; verdict = 0 })
+    (record { phase = phase; custom = 0; reserve = 1; count = 0; sizes = replicate 16 0; locks = replicate 2304 0 })
+    (record { name = nameB; vendor = guid; attributes = 0x07; bytes = replicate 1892 0x22; presence = 0; verdict = 0 })
 
 abbrev reserveKept : Row
-reserveKept = refuses (image (header ++ large 0x3F nameA 0x11 ++ ff 1956)) 2140 (atRuntime 1 (replicate 1892 0x22)) 13
+reserveKept = refuses (image (header ++ large 0x3F nameA 0x11 ++ ff 1956)) 2140 (inPhase 2) 13
 
 reserveKept-holds : Holds reserveKept
 unfolding computed
 reserveKept-holds = held reserveKept refl refl tt tt refl refl
+
+abbrev reserveFree : Row
+reserveFree = record {
+  image = image (header ++ large 0x3F nameA 0x11 ++ ff 1956);
+  call = inPhase 1;
+  answer = done 1957;
+  stores = store 2140 startId
+      ∷ store 2143 (behindState 0x07 (zeros 16) 0x04 0x00 0x64 0x07 guid)
+      ∷ store 2142 (0x7F ∷ [])
+      ∷ store 2200 nameB
+      ∷ store 2204 (replicate 1892 0x22)
+      ∷ store 2142 (0x3F ∷ [])
+      ∷ [];
+  left = image (header ++ large 0x3F nameA 0x11 ++ rest nameB 0x22);
+  tail = 4096;
+}
+
+reserveFree-holds : Holds reserveFree
+unfolding computed
+reserveFree-holds = held reserveFree refl refl tt tt refl refl
 
 -- ---- the work block: a used record after an unused one is not well formed; a call refuses it, a start-up erases it
 
@@ -385,6 +405,7 @@ table =
     ∷ deletedRoom
     ∷ allRecords
     ∷ reserveKept
+    ∷ reserveFree
     ∷ gapRefused
     ∷ gapErased
     ∷ resumed
@@ -394,40 +415,22 @@ table =
 -- every row holds
 pub readings : HoldAll table
 unfolding table
-readings = (
-  loneReplaced-holds,
-  (
-    loneDeleted-holds,
-    (
-      loneEqual-holds,
-      (
-        leftoverReplaced-holds,
-        (
-          leftoverRestored-holds,
-          (
-            leftoverEqual-holds,
-            (
-              leftoverDeleted-holds,
-              (
-                appended-holds,
-                (
-                  unfinished-holds,
-                  (
-                    deletedRoom-holds,
-                    (
-                      allRecords-holds,
-                      (
-                        reserveKept-holds,
-                        (gapRefused-holds, (gapErased-holds, (resumed-holds, (tidied-holds, tt)))),
-                      ),
-                    ),
-                  ),
-                ),
-              ),
-            ),
-          ),
-        ),
-      ),
-    ),
-  ),
-)
+readings =
+    loneReplaced-holds
+    and loneDeleted-holds
+    and loneEqual-holds
+    and leftoverReplaced-holds
+    and leftoverRestored-holds
+    and leftoverEqual-holds
+    and leftoverDeleted-holds
+    and appended-holds
+    and unfinished-holds
+    and deletedRoom-holds
+    and allRecords-holds
+    and reserveKept-holds
+    and reserveFree-holds
+    and gapRefused-holds
+    and gapErased-holds
+    and resumed-holds
+    and tidied-holds
+    and end

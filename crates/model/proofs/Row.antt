@@ -35,9 +35,11 @@ pub record Holds (row : Row) : Type 0 where
   pub left : imageAfter unlimited (planOf (row .call) (row .image)) (row .image) ≡ row .left
   pub tail : tailAt (region (row .left)) ≡ row .tail
 
-abbrev pub HoldAll : List Row → Type 0
-HoldAll [] = Unit {0}
-HoldAll (row ∷ rows) = Holds row × HoldAll rows
+-- every row of a table holds
+infixr 5 _and_
+pub data HoldAll : List Row → Type 0 where
+  end : HoldAll []
+  _and_ : {row : Row} {rows : List Row} → Holds row → HoldAll rows → HoldAll (row ∷ rows)
 
 module _ (row : Row) where
   pub held : outcome unlimited (planOf (row .call) (row .image)) ≡ row .answer

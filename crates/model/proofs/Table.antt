@@ -7,7 +7,7 @@ use lib.ListN.{replicate}
 use Rattle.model.specs.Answers.{done}
 use Rattle.model.specs.Book.{Call, set, startUp}
 use Rattle.model.proofs.Pieces.{store, clear}
-use Rattle.model.proofs.Row.{Row, Holds, HoldAll, held, computed, refuses, boot, ff, zeros, header, image, empty, guid, rate, four, behindState, startId, rateHeader, rateEntry, setting, rateStands}
+use Rattle.model.proofs.Row.{Row, Holds, HoldAll, end, _and_, held, computed, refuses, boot, ff, zeros, header, image, empty, guid, rate, four, behindState, startId, rateHeader, rateEntry, setting, rateStands}
 
 -- ---- "New: 75 stores; entry 28 to 104 with padding."
 
@@ -410,58 +410,27 @@ table =
 -- every row holds
 pub starred : HoldAll table
 unfolding table
-starred = (
-  new-holds,
-  (
-    replaced-holds,
-    (
-      sameData-holds,
-      (
-        deleted-holds,
-        (
-          deletedEmpty-holds,
-          (
-            again-holds,
-            (
-              name4-holds,
-              (
-                name128-holds,
-                (
-                  name2-holds,
-                  (
-                    name5-holds,
-                    (
-                      name130-holds,
-                      (
-                        attributes13-holds,
-                        (
-                          attributes40-holds,
-                          (
-                            pk07-holds,
-                            (
-                              first2048-holds,
-                              (
-                                second1892-holds,
-                                (
-                                  second1893-holds,
-                                  (
-                                    second2049-holds,
-                                    (fullReplaced-holds, (equalStamps-holds, (laterStamp-holds, (closedWork-holds, tt)))),
-                                  ),
-                                ),
-                              ),
-                            ),
-                          ),
-                        ),
-                      ),
-                    ),
-                  ),
-                ),
-              ),
-            ),
-          ),
-        ),
-      ),
-    ),
-  ),
-)
+starred =
+    new-holds
+    and replaced-holds
+    and sameData-holds
+    and deleted-holds
+    and deletedEmpty-holds
+    and again-holds
+    and name4-holds
+    and name128-holds
+    and name2-holds
+    and name5-holds
+    and name130-holds
+    and attributes13-holds
+    and attributes40-holds
+    and pk07-holds
+    and first2048-holds
+    and second1892-holds
+    and second1893-holds
+    and second2049-holds
+    and fullReplaced-holds
+    and equalStamps-holds
+    and laterStamp-holds
+    and closedWork-holds
+    and end
