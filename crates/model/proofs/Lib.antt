@@ -13,3 +13,19 @@ pub mod Table
 pub mod Readings
 -- Calls that make no stores, and formatting
 pub mod Replies
+-- Boolean tests, and tests of equal lists and names
+pub mod Tests
+-- One segment of an image under stores within it
+pub mod Segments
+-- The three parts of an image
+pub mod Parts
+-- The walk over a region: chunks of entries, and marks of their states
+pub mod Chunks
+-- The values of a list of entries, under marks and one more entry
+pub mod Values
+-- Values written as entries and read back; a region of values
+pub mod Encode
+-- The work block under its marks
+pub mod WorkBlock
+-- What the rules leave of a call that breaks none
+pub mod Requests

@@ -1,0 +1,203 @@
+-- What the rules leave of a set that breaks none: the image is ready, the value to put is one that a sound region can hold, and it fits; the value
+-- to delete is there. A list of rules of which none is broken has every test false, and each fact is read off the tests that deny it; that a change
+-- puts a value says besides that the set neither deletes nor appends nothing.
+-- Assumes nothing.
+use Prim.Native.Nat.{ℕ, zero, suc, _+_, _-_, _/_, _%_, _≤_}
+use native.Mathlib.Omega.{arith}
+use mathlib.Core.Path.{_≡_, refl, ap}
+use mathlib.Core.Bool.{Bool, true, false, cond, not, _&&_, _||_, and-false, true≢false, false≢true}
+use mathlib.Core.List.{List, [], _∷_, _++_}
+use mathlib.Core.Option.{Option, none, some}
+use lib.ListN.{length, take, replicate, length-append, length-take}
+use lib.Dec.{eqb, leb, ltb}
+use borrow.Author.Tests.{ltb-false, leb-true, eqb-true, eqb-false, ne-eqb, not-false}
+use Rattle.model.specs.declared.Session.{Session}
+use Rattle.model.specs.declared.Rule.{Rule}
+use Rattle.model.specs.Lists.{among, isEmpty, isSome, onSome}
+use Rattle.model.specs.Name.{Key, wellNamed}
+use Rattle.model.specs.Image.{rightLength, regionSize}
+use Rattle.model.specs.Entry.{Value, keyOf}
+use Rattle.model.specs.Region.{maxData, storedAttributes, valuesOf, find}
+use Rattle.model.specs.Work.{readyForCall, readyForStartUp}
+use Rattle.model.specs.Session.{reserved}
+use Rattle.model.specs.Request.{Request, requestKey, stampSize, timeBased, appends, withoutAppend, dataProper, stampToStore, properAt, rightDescriptor}
+use Rattle.model.specs.Change.{nothing, remove, put, deletes, emptyAppend, equalTo, newData, newValue, changeOf, changeIn, step, spaceOf}
+use Rattle.model.specs.Rules.{firstBroken, rule1, rule2, rule2StartUp, rule3, rule4, rule8, rule11, rule12, rule13, imageRules, requestRules, standingRules, resultRules, roomRules, removesAbsent, setBroken, getBroken, nextBroken, startUpBroken}
+use Rattle.model.proofs.Encode.{Valid}
+use Rattle.model.proofs.Tests.{or-split}
+
+-- ---- rules of which none is broken
+
+none-cons : (x : Rule × Bool) (xs : List (Rule × Bool)) → firstBroken (x ∷ xs) ≡ none → (x .1 ≡ false) × (firstBroken xs ≡ none)
+unfolding firstBroken
+none-cons x xs h = go (x .1) h
+  where
+    go : (t : Bool) → cond t (some (x .0)) (firstBroken xs) ≡ none → (t ≡ false) × (firstBroken xs ≡ none)
+    go true h = let z : _≡_ {A = ℕ} 0 1 = cc in absurd (omega arith)
+    go false h = (refl, h)
+
+-- no rule of a list is broken where none of either part is
+pub none-append : (xs ys : List (Rule × Bool)) → firstBroken (xs ++ ys) ≡ none → (firstBroken xs ≡ none) × (firstBroken ys ≡ none)
+unfolding firstBroken
+none-append [] ys h = (refl, h)
+none-append (x ∷ xs) ys h =
+    let p = none-cons x (xs ++ ys) h in
+    let q = none-append xs ys (p .1) in
+    (rw (p .0) (q .0), q .1)
+
+-- the test at a place of a list, counted from 0: in a set's list, rule n stands at n - 1
+abbrev test : List (Rule × Bool) → ℕ → Bool
+test [] n = false
+test (x ∷ xs) zero = x .1
+test (x ∷ xs) (suc n) = test xs n
+
+unbroken : (xs : List (Rule × Bool)) (n : ℕ) → firstBroken xs ≡ none → test xs n ≡ false
+unbroken [] n h = refl
+unbroken (x ∷ xs) zero h = none-cons x xs h .0
+unbroken (x ∷ xs) (suc n) h = unbroken xs n (none-cons x xs h .1)
+
+-- ---- what a change that puts says of the set
+
+record Puts (r : Request) (old : Option Value) (v : Value) : Type 0 where
+  kept : deletes r ≡ false
+  adds : emptyAppend r ≡ false
+  made : v ≡ newValue r old
+
+puts : (r : Request) (old : Option Value) (v : Value) → changeOf r old ≡ put v → Puts r old v
+unfolding changeOf
+puts r old v h = go (deletes r) refl (emptyAppend r) refl (onSome old (equalTo r) false) h
+  where
+    go : (d : Bool) → deletes r ≡ d → (e : Bool) → emptyAppend r ≡ e → (q : Bool)
+        → cond d (remove (requestKey r)) (cond (e || q) nothing (put (newValue r old))) ≡ put v → Puts r old v
+    go true d e e′ q h = let z : _≡_ {A = ℕ} 0 1 = cc in absurd (omega arith)
+    go false d true e q h = let z : _≡_ {A = ℕ} 0 1 = cc in absurd (omega arith)
+    go false d false e true h = let z : _≡_ {A = ℕ} 0 1 = cc in absurd (omega arith)
+    go false d false e false h = record { kept = d; adds = e; made = cc }
+
+-- there are data proper, and they are the data to put or the end of them
+some-proper : (r : Request) → deletes r ≡ false → emptyAppend r ≡ false → 1 ≤ length (dataProper r)
+unfolding deletes emptyAppend
+some-proper r d e = go (dataProper r) (appends (r .attributes)) (or-split (eqb (r .attributes) 0) _ d .1) e
+  where
+    go : (xs : List ℕ) (t : Bool) → (isEmpty xs && not t) ≡ false → (isEmpty xs && t) ≡ false → 1 ≤ length xs
+    go [] true d e = absurd (true≢false e)
+    go [] false d e = absurd (true≢false d)
+    go (x ∷ xs) t d e = omega arith
+
+some-new : (r : Request) (old : Option Value) → 1 ≤ length (dataProper r) → 1 ≤ length (newData r old)
+unfolding newData
+some-new r old h = go (appends (r .attributes))
+  where
+    go : (t : Bool) → 1 ≤ length (cond t (onSome old (λ v. v .bytes) [] ++ dataProper r) (dataProper r))
+    go true = rw length-append (omega arith)
+    go false = h
+
+-- attributes without 0x40 are 0 for 0 and 0x40 alone
+new-attributes : (a : ℕ) → among (0 ∷ storedAttributes) (withoutAppend a) ≡ true → eqb a 0x40 ≡ false → eqb a 0 ≡ false
+    → among storedAttributes (withoutAppend a) ≡ true
+new-attributes a h n z = go (appends a) refl h
+  where
+    go : (t : Bool) → appends a ≡ t → among (0 ∷ storedAttributes) (cond t (a - 0x40) a) ≡ true
+        → among storedAttributes (cond t (a - 0x40) a) ≡ true
+    go true e h =
+        let x : a / 0x40 % 2 ≡ 1 = eqb-true (a / 0x40 % 2) 1 e in
+        let q : eqb (a - 0x40) 0 ≡ false = ne-eqb (a - 0x40) 0 (λ y. eqb-false a 0x40 n (omega arith)) in
+        rw q at h
+    go false e h = rw z at h
+
+put-attributes : (s : Session) (r : Request) → rule4 s r ≡ false → deletes r ≡ false → among storedAttributes (withoutAppend (r .attributes)) ≡ true
+unfolding rule4 deletes
+put-attributes s r h d =
+    let p = or-split _ _ (or-split _ _ h .0) in
+    new-attributes (r .attributes) (not-false _ (p .0)) (p .1) (or-split _ _ d .0)
+
+-- a stamp is 16 bytes
+descriptor-length : (bytes : List ℕ) → rightDescriptor bytes ≡ true → stampSize ≤ length bytes
+unfolding rightDescriptor
+descriptor-length bytes h = go (leb (properAt bytes) (length bytes)) refl
+  where
+    go : (t : Bool) → leb (properAt bytes) (length bytes) ≡ t → stampSize ≤ length bytes
+    go true e = omega (arith, leb-true)
+    go false e = absurd (false≢true (simp (e, and-false) at h))
+
+stamp-length : (r : Request) → rule8 r ≡ false → length (stampToStore r) ≡ 16
+unfolding rule8 stampToStore
+stamp-length r h = go (timeBased (r .attributes)) (rightDescriptor (r .bytes)) refl h
+  where
+    go : (t d : Bool) → rightDescriptor (r .bytes) ≡ d → (t && not d) ≡ false
+        → length (cond t (take stampSize (r .bytes)) (replicate stampSize 0)) ≡ 16
+    go true true e h = let l = descriptor-length (r .bytes) e in rw length-take (omega arith)
+    go true false e h = absurd (true≢false h)
+    go false d e h = refl
+
+-- ---- a set that breaks no rule
+
+module _ (s : Session) (r : Request) (img : List ℕ) (accepted : setBroken s r img ≡ none) where
+  pub set-length : rightLength img ≡ true
+  unfolding setBroken imageRules rule1
+  set-length = not-false (rightLength img) (unbroken _ 0 accepted)
+
+  pub set-ready : readyForCall img ≡ true
+  unfolding setBroken imageRules rule2
+  set-ready = not-false (readyForCall img) (unbroken _ 1 accepted)
+
+  pub put-key : (v : Value) → changeIn r (valuesOf img) ≡ put v → keyOf v ≡ requestKey r
+  unfolding changeIn newValue
+  put-key v c = ap keyOf (puts r (find (requestKey r) (valuesOf img)) v c .made)
+
+  pub put-is-valid : (v : Value) → changeIn r (valuesOf img) ≡ put v → length (r .vendor) ≡ 16 → Valid v
+  unfolding setBroken imageRules requestRules standingRules resultRules rule3 rule12 changeIn newValue
+  put-is-valid v c g =
+      let p = puts r (find (requestKey r) (valuesOf img)) v c in
+      let n : rule3 (requestKey r) ≡ false = unbroken _ 2 accepted in
+      let q : rule4 s r ≡ false = unbroken _ 3 accepted in
+      let d : rule8 r ≡ false = unbroken _ 7 accepted in
+      let h : rule12 r (valuesOf img) ≡ false = unbroken _ 11 accepted in
+      let few : length (v .bytes) ≤ maxData = ltb-false maxData (length (v .bytes)) (rw c at h) in
+      rw (p .made)
+      (record {
+        named = not-false (wellNamed (r .name)) n;
+        vendor = g;
+        stamp = stamp-length r d;
+        attributes = put-attributes s r q (p .kept);
+        some-data = some-new r (find (requestKey r) (valuesOf img)) (some-proper r (p .kept) (p .adds));
+        few-data = rw (p .made) at few;
+      })
+
+  pub put-fits : (v : Value) → changeIn r (valuesOf img) ≡ put v → spaceOf (step (put v) (valuesOf img)) ≤ regionSize img
+  unfolding setBroken imageRules requestRules standingRules resultRules roomRules rule13
+  put-fits v c =
+      let h : rule13 s r (regionSize img) (valuesOf img) ≡ false = unbroken _ 12 accepted in
+      let l : ltb (regionSize img) (spaceOf (step (put v) (valuesOf img)) + reserved s) ≡ false = rw c at h in
+      omega (arith, ltb-false)
+
+  pub remove-present : (k : Key) → changeIn r (valuesOf img) ≡ remove k → isSome (find k (valuesOf img)) ≡ true
+  unfolding setBroken imageRules requestRules standingRules resultRules rule11 removesAbsent
+  remove-present k c =
+      let h : rule11 r (valuesOf img) ≡ false = unbroken _ 10 accepted in
+      not-false (isSome (find k (valuesOf img))) (rw c at h)
+
+-- ---- the other calls
+
+-- a start-up that breaks no rule
+pub startUp-length : (img : List ℕ) → startUpBroken img ≡ none → rightLength img ≡ true
+unfolding startUpBroken rule1
+startUp-length img h = not-false (rightLength img) (unbroken _ 0 h)
+
+pub startUp-ready : (img : List ℕ) → startUpBroken img ≡ none → readyForStartUp img ≡ true
+unfolding startUpBroken rule2StartUp
+startUp-ready img h = not-false (readyForStartUp img) (unbroken _ 1 h)
+
+-- and the other way round
+pub startUp-accepted : (img : List ℕ) → rightLength img ≡ true → readyForStartUp img ≡ true → startUpBroken img ≡ none
+unfolding startUpBroken firstBroken rule1 rule2StartUp
+startUp-accepted img l h = rw (l, h)
+
+-- a get and a next-name that are accepted find the image ready
+pub get-ready : (s : Session) (k : Key) (buffer img : List ℕ) → getBroken s k buffer img ≡ none → (rightLength img ≡ true) × (readyForCall img ≡ true)
+unfolding getBroken imageRules rule1 rule2
+get-ready s k buffer img h = (not-false (rightLength img) (unbroken _ 0 h), not-false (readyForCall img) (unbroken _ 1 h))
+
+pub next-ready : (s : Session) (k : Key) (buffer img : List ℕ) → nextBroken s k buffer img ≡ none → (rightLength img ≡ true) × (readyForCall img ≡ true)
+unfolding nextBroken imageRules rule1 rule2
+next-ready s k buffer img h = (not-false (rightLength img) (unbroken _ 0 h), not-false (readyForCall img) (unbroken _ 1 h))

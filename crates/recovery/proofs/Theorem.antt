@@ -1,0 +1,455 @@
+-- Demand 3. Every call of a run keeps the invariant with the book: a set by what it keeps up to and from its deciding store, a start-up because it keeps the values, a get and a
+-- next-name because they store nothing. A done start-up leaves the image ready, and then its values are the book.
+-- Assumes nothing.
+use Prim.Native.Nat.{ℕ, _+_, _*_, _-_, _≤_, _<_}
+use native.Mathlib.Omega.{arith}
+use mathlib.Core.Path.{_≡_, refl, sym, ap, _∙_, subst}
+use mathlib.Core.Logic.{inl, inr}
+use mathlib.Core.Bool.{Bool, true, false, cond, not, _&&_, true≢false, false≢true}
+use mathlib.Core.List.{List, [], _∷_, _++_}
+use mathlib.Core.Option.{Option, none, some}
+use lib.ListN.{length, length-append}
+use lib.Seq.{take-nil}
+use lib.Dec.{leb}
+use borrow.Author.Tests.{leb-true, leb-false, le-leb}
+use Rattle.model.specs.declared.Session.{Session}
+use Rattle.model.specs.declared.Rule.{Rule}
+use Rattle.model.specs.Lists.{allFF, onSome, isSome, isEmpty}
+use Rattle.model.specs.Name.{Key}
+use Rattle.model.specs.Image.{block, blocks, rightLength, regionSize, workAt, spareAt, region, work}
+use Rattle.model.specs.Entry.{stateAt, Value, keyOf}
+use Rattle.model.specs.Walk.{Entry, stateOf, entryValue}
+use Rattle.model.specs.Region.{entries, tailAt, tail, values, valuesOf, sound, clean, find, added, standing}
+use Rattle.model.specs.Work.{wellFormed, endsInFC, idle, pending, readyForStartUp}
+use Rattle.model.specs.Request.{Request}
+use Rattle.model.specs.Change.{Change, nothing, remove, put, changeIn, step, without, spaceOf}
+use Rattle.model.specs.Rules.{setBroken, getBroken, nextBroken, startUpBroken}
+use Rattle.model.specs.Stores.{Store, byte, erase, run, mark, applyAll, after, Cut}
+use Rattle.model.specs.Compact.{encode, allUsed, nextRecord, compactTo, compactOn}
+use Rattle.model.specs.Set.{Plan, refuse, make, markState, leftover, entryStores, deleteTo, tailTo, tailOn, fitsTail, putPlan, changePlan, setPlan}
+use Rattle.model.specs.StartUp.{startUpStores, startUpPlan}
+use Rattle.model.specs.Answers.{ruleNumber, done, stopped, refused, outcome, imageAfter, storesOf, decided, getPlan, nextPlan}
+use Rattle.model.specs.Book.{Call, set, get, next, startUp, planOf, Sized, entered, counts, bookAfter, Run, begin, ran, cut, StartedUp, Agrees, AgreesAll, Demand3}
+use Rattle.model.proofs.Tests.{or-left, or-right, true-and}
+use Rattle.model.proofs.Stores.{after-all}
+use Rattle.model.proofs.Chunks.{Chunked}
+use Rattle.model.proofs.Values.{find-standing}
+use Rattle.recovery.proofs.Cuts.{Safe, cut-at}
+use Rattle.model.proofs.Parts.{Parts, parts-region, parts-work, parts-spare, parts-size, parts-right}
+use Rattle.model.proofs.Encode.{Valid, sound-valid, sound-distinct, put-valid, put-distinct}
+use Rattle.model.proofs.Requests.{set-length, set-ready, put-is-valid, put-fits, remove-present, startUp-length, startUp-ready, startUp-accepted}
+use Rattle.recovery.proofs.Invariant.{Holding, in-spare, in-region}
+use Rattle.recovery.proofs.Compaction.{clean-sound}
+use Rattle.recovery.proofs.StartingUp.{Ready, ready-of, ready-holds, startUp-holding, startUp-any}
+use Rattle.recovery.proofs.Marks.{State}
+use Rattle.recovery.proofs.Sets.{Kept, region-chunked, its-state, nothing-kept, delete-kept, tail-kept, compact-kept}
+
+-- ---- a set that breaks no rule
+
+pub record SetKept (s : Session) (r : Request) (img : List ℕ) (K : List Value) : Type 0 where
+  pub to : List Store
+  pub on : List Store
+  pub plan : setPlan s r img ≡ make to on
+  pub kept : Kept K (step (changeIn r K) K) to on img
+  pub decides : isEmpty to ≡ true → step (changeIn r K) K ≡ K
+
+last-there : {A : Type 0} (l : List A) (a : A) → isEmpty (l ++ (a ∷ [])) ≡ false
+last-there [] a = refl
+last-there (b ∷ l) a = refl
+
+-- the plan's kinds, for the parts of a ready image
+module _ {b : ℕ} {r w s : List ℕ} (p : Parts b r w s) (rested : idle w ≡ true) (free : allFF s ≡ true) (cleaned : clean r ≡ true) where
+  abbrev joined-image : List ℕ
+  joined-image = r ++ (w ++ s)
+
+  abbrev its-list : List Value
+  its-list = values (entries r)
+
+  its-values : valuesOf joined-image ≡ its-list
+  unfolding valuesOf
+  its-values = ap (λ (l : List ℕ). values (entries l)) (parts-region p)
+
+  pub record PlanKept (c : Change) : Type 0 where
+    pub to : List Store
+    pub on : List Store
+    pub plan : changePlan joined-image c ≡ make to on
+    pub kept : Kept its-list (step c its-list) to on joined-image
+    pub decides : isEmpty to ≡ true → step c its-list ≡ its-list
+
+  pub nothing-plan : PlanKept nothing
+  unfolding changePlan step
+  nothing-plan = record { to = []; on = []; plan = refl; kept = nothing-kept p rested free cleaned; decides = λ e. refl }
+
+  -- a delete of a value that stands has a store
+  delete-some : (k : Key) → isSome (find k its-list) ≡ true → isEmpty (deleteTo k (entries r)) ≡ false
+  unfolding deleteTo
+  delete-some k present = go (standing k (entries r)) refl
+    where
+      st : State (block * b) r (tail r) (entries r)
+      st = its-state p rested free cleaned
+
+      looked : find k its-list ≡ onSome (standing k (entries r)) (λ e. some (entryValue e)) none
+      looked = find-standing (block * b) (entries r) k (st .judged)
+
+      go : (o : Option Entry) → standing k (entries r) ≡ o → isEmpty (deleteTo k (entries r)) ≡ false
+      go none e = absurd (false≢true (ap isSome (sym (looked ∙ ap (λ (o : Option Entry). onSome o (λ e. some (entryValue e)) none) e)) ∙ present))
+      go (some x) e = rw e (last-there (leftover k (entries r)) (byte (x .at + stateAt) (stateOf x - 0x02)))
+
+  pub remove-plan : (k : Key) → isSome (find k its-list) ≡ true → PlanKept (remove k)
+  unfolding changePlan step
+  remove-plan k present = record {
+    to = deleteTo k (entries r);
+    on = [];
+    plan = ap (λ (l : List ℕ). make (deleteTo k (entries l)) []) (parts-region p);
+    kept = delete-kept p rested free cleaned k present;
+    decides = λ e. absurd (true≢false (sym e ∙ delete-some k present));
+  }
+
+  put-as : (v : Value) {to on : List Store} → Kept its-list (without (keyOf v) its-list ++ (v ∷ [])) to on joined-image → Kept its-list (step (put v) its-list) to on joined-image
+  unfolding step
+  put-as v k = k
+
+  -- a write and a compaction have stores before their deciding ones
+  tail-some : (at : ℕ) (v : Value) (es : List Entry) → isEmpty (tailTo at v es) ≡ false
+  unfolding tailTo
+  tail-some at v es =
+      last-there (leftover (keyOf v) es ++ onSome (added (keyOf v) es) (λ e. markState (e .at) 0x3E) [] ++ entryStores at v) (byte (at + stateAt) 0x3F)
+
+  compact-some : (x : List ℕ) (vs : List Value) → isEmpty (compactTo x vs) ≡ false
+  unfolding compactTo
+  compact-some x vs =
+      last-there
+      (cond (allUsed (work x)) (erase (blocks x) ∷ []) [] ++ mark (workAt x + nextRecord (work x)) 0xFE ++ run (spareAt x) (encode (regionSize x) vs))
+      (byte (workAt x + nextRecord (work x)) 0xFC)
+
+  put-tail : (v : Value) → fitsTail r v ≡ true → putPlan joined-image v ≡ make (tailTo (tailAt r) v (entries r)) (tailOn v (entries r))
+  unfolding putPlan
+  put-tail v h = rw (parts-region p, h)
+
+  put-compact : (v : Value) → fitsTail r v ≡ false → putPlan joined-image v ≡ make (compactTo joined-image (step (put v) its-list)) (compactOn joined-image (step (put v) its-list))
+  unfolding putPlan
+  put-compact v h = rw (parts-region p, h, its-values)
+
+  pub put-plan : (v : Value) → Valid v → spaceOf (step (put v) its-list) ≤ block * b → PlanKept (put v)
+  unfolding changePlan
+  put-plan v valid fits = go (fitsTail r v) refl
+    where
+      chunked : Chunked r
+      chunked = region-chunked b r (p .region-long) (clean-sound r cleaned)
+
+      go : (t : Bool) → fitsTail r v ≡ t → PlanKept (put v)
+      go true h = record {
+        to = tailTo (tailAt r) v (entries r);
+        on = tailOn v (entries r);
+        plan = put-tail v h;
+        kept = put-as v (tail-kept p rested free cleaned v valid h);
+        decides = λ e. absurd (true≢false (sym e ∙ tail-some (tailAt r) v (entries r)));
+      }
+      go false h = record {
+        to = compactTo joined-image (step (put v) its-list);
+        on = compactOn joined-image (step (put v) its-list);
+        plan = put-compact v h;
+        kept =
+            compact-kept p rested free cleaned (step (put v) its-list) (put-valid v its-list valid (sound-valid r chunked)) (put-distinct v its-list (sound-distinct r chunked)) fits;
+        decides = λ e. absurd (true≢false (sym e ∙ compact-some joined-image (step (put v) its-list)));
+      }
+
+-- ---- the values of a ready image that holds K
+
+ready-values : (img : List ℕ) (K : List Value) → Ready img → Holding K img → valuesOf img ≡ K
+unfolding valuesOf idle
+ready-values img K i (in-region h) = ap (λ (l : List ℕ). values (entries l)) (ap region (h .whole) ∙ parts-region (h .parts)) ∙ h .held
+ready-values img K i (in-spare h) =
+    let same : i .w ≡ h .w = sym (ap work (i .whole) ∙ parts-work (i .parts)) ∙ ap work (h .whole) ∙ parts-work (h .parts) in
+    absurd (closed (wellFormed (h .w)) (ap idle (sym same) ∙ i .rested) (h .ended))
+  where
+    closed : (t : Bool) → (t && not (endsInFC (h .w))) ≡ true → endsInFC (h .w) ≡ true → ⊥
+    closed true e f = false≢true (ap not (sym f) ∙ e)
+    closed false e f = false≢true e
+
+kept-as : {K K₁ K′ K₁′ : List Value} {to on : List Store} {img img₁ : List ℕ} → K ≡ K₁ → K′ ≡ K₁′ → img ≡ img₁ → Kept K K′ to on img → Kept K₁ K₁′ to on img₁
+kept-as {K} {K₁} {K′} {K₁′} {to} {on} {img} {img₁} e f g k =
+    subst (λ (x : List ℕ). Kept K₁ K₁′ to on x) g (subst (λ (x : List Value). Kept K₁ x to on img) f (subst (λ (x : List Value). Kept x K′ to on img) e k))
+
+-- a set accepted on an image that holds K
+module _ (s : Session) (q : Request) (img : List ℕ) (K : List Value) (accepted : setBroken s q img ≡ none) (long : length (q .vendor) ≡ 16) (holds : Holding K img) where
+  set-ready-image : Ready img
+  set-ready-image = ready-of img (set-length s q img accepted) (set-ready s q img accepted)
+
+  set-values : valuesOf img ≡ K
+  set-values = ready-values img K set-ready-image holds
+
+  pub set-kept : SetKept s q img K
+  unfolding setPlan
+  set-kept = go (changeIn q (valuesOf img)) refl
+    where
+      i : Ready img
+      i = set-ready-image
+
+      p : Parts (i .b) (i .r) (i .w) (i .s)
+      p = i .parts
+
+      -- the values by parts
+      same : valuesOf img ≡ values (entries (i .r))
+      same = ap valuesOf (i .whole) ∙ its-values p (i .rested) (i .free) (i .cleaned)
+
+      held : values (entries (i .r)) ≡ K
+      held = sym same ∙ set-values
+
+      from : (c : Change) → changeIn q (valuesOf img) ≡ c → PlanKept p (i .rested) (i .free) (i .cleaned) c → SetKept s q img K
+      from c e k =
+          let asked : c ≡ changeIn q K = sym e ∙ ap (changeIn q) set-values in
+          record {
+            to = k .to;
+            on = k .on;
+            plan =
+                ap (λ (o : Option Rule). onSome o refuse (changePlan img (changeIn q (valuesOf img)))) accepted
+                ∙ ap (changePlan img) e
+                ∙ ap (λ (x : List ℕ). changePlan x c) (i .whole)
+                ∙ k .plan;
+            kept = kept-as held (ap (step c) held ∙ ap (λ (x : Change). step x K) asked) (sym (i .whole)) (k .kept);
+            decides = λ h. ap (λ (x : Change). step x K) (sym asked) ∙ ap (step c) (sym held) ∙ k .decides h ∙ held;
+          }
+
+      go : (c : Change) → changeIn q (valuesOf img) ≡ c → SetKept s q img K
+      go nothing e = from nothing e (nothing-plan p (i .rested) (i .free) (i .cleaned))
+      go (remove k) e =
+          from (remove k) e (remove-plan p (i .rested) (i .free) (i .cleaned) k (ap (λ (vs : List Value). isSome (find k vs)) (sym same) ∙ remove-present s q img accepted k e))
+      go (put v) e =
+          let fits = put-fits s q img accepted v e in
+          let room : spaceOf (step (put v) (values (entries (i .r)))) ≤ block * i .b =
+          subst (λ (n : ℕ). spaceOf (step (put v) (values (entries (i .r)))) ≤ n) (ap regionSize (i .whole) ∙ parts-size p)
+          (subst (λ (vs : List Value). spaceOf (step (put v) vs) ≤ regionSize img) same fits) in
+          from (put v) e (put-plan p (i .rested) (i .free) (i .cleaned) v (put-is-valid s q img accepted v e long) room)
+
+-- ---- any call, cut after k stores
+
+module _ (img img′ : List ℕ) (K K′ : List Value) (to on : List Store) (kept : Kept K K′ to on img) (k : ℕ) (left : Cut (to ++ on) k img img′) where
+  kept-cut : (k < length to → Holding K img′) × (length to ≤ k → Holding K′ img′)
+  kept-cut =
+      let on-safe : Safe (Holding K′) on (applyAll to img) = subst (Safe (Holding K′) on) (sym (kept .to-goes .left)) (kept .on-goes .safe) in
+      let end : Holding K′ (applyAll on (applyAll to img)) =
+      subst (Holding K′) (sym (ap (applyAll on) (kept .to-goes .left) ∙ kept .on-goes .left)) (subst (λ (vs : List Value). Holding vs (kept .end)) (kept .held) (ready-holds (kept .end) (kept .ready))) in
+      cut-at (Holding K) (Holding K′) to on k img img′ (kept .to-goes .safe) on-safe end left
+
+  -- by whether the deciding store is complete
+  kept-decided : (isEmpty to ≡ true → K′ ≡ K) → Holding (cond (decided k (make to on)) K′ K) img′
+  unfolding decided
+  kept-decided decides = go (isEmpty to) refl (leb (length to) k) refl
+    where
+      empty-length : (l : List Store) → isEmpty l ≡ true → length l ≡ 0
+      empty-length [] h = refl
+      empty-length (x ∷ l) h = absurd (false≢true h)
+
+      go : (e : Bool) → isEmpty to ≡ e → (t : Bool) → leb (length to) k ≡ t → Holding (cond (not (isEmpty to) && leb (length to) k) K′ K) img′
+      go true e t f = rw e (subst (λ (vs : List Value). Holding vs img′) (decides e) (kept-cut .1 (let z = empty-length to e in omega arith)))
+      go false e true f = rw (e, f) (kept-cut .1 (leb-true (length to) k f))
+      go false e false f = rw (e, f) (kept-cut .0 (leb-false (length to) k f))
+
+-- a call with no stores leaves the image
+cut-none : (k : ℕ) (img img′ : List ℕ) → Cut [] k img img′ → img′ ≡ img
+unfolding after applyAll
+cut-none k img img′ (inl e) = e ∙ rw take-nil
+cut-none k img img′ (inr u) = absurd u
+
+book-cond : (c : Call) (t : Bool) (K : List Value) → bookAfter c t K ≡ cond t (entered c K) K
+unfolding bookAfter
+book-cond c true K = refl
+book-cond c false K = refl
+
+-- only a set changes the book
+book-same : (c : Call) (t : Bool) (K : List Value) → entered c K ≡ K → bookAfter c t K ≡ K
+book-same c true K e = book-cond c true K ∙ e
+book-same c false K e = book-cond c false K
+
+-- ---- a start-up
+
+-- in a run a start-up is never refused
+pub holding-accepted : (K : List Value) (img : List ℕ) → Holding K img → startUpBroken img ≡ none
+unfolding readyForStartUp pending
+holding-accepted K img (in-spare h) =
+    let p = h .parts in
+    startUp-accepted img (ap rightLength (h .whole) ∙ parts-right p)
+    (ap readyForStartUp (h .whole) ∙ or-left (pending (h .r ++ (h .w ++ h .s))) (sound (region (h .r ++ (h .w ++ h .s)))) (true-and (true-and (ap wellFormed (parts-work p) ∙ h .formed) (ap endsInFC (parts-work p) ∙ h .ended)) (ap clean (parts-spare p) ∙ h .cleaned)))
+holding-accepted K img (in-region h) =
+    let p = h .parts in
+    startUp-accepted img (ap rightLength (h .whole) ∙ parts-right p)
+    (ap readyForStartUp (h .whole) ∙ or-right (pending (h .r ++ (h .w ++ h .s))) (sound (region (h .r ++ (h .w ++ h .s)))) (ap sound (parts-region p) ∙ h .sounds))
+
+startUp-plan : (img : List ℕ) → startUpBroken img ≡ none → startUpPlan img ≡ make [] (startUpStores img)
+unfolding startUpPlan
+startUp-plan img h = rw h
+
+-- a start-up that is done was accepted, and made all its stores
+pub record Finished (n : ℕ) (img : List ℕ) : Type 0 where
+  pub accepted : startUpBroken img ≡ none
+  pub few : length (startUpStores img) ≤ n
+  pub left : imageAfter n (startUpPlan img) img ≡ applyAll (startUpStores img) img
+
+pub finished : (n stores : ℕ) (img : List ℕ) → outcome n (startUpPlan img) ≡ done stores → Finished n img
+unfolding startUpPlan outcome imageAfter storesOf
+finished n stores img h = go (startUpBroken img) refl h
+  where
+    refused-not : (rule stores : ℕ) → refused rule ≡ done stores → ⊥
+    refused-not rule stores e = let z : _≡_ {A = ℕ} 0 1 = cc in omega arith
+
+    stopped-not : (stores : ℕ) → stopped ≡ done stores → ⊥
+    stopped-not stores e = let z : _≡_ {A = ℕ} 0 1 = cc in omega arith
+
+    within : (t : Bool) → leb (length (startUpStores img)) n ≡ t → cond t (done (length (startUpStores img))) stopped ≡ done stores → length (startUpStores img) ≤ n
+    within true e f = leb-true (length (startUpStores img)) n e
+    within false e f = absurd (stopped-not stores f)
+
+    go : (o : Option Rule) → startUpBroken img ≡ o → outcome n (onSome o refuse (make [] (startUpStores img))) ≡ done stores → Finished n img
+    go (some rule) e f = absurd (refused-not (ruleNumber rule) stores f)
+    go none e f =
+        let few = within (leb (length (startUpStores img)) n) refl f in
+        record { accepted = e; few = few; left = rw e (after-all n (startUpStores img) img few) }
+
+-- ---- every call of a run keeps the invariant with the book
+
+-- a refused set, and a call that stores nothing
+set-refused : (s : Session) (q : Request) (img : List ℕ) (rule : Rule) → setBroken s q img ≡ some rule → setPlan s q img ≡ refuse rule
+unfolding setPlan
+set-refused s q img rule e = rw e
+
+no-stores : (o : Option Rule) → storesOf (onSome o refuse (make [] [])) ≡ []
+unfolding storesOf
+no-stores none = refl
+no-stores (some rule) = refl
+
+unchanged : (K : List Value) (img img′ : List ℕ) (ss : List Store) (k : ℕ) → ss ≡ [] → Holding K img → Cut ss k img img′ → Holding K img′
+unchanged K img img′ ss k e holds left = subst (Holding K) (sym (cut-none k img img′ (subst (λ (x : List Store). Cut x k img img′) e left))) holds
+
+get-stores : (s : Session) (key : Key) (buffer img : List ℕ) → storesOf (getPlan s key buffer img) ≡ []
+unfolding getPlan
+get-stores s key buffer img = no-stores (getBroken s key buffer img)
+
+next-stores : (s : Session) (key : Key) (buffer img : List ℕ) → storesOf (nextPlan s key buffer img) ≡ []
+unfolding nextPlan
+next-stores s key buffer img = no-stores (nextBroken s key buffer img)
+
+-- a list of stores with no deciding one
+cut-on : (K : List Value) (img img′ : List ℕ) (ss : List Store) (k : ℕ) → Safe (Holding K) ss img → Holding K (applyAll ss img) → Cut ss k img img′ → Holding K img′
+unfolding applyAll
+cut-on K img img′ ss k safe end left = cut-at (Holding K) (Holding K) [] ss k img img′ tt safe end left .1 (omega arith)
+
+-- a start-up, however cut
+startUp-cut : (K : List Value) (img img′ : List ℕ) → Holding K img → (k : ℕ) → Cut (storesOf (startUpPlan img)) k img img′ → Holding K img′
+unfolding storesOf
+startUp-cut K img img′ holds k left =
+    let up = startUp-holding K img holds in
+    let cut : Cut (startUpStores img) k img img′ = subst (λ (p : Plan). Cut (storesOf p) k img img′) (startUp-plan img (holding-accepted K img holds)) left in
+    let end : Holding K (applyAll (startUpStores img) img) =
+    subst (Holding K) (sym (up .goes .left)) (subst (λ (vs : List Value). Holding vs (up .end)) (up .held) (ready-holds (up .end) (up .ready))) in
+    cut-on K img img′ (startUpStores img) k (up .goes .safe) end cut
+
+refused-decides : (k : ℕ) (rule : Rule) → decided k (refuse rule) ≡ false
+unfolding decided
+refused-decides k rule = refl
+
+-- a cut call
+pub call-cut : (K : List Value) (img img′ : List ℕ) (c : Call) → Sized c → Holding K img → (k : ℕ) → Cut (storesOf (planOf c img)) k img img′
+    → Holding (bookAfter c (decided k (planOf c img)) K) img′
+unfolding planOf entered storesOf
+call-cut K img img′ (set s q) sized holds k left = go (setBroken s q img) refl
+  where
+    go : (o : Option Rule) → setBroken s q img ≡ o → Holding (bookAfter (set s q) (decided k (setPlan s q img)) K) img′
+    go none e =
+        let kept = set-kept s q img K e (sized .2) holds in
+        let plan = kept .plan in
+        let cut : Cut (kept .to ++ kept .on) k img img′ = subst (λ (p : Plan). Cut (storesOf p) k img img′) plan left in
+        subst (λ (p : Plan). Holding (bookAfter (set s q) (decided k p) K) img′) (sym plan)
+        (subst (λ (vs : List Value). Holding vs img′) (sym (book-cond (set s q) (decided k (make (kept .to) (kept .on))) K))
+        (kept-decided img img′ K (step (changeIn q K) K) (kept .to) (kept .on) (kept .kept) k cut (kept .decides)))
+    go (some rule) e =
+        let plan = set-refused s q img rule e in
+        subst (λ (p : Plan). Holding (bookAfter (set s q) (decided k p) K) img′) (sym plan)
+        (subst (λ (vs : List Value). Holding vs img′) (sym (ap (λ (t : Bool). bookAfter (set s q) t K) (refused-decides k rule) ∙ book-cond (set s q) false K)) (unchanged K img img′ (storesOf (setPlan s q img)) k (ap storesOf plan) holds left))
+call-cut K img img′ (get s key buffer) sized holds k left =
+    subst (λ (vs : List Value). Holding vs img′) (sym (book-same (get s key buffer) (decided k (getPlan s key buffer img)) K refl))
+    (unchanged K img img′ (storesOf (getPlan s key buffer img)) k (get-stores s key buffer img) holds left)
+call-cut K img img′ (next s key buffer) sized holds k left =
+    subst (λ (vs : List Value). Holding vs img′) (sym (book-same (next s key buffer) (decided k (nextPlan s key buffer img)) K refl))
+    (unchanged K img img′ (storesOf (nextPlan s key buffer img)) k (next-stores s key buffer img) holds left)
+call-cut K img img′ (startUp custom reserve) sized holds k left =
+    subst (λ (vs : List Value). Holding vs img′) (sym (book-same (startUp custom reserve) (decided k (startUpPlan img)) K refl))
+    (startUp-cut K img img′ holds k left)
+
+refused-same : (c : Call) (n : ℕ) (rule : Rule) (K : List Value) → bookAfter c (decided n (refuse rule)) K ≡ bookAfter c (counts (outcome n (refuse rule)) (decided n (refuse rule))) K
+unfolding decided outcome
+refused-same c n rule K = refl
+
+made-counted : (n : ℕ) (c : Call) (K : List Value) (to on : List Store) → (isEmpty to ≡ true → entered c K ≡ K)
+    → bookAfter c (decided n (make to on)) K ≡ bookAfter c (counts (outcome n (make to on)) (decided n (make to on))) K
+unfolding outcome decided
+made-counted n c K to on decides = go (leb (length (to ++ on)) n) refl
+  where
+    -- done: the deciding store, if any, is complete
+    complete : length (to ++ on) ≤ n → (e : Bool) → isEmpty to ≡ e → bookAfter c (not e && leb (length to) n) K ≡ bookAfter c true K
+    complete h true e = book-cond c false K ∙ sym (decides e) ∙ sym (book-cond c true K)
+    complete h false e = ap (λ (t : Bool). bookAfter c t K) (le-leb (length to) n (let l = length-append to on in omega arith))
+
+    go : (t : Bool) → leb (length (to ++ on)) n ≡ t
+        → bookAfter c (not (isEmpty to) && leb (length to) n) K ≡ bookAfter c (counts (cond t (done (length (to ++ on))) stopped) (not (isEmpty to) && leb (length to) n)) K
+    go true h = complete (leb-true (length (to ++ on)) n h) (isEmpty to) refl
+    go false h = refl
+
+-- a call that ran with n is one cut after n whole stores; a done set with no deciding store changes nothing
+counted : (K : List Value) (img : List ℕ) (c : Call) → Sized c → Holding K img → (n : ℕ)
+    → bookAfter c (decided n (planOf c img)) K ≡ bookAfter c (counts (outcome n (planOf c img)) (decided n (planOf c img))) K
+unfolding planOf entered
+counted K img (get s key buffer) sized holds n = book-same (get s key buffer) _ K refl ∙ sym (book-same (get s key buffer) _ K refl)
+counted K img (next s key buffer) sized holds n = book-same (next s key buffer) _ K refl ∙ sym (book-same (next s key buffer) _ K refl)
+counted K img (startUp custom reserve) sized holds n = book-same (startUp custom reserve) _ K refl ∙ sym (book-same (startUp custom reserve) _ K refl)
+counted K img (set s q) sized holds n = go (setBroken s q img) refl
+  where
+    go : (o : Option Rule) → setBroken s q img ≡ o
+        → bookAfter (set s q) (decided n (setPlan s q img)) K ≡ bookAfter (set s q) (counts (outcome n (setPlan s q img)) (decided n (setPlan s q img))) K
+    go none e =
+        let kept = set-kept s q img K e (sized .2) holds in
+        subst (λ (p : Plan). bookAfter (set s q) (decided n p) K ≡ bookAfter (set s q) (counts (outcome n p) (decided n p)) K) (sym (kept .plan))
+        (made-counted n (set s q) K (kept .to) (kept .on) (kept .decides))
+    go (some rule) e =
+        subst (λ (p : Plan). bookAfter (set s q) (decided n p) K ≡ bookAfter (set s q) (counts (outcome n p) (decided n p)) K) (sym (set-refused s q img rule e))
+        (refused-same (set s q) n rule K)
+
+-- ---- the run
+
+-- what a done start-up leaves is ready, whatever image it began on
+pub started-ready : (start : List ℕ) → StartedUp start → Ready start
+started-ready start st =
+    let f = finished (st .n) (st .stores) (st .before) (st .finished) in
+    let up = startUp-any (st .before) (startUp-length (st .before) (f .accepted)) (startUp-ready (st .before) (f .accepted)) .up in
+    subst Ready (sym (st .left ∙ f .left ∙ up .goes .left)) (up .ready)
+
+-- in a run the image holds the book
+pub run-holds : (start : List ℕ) → StartedUp start → {img : List ℕ} {book : List Value} → Run start img book → Holding book img
+unfolding imageAfter
+run-holds start st begin = ready-holds start (started-ready start st)
+run-holds start st (ran {img} {book} r c sized n) =
+    let holds = run-holds start st r in
+    subst (λ (vs : List Value). Holding vs (after n (storesOf (planOf c img)) img)) (counted book img c sized holds n)
+    (call-cut book img (after n (storesOf (planOf c img)) img) c sized holds n (inl refl))
+run-holds start st (cut {img} {img′} {book} r c sized k left) = call-cut book img img′ c sized (run-holds start st r) k left
+
+-- a done start-up leaves the book's values
+pub startUp-values : (K : List Value) (img : List ℕ) → Holding K img → (n stores : ℕ) → outcome n (startUpPlan img) ≡ done stores
+    → valuesOf (imageAfter n (startUpPlan img) img) ≡ K
+startUp-values K img holds n stores h =
+    let up = startUp-holding K img holds in
+    ap valuesOf (finished n stores img h .left ∙ up .goes .left) ∙ up .held
+
+agrees : (K : List Value) (img : List ℕ) → Holding K img → (c : Call) (n : ℕ) → Agrees c n img K
+agrees K img holds (set s q) n = tt
+agrees K img holds (get s key buffer) n = tt
+agrees K img holds (next s key buffer) n = tt
+agrees K img holds (startUp custom reserve) n = λ stores h. startUp-values K img holds n stores h
+
+agrees-all : (start : List ℕ) → StartedUp start → {img : List ℕ} {book : List Value} → (r : Run start img book) → AgreesAll r
+agrees-all start st begin = tt
+agrees-all start st (ran {img} {book} r c sized n) = (agrees-all start st r, agrees book img (run-holds start st r) c n)
+agrees-all start st (cut r c sized k left) = agrees-all start st r
+
+pub demand3 : Demand3
+demand3 start img book st r = agrees-all start st r

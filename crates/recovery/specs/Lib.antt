@@ -1,0 +1,1 @@
+-- The claims beside Demand 3 itself, which stands in the crate of the definitions.
