@@ -46,12 +46,12 @@ none-append (x ∷ xs) ys h =
     (rw (p .0) (q .0), q .1)
 
 -- the test at a place of a list, counted from 0: in a set's list, rule n stands at n - 1
-abbrev test : List (Rule × Bool) → ℕ → Bool
+abbrev pub test : List (Rule × Bool) → ℕ → Bool
 test [] n = false
 test (x ∷ xs) zero = x .1
 test (x ∷ xs) (suc n) = test xs n
 
-unbroken : (xs : List (Rule × Bool)) (n : ℕ) → firstBroken xs ≡ none → test xs n ≡ false
+pub unbroken : (xs : List (Rule × Bool)) (n : ℕ) → firstBroken xs ≡ none → test xs n ≡ false
 unbroken [] n h = refl
 unbroken (x ∷ xs) zero h = none-cons x xs h .0
 unbroken (x ∷ xs) (suc n) h = unbroken xs n (none-cons x xs h .1)

@@ -149,8 +149,8 @@ unfoldable pub seen : Session → List Value → List Value
 seen s vs = cond (atRuntime s) (keep (λ v. runtimeAccess (v .attributes)) vs) vs
 
 -- the value to get
-unfoldable pub valueToGet : Session → Key → List ℕ → Option Value
-valueToGet s k img = find k (seen s (valuesOf img))
+unfoldable pub valueToGet : Session → Key → List Value → Option Value
+valueToGet s k vs = find k (seen s vs)
 
 -- the value that comes after another's name in a list; none where that name is absent or the last
 unfoldable pub following : Key → List Value → Option Value
@@ -158,9 +158,8 @@ following k [] = none
 following k (v ∷ vs) = cond (sameKey (keyOf v) k) (head vs) (following k vs)
 
 -- the next value: the first after the empty name, whatever the GUID
-unfoldable pub valueToName : Session → Key → List ℕ → Option Value
-valueToName s k img =
-    cond (same (k .name) emptyName) (head (seen s (valuesOf img))) (following k (seen s (valuesOf img)))
+unfoldable pub valueToName : Session → Key → List Value → Option Value
+valueToName s k vs = cond (same (k .name) emptyName) (head (seen s vs)) (following k (seen s vs))
 
 -- what a get and what next-name writes: the data; "the 16 GUID bytes and name"
 abbrev pub gotBytes : Value → List ℕ
@@ -179,8 +178,8 @@ getBroken s k buffer img =
     firstBroken
     (imageRules img
     ++ ((Name, rule3 k)
-    ∷ (Absent, rule11Read (valueToGet s k img))
-    ∷ (Buffer, rule14 (valueToGet s k img) gotBytes buffer)
+    ∷ (Absent, rule11Read (valueToGet s k (valuesOf img)))
+    ∷ (Buffer, rule14 (valueToGet s k (valuesOf img)) gotBytes buffer)
     ∷ []))
 
 unfoldable pub nextBroken : Session → Key → List ℕ → List ℕ → Option Rule
@@ -188,8 +187,8 @@ nextBroken s k buffer img =
     firstBroken
     (imageRules img
     ++ ((Name, rule3Next k)
-    ∷ (Absent, rule11Read (valueToName s k img))
-    ∷ (Buffer, rule14 (valueToName s k img) namedBytes buffer)
+    ∷ (Absent, rule11Read (valueToName s k (valuesOf img)))
+    ∷ (Buffer, rule14 (valueToName s k (valuesOf img)) namedBytes buffer)
     ∷ []))
 
 -- "start-up 1 and 2"

@@ -18,8 +18,8 @@ use Rattle.model.specs.Image.{block}
 use Rattle.model.specs.Entry.{Value}
 use Rattle.model.specs.Region.{entries, values, sound, clean, tail}
 use Rattle.model.specs.Work.{recordSpace, wellFormed, usedRecords, endsInFC, idle}
-use Rattle.model.specs.Stores.{Store, erase, blank, run, mark, erases}
-use Rattle.model.specs.Compact.{encode, allUsed, nextRecord, compactTo, finish}
+use Rattle.model.specs.Stores.{erase, blank, run, mark, erases}
+use Rattle.model.specs.Compact.{encode, allUsed, nextRecord, fillSpare, finish, compactTo}
 use Rattle.model.proofs.Tests.{and-split}
 use Rattle.model.proofs.Segments.{length-blank}
 use Rattle.recovery.proofs.Cuts.{Goes, goes-nowhere, goes-append, goes-run, goes-mark, goes-erases, goes-erase, bit-FE, bit-FC, bit-F8}
@@ -45,17 +45,11 @@ record-inside i h = omega arith
 
 -- ---- from the FC record on; i is the record, c what the spare holds
 
-abbrev pub finishing : ℕ → ℕ → List ℕ → List Store
-finishing b i c = erases 0 b ++ run 0 c ++ mark (block * b + i) 0xF8 ++ erases (b + 1) b
-
-pub finish-parts : {b : ℕ} {r w s : List ℕ} → Parts b r w s → (i : ℕ) (c : List ℕ) → finish (r ++ (w ++ s)) i c ≡ finishing b i c
-unfolding finish
-finish-parts p i c = rw (parts-blocks p, parts-size p)
-
 module _ (K : List Value) {b : ℕ} {r w c : List ℕ} (p : Parts b r w c)
     (formed : wellFormed w ≡ true) (ended : endsInFC w ≡ true) (cleaned : clean c ≡ true) (held : values (entries c) ≡ K) where
   -- what it leaves: the spare's content in the region, the record F8, a blank spare
-  pub finish-goes : Goes (Holding K) (finishing b (usedRecords w - 1) c) (r ++ (w ++ c)) (c ++ (set w (usedRecords w - 1) 0xF8 ++ replicate (block * b) 0xFF))
+  pub finish-goes : Goes (Holding K) (finish b (usedRecords w - 1) c) (r ++ (w ++ c)) (c ++ (set w (usedRecords w - 1) 0xF8 ++ replicate (block * b) 0xFF))
+  unfolding finish
   finish-goes =
       let i = usedRecords w - 1 in
       let last = work-last w (p .work-long) formed ended in
@@ -84,14 +78,7 @@ module _ (K : List Value) {b : ℕ} {r w c : List ℕ} (p : Parts b r w c)
 
 -- ---- up to the FC record; c is what the spare is to hold
 
-abbrev pub beginning : ℕ → List ℕ → List ℕ → List Store
-beginning b w c =
-    cond (allUsed w) (erase b ∷ []) []
-    ++ mark (block * b + nextRecord w) 0xFE
-    ++ run (block * b + block) c
-    ++ mark (block * b + nextRecord w) 0xFC
-
-pub begin-parts : {b : ℕ} {r w s : List ℕ} → Parts b r w s → (vs : List Value) → compactTo (r ++ (w ++ s)) vs ≡ beginning b w (encode (block * b) vs)
+pub begin-parts : {b : ℕ} {r w s : List ℕ} → Parts b r w s → (vs : List Value) → compactTo (r ++ (w ++ s)) vs ≡ fillSpare b w (encode (block * b) vs)
 unfolding compactTo
 begin-parts p vs = rw (parts-work p, parts-blocks p, parts-size p)
 
@@ -138,9 +125,10 @@ module _ (K : List Value) {b : ℕ} {r w s : List ℕ} (p : Parts b r w s)
     pub formed : wellFormed w′ ≡ true
     pub ended : endsInFC w′ ≡ true
     pub index : nextRecord w ≡ usedRecords w′ - 1
-    pub goes : Goes (Holding K) (beginning b w c) (r ++ (w ++ s)) (r ++ (w′ ++ c))
+    pub goes : Goes (Holding K) (fillSpare b w c) (r ++ (w ++ s)) (r ++ (w′ ++ c))
 
   pub begin-goes : (c : List ℕ) → length c ≡ block * b → Begun c
+  unfolding fillSpare
   begin-goes c l =
       let e = emptied in
       let w₁ = e .w₁ in

@@ -15,3 +15,15 @@ pub mod TailWrite
 pub mod Sets
 -- Runs: the invariant with the book, and Demand 3
 pub mod Theorem
+-- The claims beside Demand 3
+pub mod Claims
+-- Lists of bytes: what is written for a value, and what an image of bytes holds
+pub mod ByteLists
+-- Stores that raise no bit, and marks that clear one
+pub mod Clearing
+-- The same of a compaction, a start-up and formatting
+pub mod BitsOfCompaction
+-- The same of a set
+pub mod BitsOfSets
+-- The two claims about bits, of every call
+pub mod Bits

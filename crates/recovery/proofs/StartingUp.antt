@@ -25,7 +25,7 @@ use Rattle.model.proofs.Parts.{Parts, parts-blocks, parts-size, parts-right, pa
 use Rattle.model.proofs.Encode.{AllValid, Distinct, allFF-blank, blank-allFF, blank-unclean, encode-length, encode-clean, encode-values, sound-valid, sound-distinct, sound-fits}
 use Rattle.model.proofs.WorkBlock.{work-last, blank-idle}
 use Rattle.recovery.proofs.Invariant.{Holding, in-spare, in-region, region-holds}
-use Rattle.recovery.proofs.Compaction.{spare-last, clean-sound, mul-add-one, finish-parts, finish-goes, begin-parts, begin-goes}
+use Rattle.recovery.proofs.Compaction.{spare-last, clean-sound, mul-add-one, finish-goes, begin-parts, begin-goes}
 
 -- ---- ready for a call
 
@@ -111,7 +111,7 @@ module _ (K vs : List Value) {b : ℕ} {r w s : List ℕ} (p : Parts b r w s)
         middle = r ++ (w′ ++ c);
         end = c ++ (set w′ i 0xF8 ++ replicate (block * b) 0xFF);
         to = rw (begin-parts p vs) (begun .goes);
-        on = rw (finish-parts p, parts-work p, parts-size p, begun .index) (finish-goes vs q (begun .formed) (begun .ended) cleaned same);
+        on = rw (parts-blocks p, parts-work p, parts-size p, begun .index) (finish-goes vs q (begun .formed) (begun .ended) cleaned same);
         ready = record {
           b = b;
           r = c;
@@ -323,7 +323,7 @@ module _ (K : List Value) {b : ℕ} {r w s : List ℕ} (p : Parts b r w s)
         rested = work-last w (p .work-long) formed ended .finished;
       } in
       let first : Goes (Holding K) (resume (r ++ (w ++ s))) (r ++ (w ++ s)) (s ++ (w′ ++ ff)) =
-      rw (is-pending p formed ended cleaned, parts-work p, parts-spare p, finish-parts p) (finish-goes K p formed ended cleaned held) in
+      rw (is-pending p formed ended cleaned, parts-work p, parts-spare p, parts-blocks p) (finish-goes K p formed ended cleaned held) in
       record {
         end = s ++ (w′ ++ ff);
         goes =

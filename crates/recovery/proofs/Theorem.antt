@@ -16,7 +16,7 @@ use Rattle.model.specs.declared.Session.{Session}
 use Rattle.model.specs.declared.Rule.{Rule}
 use Rattle.model.specs.Lists.{allFF, onSome, isSome, isEmpty}
 use Rattle.model.specs.Name.{Key}
-use Rattle.model.specs.Image.{block, blocks, rightLength, regionSize, workAt, spareAt, region, work}
+use Rattle.model.specs.Image.{block, blocks, rightLength, regionSize, region, work}
 use Rattle.model.specs.Entry.{stateAt, Value, keyOf}
 use Rattle.model.specs.Walk.{Entry, stateOf, entryValue}
 use Rattle.model.specs.Region.{entries, tailAt, tail, values, valuesOf, sound, clean, find, added, standing}
@@ -25,7 +25,7 @@ use Rattle.model.specs.Request.{Request}
 use Rattle.model.specs.Change.{Change, nothing, remove, put, changeIn, step, without, spaceOf}
 use Rattle.model.specs.Rules.{setBroken, getBroken, nextBroken, startUpBroken}
 use Rattle.model.specs.Stores.{Store, byte, erase, run, mark, applyAll, after, Cut}
-use Rattle.model.specs.Compact.{encode, allUsed, nextRecord, compactTo, compactOn}
+use Rattle.model.specs.Compact.{encode, allUsed, nextRecord, compactTo, compactOn, fillSpare}
 use Rattle.model.specs.Set.{Plan, refuse, make, markState, leftover, entryStores, deleteTo, tailTo, tailOn, fitsTail, putPlan, changePlan, setPlan}
 use Rattle.model.specs.StartUp.{startUpStores, startUpPlan}
 use Rattle.model.specs.Answers.{ruleNumber, done, stopped, refused, outcome, imageAfter, storesOf, decided, getPlan, nextPlan}
@@ -116,11 +116,13 @@ module _ {b : ℕ} {r w s : List ℕ} (p : Parts b r w s) (rested : idle w ≡ t
       last-there (leftover (keyOf v) es ++ onSome (added (keyOf v) es) (λ e. markState (e .at) 0x3E) [] ++ entryStores at v) (byte (at + stateAt) 0x3F)
 
   compact-some : (x : List ℕ) (vs : List Value) → isEmpty (compactTo x vs) ≡ false
-  unfolding compactTo
+  unfolding compactTo fillSpare
   compact-some x vs =
       last-there
-      (cond (allUsed (work x)) (erase (blocks x) ∷ []) [] ++ mark (workAt x + nextRecord (work x)) 0xFE ++ run (spareAt x) (encode (regionSize x) vs))
-      (byte (workAt x + nextRecord (work x)) 0xFC)
+      (cond (allUsed (work x)) (erase (blocks x) ∷ []) []
+      ++ mark (block * blocks x + nextRecord (work x)) 0xFE
+      ++ run (block * blocks x + block) (encode (regionSize x) vs))
+      (byte (block * blocks x + nextRecord (work x)) 0xFC)
 
   put-tail : (v : Value) → fitsTail r v ≡ true → putPlan joined-image v ≡ make (tailTo (tailAt r) v (entries r)) (tailOn v (entries r))
   unfolding putPlan
@@ -156,7 +158,7 @@ module _ {b : ℕ} {r w s : List ℕ} (p : Parts b r w s) (rested : idle w ≡ t
 
 -- ---- the values of a ready image that holds K
 
-ready-values : (img : List ℕ) (K : List Value) → Ready img → Holding K img → valuesOf img ≡ K
+pub ready-values : (img : List ℕ) (K : List Value) → Ready img → Holding K img → valuesOf img ≡ K
 unfolding valuesOf idle
 ready-values img K i (in-region h) = ap (λ (l : List ℕ). values (entries l)) (ap region (h .whole) ∙ parts-region (h .parts)) ∙ h .held
 ready-values img K i (in-spare h) =
@@ -252,7 +254,7 @@ unfolding after applyAll
 cut-none k img img′ (inl e) = e ∙ rw take-nil
 cut-none k img img′ (inr u) = absurd u
 
-book-cond : (c : Call) (t : Bool) (K : List Value) → bookAfter c t K ≡ cond t (entered c K) K
+pub book-cond : (c : Call) (t : Bool) (K : List Value) → bookAfter c t K ≡ cond t (entered c K) K
 unfolding bookAfter
 book-cond c true K = refl
 book-cond c false K = refl
@@ -276,7 +278,7 @@ holding-accepted K img (in-region h) =
     startUp-accepted img (ap rightLength (h .whole) ∙ parts-right p)
     (ap readyForStartUp (h .whole) ∙ or-right (pending (h .r ++ (h .w ++ h .s))) (sound (region (h .r ++ (h .w ++ h .s)))) (ap sound (parts-region p) ∙ h .sounds))
 
-startUp-plan : (img : List ℕ) → startUpBroken img ≡ none → startUpPlan img ≡ make [] (startUpStores img)
+pub startUp-plan : (img : List ℕ) → startUpBroken img ≡ none → startUpPlan img ≡ make [] (startUpStores img)
 unfolding startUpPlan
 startUp-plan img h = rw h
 

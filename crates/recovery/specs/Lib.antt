@@ -1,1 +1,2 @@
--- The claims beside Demand 3 itself, which stands in the crate of the definitions.
+-- The claims beside Demand 3, which itself stands with the definitions in `model`.
+pub mod Claims
