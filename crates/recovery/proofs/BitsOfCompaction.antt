@@ -14,7 +14,7 @@ use borrow.Author.Tests.{leb-false, eqb-true}
 use Rattle.model.specs.Lists.{allFF}
 use Rattle.model.specs.Image.{block, blocks, rightLength, regionSize, region, regionHeader}
 use Rattle.model.specs.Entry.{Value}
-use Rattle.model.specs.Region.{entries, values, valuesOf, sound, clean, tail}
+use Rattle.model.specs.Region.{entries, values, valuesOf, sound, tail}
 use Rattle.model.specs.Work.{recordSpace, wellFormed, usedRecords, endsInFC, idle, pending, readyForStartUp}
 use Rattle.model.specs.Change.{spaceOf}
 use Rattle.model.specs.Stores.{Store, erase, blank, applyAll, run, mark, erases, Bytes}
@@ -24,8 +24,8 @@ use Rattle.model.proofs.Chunks.{header-length, Chunked, sound-chunked}
 use Rattle.model.proofs.Parts.{Parts, Image, right-parts, parts-blocks, parts-size, parts-region, parts-work, parts-spare}
 use Rattle.model.proofs.Encode.{AllValid, allFF-blank, blank-allFF, encode-length, sound-valid, sound-fits}
 use Rattle.model.proofs.WorkBlock.{work-next, work-last, blank-idle, blank-unused}
-use Rattle.recovery.proofs.Compaction.{spare-last, mul-add-one, begin-parts, Opened}
-use Rattle.recovery.proofs.StartingUp.{Ready, block-four, ready-tidy}
+use Rattle.recovery.proofs.Compaction.{spare-last, mul-add-one, record-inside, begin-parts, Opened}
+use Rattle.recovery.proofs.StartingUp.{Ready, block-four, ready-tidy, pending-parts}
 use Rattle.recovery.proofs.ByteLists.{AllBytewise, bytes-left, bytes-right, region-values, header-bytes, encode-bytes}
 use Rattle.recovery.proofs.Clearing.{Along, along-append, along-run, along-erases, Moves, moves-nowhere, moves-append, moves-run, moves-mark, moves-erases, moves-erase, one-FE, one-FC, one-F8}
 use Rattle.model.proofs.Segments.{erases-segment, length-blank}
@@ -36,23 +36,9 @@ pub record Bare (marks : ℕ → Bool) (n : ℕ) : Type 0 where
   pub below : (i : ℕ) → i < n → marks i ≡ false
   pub behind : (i : ℕ) → n + block ≤ i → marks i ≡ false
 
--- a record's place is within the block
-record-inside : (i : ℕ) → i < recordSpace → i < block
-unfolding block
-record-inside i h = omega arith
-
 -- one stage after the other
 along-then : {marks : ℕ → Bool} (f g : List ℕ → List Store) {i j : List ℕ} → Moves marks (f i) i j → Along marks (g j) j → Along marks (andThen f g i) i
 along-then {marks} f g {i} {j} p q = along-append marks (f i) (g (applyAll (f i) i)) i (p .along) (rw (p .left) q)
-
--- what is pending
-pending-parts : {b : ℕ} {r w s : List ℕ} → Parts b r w s → pending (r ++ (w ++ s)) ≡ true → (wellFormed w ≡ true) × (endsInFC w ≡ true) × (clean s ≡ true)
-unfolding pending
-pending-parts {b} {r} {w} {s} p h =
-    let a : (wellFormed w && endsInFC w && clean s) ≡ true = rw (parts-work p, parts-spare p) at h in
-    let c = and-split (wellFormed w && endsInFC w) (clean s) a in
-    let d = and-split (wellFormed w) (endsInFC w) (c .0) in
-    (d .0, d .1, c .1)
 
 module _ (marks : ℕ → Bool) {b : ℕ} (bare : Bare marks (block * b)) where
   -- ---- from the FC record on

@@ -39,7 +39,7 @@ pub mul-add-one : (b : ℕ) → block * (b + 1) ≡ block * b + block
 mul-add-one b = ap (λ (n : ℕ). block * n) (add-one b) ∙ mul-suc block b
 
 -- a record's place is within the block
-record-inside : (i : ℕ) → i < recordSpace → i < block
+pub record-inside : (i : ℕ) → i < recordSpace → i < block
 unfolding block
 record-inside i h = omega arith
 

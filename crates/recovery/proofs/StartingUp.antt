@@ -353,16 +353,20 @@ pub record Begins (img : List ℕ) : Type 0 where
   pub K : List Value
   pub up : Up (λ (x : List ℕ). Unit {0}) K img
 
-begins : {b : ℕ} {r w s : List ℕ} → Parts b r w s → (t : Bool) → pending (r ++ (w ++ s)) ≡ t → (t || sound r) ≡ true → Begins (r ++ (w ++ s))
+-- what is pending
+pub pending-parts : {b : ℕ} {r w s : List ℕ} → Parts b r w s → pending (r ++ (w ++ s)) ≡ true → (wellFormed w ≡ true) × (endsInFC w ≡ true) × (clean s ≡ true)
 unfolding pending
+pending-parts {b} {r} {w} {s} p h =
+    let a : (wellFormed w && endsInFC w && clean s) ≡ true = rw (parts-work p, parts-spare p) at h in
+    let c = and-split (wellFormed w && endsInFC w) (clean s) a in
+    let d = and-split (wellFormed w) (endsInFC w) (c .0) in
+    (d .0, d .1, c .1)
+
+begins : {b : ℕ} {r w s : List ℕ} → Parts b r w s → (t : Bool) → pending (r ++ (w ++ s)) ≡ t → (t || sound r) ≡ true → Begins (r ++ (w ++ s))
 begins {b} {r} {w} {s} p true e q =
-    let a = and-split (wellFormed w && endsInFC w) (clean s) (sym (ap₃ (λ x y. wellFormed x && endsInFC x && clean y) (parts-work p) (parts-spare p)) ∙ e) in
-    let f = and-split (wellFormed w) (endsInFC w) (a .0) in
-    let up = startUp-pending (values (entries s)) p (f .0) (f .1) (a .1) refl in
+    let a = pending-parts p e in
+    let up = startUp-pending (values (entries s)) p (a .0) (a .1) (a .2) refl in
     record { K = values (entries s); up = record { end = up .end; goes = goes-map (λ x k. tt) (up .goes); ready = up .ready; held = up .held } }
-  where
-    ap₃ : (f : List ℕ → List ℕ → Bool) {x x′ y y′ : List ℕ} → x ≡ x′ → y ≡ y′ → f x y ≡ f x′ y′
-    ap₃ f {x} {x′} {y} {y′} g h = cc
 begins {b} {r} {w} {s} p false e q = record {
   K = values (entries r);
   up = startUp-sound (λ x. Unit {0}) (values (entries r)) p (λ x k. tt) q refl e (λ dirty x n. tt);
