@@ -1,0 +1,2 @@
+-- What the reader of an entry finds.
+pub mod Head
