@@ -1,12 +1,11 @@
-// The layout of an entry, and the fixed byte strings of the format.
+// The layout of an entry; the fixed byte strings of the format stand in `fixed`.
 ghost use mathlib.Core.Path.{_≡_};
 ghost use Prim.Native.Nat.{_+_, _≤_, _<_};
 ghost use lib.ListN.{length};
 ghost use Rattle.model.specs.Lists.{u16At, u32At};
-ghost use Rattle.model.specs.Image.{signature};
-ghost use Rattle.model.specs.Region.{rightHeader};
-ghost use Rattle.model.specs.Request.{globalVendor, databaseVendor, certificate};
 ghost use Rattle.layout.specs.Head.{headOf};
+
+pub mod fixed;
 
 // The numbers of an entry's header: state, attributes, size of the name, size of the data.
 pub struct Entry {

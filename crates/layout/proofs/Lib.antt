@@ -1,0 +1,5 @@
+-- Laws that the proofs of this crate's functions cite.
+-- Keys of one vendor
+pub mod Keys
+-- The bytes of a number
+pub mod Bytes

@@ -1,0 +1,153 @@
+// The fixed byte strings of the format: signature, vendor GUIDs, certificate GUID, key names, and the region's header.
+ghost use mathlib.Core.Path.{_≡_};
+ghost use mathlib.Core.Bool.{_&&_, _||_};
+ghost use Prim.Native.Nat.{_%_};
+ghost use Rattle.model.specs.Lists.{same};
+ghost use Rattle.model.specs.Image.{signature, regionHeader};
+ghost use Rattle.model.specs.Region.{rightHeader};
+ghost use Rattle.model.specs.Name.{sameKey};
+ghost use Rattle.model.specs.Request.{globalVendor, databaseVendor, certificate, keyPK, keyKEK, keydb, keydbx, keydbt, isDatabase, isKeyName};
+
+pub fn signature() -> [u8; 16]
+    ensures { λ r. ⌜ r ≡ signature ⌝ }
+{
+    *b"\x78\x2C\xF3\xAA\x7B\x94\x9A\x43\xA1\x80\x2E\x14\x4E\xC3\x77\x92"
+}
+
+pub fn global_vendor() -> [u8; 16]
+    ensures { λ r. ⌜ r ≡ globalVendor ⌝ }
+{
+    *b"\x61\xDF\xE4\x8B\xCA\x93\xD2\x11\xAA\x0D\x00\xE0\x98\x03\x2B\x8C"
+}
+
+pub fn database_vendor() -> [u8; 16]
+    ensures { λ r. ⌜ r ≡ databaseVendor ⌝ }
+{
+    *b"\xCB\xB2\x19\xD7\x3A\x3D\x96\x45\xA3\xBC\xDA\xD0\x0E\x67\x65\x6F"
+}
+
+pub fn certificate() -> [u8; 16]
+    ensures { λ r. ⌜ r ≡ certificate ⌝ }
+{
+    *b"\x9D\xD2\xAF\x4A\xDF\x68\xEE\x49\x8A\xA9\x34\x7D\x37\x56\x65\xA7"
+}
+
+pub fn pk_name() -> [u8; 6]
+    ensures { λ r. ⌜ r ≡ keyPK .name ⌝ }
+{
+    *b"P\0K\0\0\0"
+}
+
+pub fn kek_name() -> [u8; 8]
+    ensures { λ r. ⌜ r ≡ keyKEK .name ⌝ }
+{
+    *b"K\0E\0K\0\0\0"
+}
+
+pub fn db_name() -> [u8; 6]
+    ensures { λ r. ⌜ r ≡ keydb .name ⌝ }
+{
+    *b"d\0b\0\0\0"
+}
+
+pub fn dbx_name() -> [u8; 8]
+    ensures { λ r. ⌜ r ≡ keydbx .name ⌝ }
+{
+    *b"d\0b\0x\0\0\0"
+}
+
+pub fn dbt_name() -> [u8; 8]
+    ensures { λ r. ⌜ r ≡ keydbt .name ⌝ }
+{
+    *b"d\0b\0t\0\0\0"
+}
+
+fn low_byte(x: usize) -> u8
+    ensures { λ r. ⌜ r ≡ x % 256 ⌝ }
+{
+    (x % 256) as u8
+}
+
+// The header of a region of `size` bytes: the signature, the size, format 5A, state FE, six zero bytes.
+pub fn region_header(size: usize) -> [u8; 28]
+    ensures { λ r. ⌜ r ≡ regionHeader size ⌝ }
+{
+    let mut header =
+        *b"\x78\x2C\xF3\xAA\x7B\x94\x9A\x43\xA1\x80\x2E\x14\x4E\xC3\x77\x92\0\0\0\0\x5A\xFE\0\0\0\0\0\0";
+    header[16] = low_byte(size);
+    header[17] = low_byte(size / 0x100);
+    header[18] = low_byte(size / 0x10000);
+    header[19] = low_byte(size / 0x1000000);
+    header
+}
+
+pub fn right_header(region: &[u8]) -> bool
+    ensures { λ r. ⌜ r ≡ rightHeader (now (region .entry)) ⌝ }
+{
+    let header = region_header(region.len());
+    slices::equal(slices::cut(region, 0, 28), &header)
+}
+
+// Whether a name and vendor are those of one key.
+fn is_key(name: &[u8], vendor: &[u8; 16], key: &[u8], of: &[u8; 16]) -> bool
+    ensures { λ r. ⌜ r ≡ (same (now (name .entry)) (now (key .entry)) && same (now (vendor .entry)) (now (of .entry))) ⌝ }
+{
+    if slices::equal(name, key) {
+        return slices::equal(vendor, of);
+    }
+    false
+}
+
+pub fn is_pk(name: &[u8], vendor: &[u8; 16]) -> bool
+    ensures { λ r. ⌜ r ≡ sameKey (record { name = now (name .entry); vendor = now (vendor .entry) }) keyPK ⌝ }
+{
+    let key = pk_name();
+    let of = global_vendor();
+    is_key(name, vendor, &key, &of)
+}
+
+pub fn is_kek(name: &[u8], vendor: &[u8; 16]) -> bool
+    ensures { λ r. ⌜ r ≡ sameKey (record { name = now (name .entry); vendor = now (vendor .entry) }) keyKEK ⌝ }
+{
+    let key = kek_name();
+    let of = global_vendor();
+    is_key(name, vendor, &key, &of)
+}
+
+// Whether a name is db, dbx or dbt, whatever its vendor.
+fn is_database_name(name: &[u8]) -> bool
+    ensures { λ r. ⌜ r ≡ (same (now (name .entry)) (keydb .name) || same (now (name .entry)) (keydbx .name) || same (now (name .entry)) (keydbt .name)) ⌝ }
+{
+    let db = db_name();
+    if slices::equal(name, &db) {
+        return true;
+    }
+    let dbx = dbx_name();
+    if slices::equal(name, &dbx) {
+        return true;
+    }
+    let dbt = dbt_name();
+    slices::equal(name, &dbt)
+}
+
+pub fn is_database(name: &[u8], vendor: &[u8; 16]) -> bool
+    ensures { λ r. ⌜ r ≡ isDatabase (record { name = now (name .entry); vendor = now (vendor .entry) }) ⌝ }
+{
+    let of = database_vendor();
+    if slices::equal(vendor, &of) {
+        return is_database_name(name);
+    }
+    false
+}
+
+pub fn is_key_name(name: &[u8], vendor: &[u8; 16]) -> bool
+    ensures { λ r. ⌜ r ≡ isKeyName (record { name = now (name .entry); vendor = now (vendor .entry) }) ⌝ }
+{
+    if is_pk(name, vendor) {
+        return true;
+    }
+    if is_kek(name, vendor) {
+        return true;
+    }
+    is_database(name, vendor)
+}

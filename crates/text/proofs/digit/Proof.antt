@@ -1,0 +1,16 @@
+-- `text::digit` meets its contract: the byte string is the definition's list.
+-- Assumes nothing.
+use borrow.Author.Needs.{needs}
+use Rattle.text.specs.Text.{ascii, digit}
+use Rattle.text.proofs.digit.Statement.{statement}
+use Rattle.text.proofs.digit.Tie as tie
+
+element-copy-out-result : tie.Need-element-copy-out-result
+element-copy-out-result c = search needs
+
+returns : tie.Need-returns
+unfolding digit ascii
+returns c = search needs
+
+pub digit-spec : {M : Type 1} → statement M
+digit-spec = tie.close (tie.spec element-copy-out-result returns)

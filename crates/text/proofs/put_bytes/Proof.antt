@@ -1,0 +1,62 @@
+-- `text::put_bytes` meets its contract: after i turns the text of the first i bytes is written.
+-- Assumes nothing.
+use Prim.Native.Nat.{ℕ, _+_, _*_, _-_, _≤_}
+use native.Mathlib.Omega.{arith}
+use mathlib.Core.Path.{_≡_, refl, ap, _∙_}
+use mathlib.Core.List.{[], _∷_}
+use lib.ListN.{length, take, getD}
+use lib.Seq.{take-all}
+use Rattle.text.specs.Text.{Wrote, hexOf}
+use Rattle.text.proofs.Writing.{wrote-none, wrote-as, wrote-byte}
+use borrow.Author.Needs.{needs}
+use Rattle.text.proofs.put_bytes.Statement.{statement}
+use Rattle.text.proofs.put_bytes.Tie as tie
+
+abbrev Inv-loop : tie.InvT-loop
+Inv-loop out₀ at src next₀ i₀ out next i =
+    (i ≤ length src) × (next ≡ at + i) × (length out ≡ length out₀) × Wrote (take i src) at out₀ out next
+
+abbrev μ-loop : tie.MeasureT-loop
+μ-loop out₀ at src next₀ i₀ out next i = length src - i
+
+loop-holds : tie.Need-loop-holds Inv-loop μ-loop
+loop-holds c = (search needs, omega arith, refl, wrote-none _ _)
+
+shared-slice-read-put-byte : tie.Need-shared-slice-read-put-byte Inv-loop μ-loop
+shared-slice-read-put-byte c = search needs
+
+put-byte-requires : tie.Need-put-byte-requires Inv-loop μ-loop
+put-byte-requires c κs = search needs
+
+add-i : tie.Need-add-i Inv-loop μ-loop
+add-i c = search needs
+
+loop-less : tie.Need-loop-less Inv-loop μ-loop
+loop-less c = search needs
+
+loop-again : tie.Need-loop-again Inv-loop μ-loop
+loop-again c =
+    let l = c .before .before .before .before .before .before in
+    let f = c .before .before .put-byte in
+    (omega arith, omega (arith, f .ensures .place), f .kept .0 ∙ l .loop .inv .2, wrote-byte (l .before .before .before .args .src .now) (l .loop .i) (search needs) (l .loop .inv .3) (f .ensures))
+
+same-length : tie.Need-same-length Inv-loop μ-loop
+same-length c = search needs
+
+returns : tie.Need-returns Inv-loop μ-loop
+returns c = wrote-as (take-all _ _ (c .loop-test .left)) (c .before .loop .inv .3)
+
+pub put-bytes-spec : {M : Type 1} → statement M
+put-bytes-spec =
+    tie.close
+    (tie.spec
+    Inv-loop
+    μ-loop
+    loop-holds
+    shared-slice-read-put-byte
+    put-byte-requires
+    add-i
+    loop-less
+    loop-again
+    same-length
+    returns)

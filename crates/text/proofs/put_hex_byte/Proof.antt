@@ -1,0 +1,45 @@
+-- `text::put_hex_byte` meets its contract: the high digit, then the low one.
+-- Assumes nothing.
+use Prim.Native.Nat.{ℕ}
+use mathlib.Core.Path.{ap}
+use mathlib.Core.List.{[], _∷_}
+use Rattle.text.specs.Text.{Wrote, digit, hexOf}
+use Rattle.text.proofs.Writing.{wrote-append, wrote-as}
+use borrow.Author.Needs.{needs}
+use Rattle.text.proofs.put_hex_byte.Statement.{statement}
+use Rattle.text.proofs.put_hex_byte.Tie as tie
+
+digit-requires : tie.Need-digit-requires
+digit-requires c κs = search needs
+
+put-byte-requires : tie.Need-put-byte-requires
+put-byte-requires c κs = search needs
+
+digit-requires-2 : tie.Need-digit-requires-2
+digit-requires-2 c κs = search needs
+
+put-byte-requires-2 : tie.Need-put-byte-requires-2
+put-byte-requires-2 c κs = search needs
+
+same-length : tie.Need-same-length
+same-length c = search needs
+
+returns : tie.Need-returns
+unfolding hexOf
+returns c =
+    let f = c .before .before .before .before .before .before .before .put-byte in
+    let g = c .before .before .put-byte2 in
+    let d = c .before .before .before .before .before .before .before .before .digit in
+    let e = c .before .before .before .digit2 in
+    wrote-append (wrote-as (ap (λ (d : ℕ). d ∷ []) (d .ensures)) (f .ensures)) (wrote-as (ap (λ (d : ℕ). d ∷ []) (e .ensures)) (g .ensures))
+
+pub put-hex-byte-spec : {M : Type 1} → statement M
+put-hex-byte-spec =
+    tie.close
+    (tie.spec
+    digit-requires
+    put-byte-requires
+    digit-requires-2
+    put-byte-requires-2
+    same-length
+    returns)

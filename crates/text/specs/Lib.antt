@@ -1,0 +1,2 @@
+-- Text as bytes, and what a function that writes text promises.
+pub mod Text
