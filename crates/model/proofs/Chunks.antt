@@ -20,6 +20,7 @@ use Rattle.model.specs.Entry.{headerSize, stateAt, startId, headerFields
 use Rattle.model.specs.Walk.{Entry, stateOf, stride, placed, walk, walkEnd}
 use Rattle.model.specs.Region.{entries, tailAt, tail, rightHeader, knownState, within, rightLive, undoubled, sound, clean}
 use Rattle.model.proofs.Tests.{and-split, same-refl, same-eq}
+use Rattle.model.proofs.Walking.{walkOf, walk-none, walk-some, stride-least}
 
 -- ---- chunks
 
@@ -102,50 +103,12 @@ read-some s l e = rw (le-leb headerSize (length s) l, eq-eqb (u16At s 0) startId
 
 -- ---- the walk
 
-abbrev walkOf : List ℕ → ℕ → ℕ → List Entry
-walkOf = walk headerSize readHeader
-
--- passing over k bytes
-skip : (s : List ℕ) (k at : ℕ) → walkOf s k at ≡ walkOf (drop k s) 0 (at + k)
-unfolding walk
-skip [] zero at = refl
-skip [] (suc k) at = refl
-skip (b ∷ s) zero at = ap (walkOf (b ∷ s) 0) (sym (add-zero at))
-skip (b ∷ s) (suc k) at = skip s k (at + 1) ∙ ap (walkOf (drop k s) 0) (omega arith)
-
--- where no header is read it ends
-walk-none : (t : List ℕ) (at : ℕ) → readHeader t ≡ none → walkOf t 0 at ≡ []
-unfolding walk
-walk-none [] at e = refl
-walk-none (b ∷ t) at e = rw e
-
--- an entry is 60 bytes or more, and a multiple of 4
-stride-least : (s : List ℕ) → headerSize ≤ strideOf s
-stride-least s = go (eqb (headerFields s .state) 0xFF)
-  where
-    go : (t : Bool) → headerSize ≤ cond t headerSize (rounded (headerSize + headerFields s .nameSize + headerFields s .dataSize))
-    go true = omega arith
-    go false = omega arith
-
 stride-multiple : (s : List ℕ) → strideOf s % 4 ≡ 0
 stride-multiple s = go (eqb (headerFields s .state) 0xFF)
   where
     go : (t : Bool) → cond t headerSize (rounded (headerSize + headerFields s .nameSize + headerFields s .dataSize)) % 4 ≡ 0
     go true = refl
     go false = omega arith
-
--- at an entry the walk finds it, and goes on behind it
-walk-some : (s : List ℕ) (at : ℕ) → headerSize ≤ length s → u16At s 0 ≡ startId
-    → walkOf s 0 at ≡ placed headerSize readHeader at (headerFields s) s ∷ walkOf (drop (strideOf s) s) 0 (at + strideOf s)
-unfolding walk
-walk-some [] at l e = absurd (omega arith)
-walk-some (b ∷ s) at l e =
-    let n = strideOf (b ∷ s) in
-    let long : headerSize ≤ n = stride-least (b ∷ s) in
-    let one : suc (n - 1) ≡ n = omega arith in
-    rw (read-some (b ∷ s) l e)
-    (ap (λ w. placed headerSize readHeader at (headerFields (b ∷ s)) (b ∷ s) ∷ w)
-    (skip s (n - 1) (at + 1) ∙ ap₂ (λ l a. walkOf l 0 a) (ap (λ k. drop k (b ∷ s)) one) (omega arith)))
 
 -- a chunk's entry is read from the chunk
 pub placed-front : (c s : List ℕ) (at : ℕ) → Framed c → placed headerSize readHeader at (headerFields c) (c ++ s) ≡ entryOf at c
@@ -170,7 +133,7 @@ walk-join (c ∷ cs) t at f stops =
     let n : strideOf (c ++ rest) ≡ length c = ap (stride headerSize readHeader) same ∙ f .0 .whole in
     let l : headerSize ≤ length (c ++ rest) = simp length-append (omega (arith, f .0 .long)) in
     rw append-assoc
-    (walk-some (c ++ rest) at l (start-front c rest (f .0 .long) ∙ f .0 .start)
+    (walk-some (c ++ rest) at (headerFields (c ++ rest)) (read-some (c ++ rest) l (start-front c rest (f .0 .long) ∙ f .0 .start))
     ∙ rw (n, same, placed-front c rest at (f .0), drop-append-seam c rest, walk-join cs t (at + length c) (f .1) stops))
 
 pub walk-end : (cs : List (List ℕ)) (at : ℕ) → AllFramed cs → walkEnd at (entriesOf at cs) ≡ at + length (join cs)
@@ -269,7 +232,7 @@ front-framed s l e h =
     let c = take (strideOf s) s in
     let d = drop (strideOf s) s in
     let n : length c ≡ strideOf s = length-take-le (strideOf s) s h in
-    let k : headerSize ≤ length c = rw n (stride-least s) in
+    let k : headerSize ≤ length c = rw n (stride-least (headerFields s)) in
     let z : c ++ d ≡ s = take-append-drop (strideOf s) s in
     record {
       long = k;
@@ -323,9 +286,9 @@ parts size (suc n) s at l h m w = go (leb headerSize (length s) && eqb (u16At s 
         let long : headerSize ≤ length s = leb-true headerSize (length s) (and-split (leb headerSize (length s)) (eqb (u16At s 0) startId) e .0) in
         let start : u16At s 0 ≡ startId = eqb-true (u16At s 0) startId (and-split (leb headerSize (length s)) (eqb (u16At s 0) startId) e .1) in
         let x = placed headerSize readHeader at (headerFields s) s in
-        let w′ : (within size x && all (within size) (walkOf (drop k s) 0 (at + k))) ≡ true = rw (walk-some s at long start) at w in
+        let w′ : (within size x && all (within size) (walkOf (drop k s) 0 (at + k))) ≡ true = rw (walk-some s at (headerFields s) (read-some s long start)) at w in
         let fits : k ≤ length s = stride-fits size at s h m long (and-split (within size x) (all (within size) (walkOf (drop k s) 0 (at + k))) w′ .0) in
-        let least = stride-least s in
+        let least = stride-least (headerFields s) in
         let four = stride-multiple s in
         let q = ih (rw length-drop (omega arith)) (rw length-drop (omega arith)) (rw length-drop (omega arith))
         (and-split (within size x) (all (within size) (walkOf (drop k s) 0 (at + k))) w′ .1) in

@@ -19,6 +19,8 @@ pub mod Tests
 pub mod Segments
 -- The three parts of an image
 pub mod Parts
+-- The walk from an offset on, as a loop over the entries meets it
+pub mod Walking
 -- The walk over a region: chunks of entries, and marks of their states
 pub mod Chunks
 -- The values of a list of entries, under marks and one more entry

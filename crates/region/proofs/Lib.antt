@@ -1,0 +1,11 @@
+-- Laws that the proofs of this crate share.
+-- A turn of the walk: what an entry found, or none, says of the walk from there on
+pub mod Turns
+-- The name and GUID of an entry as parts of the region
+pub mod Entries
+-- The tests of one entry, and what they decide of it
+pub mod Judging
+-- One turn of each loop over the entries
+pub mod Scanning
+-- The judgement of a whole region
+pub mod Whole

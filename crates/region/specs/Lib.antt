@@ -1,0 +1,3 @@
+-- What a turn of the walk finds, and what is judged of a region.
+pub mod Walk
+pub mod Judge

@@ -1,0 +1,185 @@
+// When a region is sound and clean.
+ghost use mathlib.Core.Path.{_≡_};
+ghost use lib.ListN.{length};
+ghost use Rattle.model.specs.Lists.{any, among};
+ghost use Rattle.model.specs.Entry.{states};
+ghost use Rattle.model.specs.Region.{entries, storedAttributes, live, rightLive, isEntry, undoubled};
+ghost use Rattle.model.specs.Region.{from};
+ghost use Rattle.region.specs.Walk.{entryAt, keyed};
+ghost use Rattle.region.specs.Judge.{liveState, entrySound, doubledIn, scanOf, judgedOf};
+use crate::Judged;
+use crate::Scan;
+use crate::Turn;
+use crate::walk;
+use layout::Entry;
+
+// Whether a state is one of the six.
+pub fn known_state(state: u8) -> bool
+    ensures { λ r. ⌜ r ≡ among states state ⌝ }
+{
+    match state {
+        0xFF => true,
+        0x7F => true,
+        0x3F => true,
+        0x3E => true,
+        0x3D => true,
+        0x3C => true,
+        _ => false,
+    }
+}
+
+// Whether attributes are among those that are stored.
+pub fn stored_attributes(attributes: u32) -> bool
+    ensures { λ r. ⌜ r ≡ among storedAttributes attributes ⌝ }
+{
+    match attributes {
+        0x03 => true,
+        0x07 => true,
+        0x23 => true,
+        0x27 => true,
+        _ => false,
+    }
+}
+
+// Whether a state is 3F or 3E.
+pub fn is_live(state: u8) -> bool
+    ensures { λ r. ⌜ r ≡ liveState state ⌝ }
+{
+    if state == 0x3F { true } else { state == 0x3E }
+}
+
+// Whether an entry, if it is live, has a well-formed name, data of a right size, and attributes that are stored.
+fn right_live(region: &[u8], at: usize, e: Entry) -> bool
+    ensures { λ r. ⌜ r ≡ rightLive (entryAt (now (region .entry)) at e) ⌝ }
+{
+    if is_live(e.state) {
+        if e.size < 1 {
+            return false;
+        }
+        if 2048 < e.size {
+            return false;
+        }
+        if stored_attributes(e.attributes) {
+            slices::is_named(walk::name_of(region, at, e))
+        } else {
+            false
+        }
+    } else {
+        true
+    }
+}
+
+// Whether an entry is sound by itself: a known state, an end within the region, and right if it is live.
+pub fn entry_sound(region: &[u8], at: usize, e: Entry) -> bool
+    ensures { λ r. ⌜ r ≡ entrySound (length (now (region .entry))) (entryAt (now (region .entry)) at e) ⌝ }
+{
+    if e.state == 0xFF {
+        return true;
+    }
+    if known_state(e.state) {
+        if region.len() < at {
+            return false;
+        }
+        if region.len() - at < 60 + e.name as usize + e.size as usize {
+            return false;
+        }
+        right_live(region, at, e)
+    } else {
+        false
+    }
+}
+
+// One pass over the entries.
+pub fn scan(region: &[u8]) -> Scan
+    ensures { λ r. ⌜ r ≡ scanOf (now (region .entry)) ⌝ }
+{
+    let mut at: usize = 28;
+    loop {
+        let t = walk::turn(region, at);
+        let Turn::Entry(e, next) = t else {
+            return Scan {
+                sound: true,
+                tail: at,
+            };
+        };
+        if entry_sound(region, at, e) {
+            at = next;
+        } else {
+            return Scan {
+                sound: false,
+                tail: 0,
+            };
+        }
+    }
+}
+
+// Whether an entry from an offset on has this state, name and GUID.
+fn comes_again(region: &[u8], start: usize, state: u8, name: &[u8], vendor: &[u8]) -> bool
+    ensures { λ r. ⌜ r ≡ any (isEntry state (keyed (now (name .entry)) (now (vendor .entry)))) (from (now (region .entry)) start) ⌝ }
+{
+    let mut at = start;
+    loop {
+        let t = walk::turn(region, at);
+        let Turn::Entry(e, next) = t else {
+            return false;
+        };
+        if walk::is_entry(region, at, e, state, name, vendor) {
+            return true;
+        }
+        at = next;
+    }
+}
+
+// Whether a live entry's state, name and GUID come again from an offset on.
+fn is_doubled(region: &[u8], at: usize, e: Entry, next: usize) -> bool
+    ensures { λ r. ⌜ r ≡ doubledIn (entryAt (now (region .entry)) at e) (from (now (region .entry)) next) ⌝ }
+{
+    if is_live(e.state) {
+        let name = walk::name_of(region, at, e);
+        let vendor = walk::vendor_of(region, at);
+        comes_again(region, next, e.state, name, vendor)
+    } else {
+        false
+    }
+}
+
+// Whether no name with its GUID has two 3F or two 3E entries.
+pub fn undoubled(region: &[u8]) -> bool
+    ensures { λ r. ⌜ r ≡ undoubled (entries (now (region .entry))) ⌝ }
+{
+    let mut at: usize = 28;
+    loop {
+        let t = walk::turn(region, at);
+        let Turn::Entry(e, next) = t else {
+            return true;
+        };
+        if is_doubled(region, at, e, next) {
+            return false;
+        }
+        at = next;
+    }
+}
+
+// Whether the region is sound and clean, and where its tail begins.
+pub fn judge(region: &[u8]) -> Judged
+    ensures { λ r. ⌜ r ≡ judgedOf (now (region .entry)) ⌝ }
+{
+    if layout::fixed::right_header(region) {
+        let s = scan(region);
+        if s.sound {
+            if undoubled(region) {
+                let tail = s.tail;
+                return Judged {
+                    sound: true,
+                    clean: slices::is_blank(slices::cut(region, tail, region.len())),
+                    tail,
+                };
+            }
+        }
+    }
+    Judged {
+        sound: false,
+        clean: false,
+        tail: 0,
+    }
+}

@@ -1,0 +1,24 @@
+// The region: the walk over its entries, and when it is sound and clean.
+use layout::Entry;
+
+pub mod judge;
+pub mod walk;
+
+// What a turn of the walk finds at an offset: an entry's numbers and the offset of the next entry, or the end.
+pub enum Turn {
+    Entry(Entry, usize),
+    Stop,
+}
+
+// What one pass over the entries tells: whether each is sound by itself, and then where the tail begins (else 0).
+pub struct Scan {
+    pub sound: bool,
+    pub tail: usize,
+}
+
+// Whether a region is sound, whether it is clean, and where the tail of a sound one begins (else 0).
+pub struct Judged {
+    pub sound: bool,
+    pub clean: bool,
+    pub tail: usize,
+}
