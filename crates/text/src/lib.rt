@@ -44,7 +44,7 @@ fn digit(n: u32) -> u8
 // One byte as two hexadecimal digits.
 pub fn put_hex_byte(out: &mut [u8], at: usize, b: u8) -> usize
     requires { ⌜ at < 2 ^ 62 ⌝ }
-    ensures { λ r. ⌜ Wrote (hexOf (b ∷ [])) at (now (out .entry)) (now (out .exit)) r ⌝ }
+    ensures { λ r. ⌜ Wrote (hexOf (b ∷ [])) at (now (out .entry)) (now (out .exit)) r × (r ≡ at + 2) ⌝ }
 {
     let n = b as u32;
     let next = put_byte(out, at, digit(n / 16));
@@ -54,7 +54,7 @@ pub fn put_hex_byte(out: &mut [u8], at: usize, b: u8) -> usize
 // Bytes as two hexadecimal digits each.
 pub fn put_hex(out: &mut [u8], at: usize, src: &[u8]) -> usize
     requires { ⌜ at + 2 * length (now src) < 2 ^ 62 ⌝ }
-    ensures { λ r. ⌜ Wrote (hexOf (now (src .entry))) at (now (out .entry)) (now (out .exit)) r ⌝ }
+    ensures { λ r. ⌜ Wrote (hexOf (now (src .entry))) at (now (out .entry)) (now (out .exit)) r × (r ≡ at + 2 * length (now (src .entry))) ⌝ }
 {
     let mut next = at;
     let mut i = 0;

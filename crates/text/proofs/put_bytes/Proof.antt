@@ -38,7 +38,12 @@ loop-again : tie.Need-loop-again Inv-loop μ-loop
 loop-again c =
     let l = c .before .before .before .before .before .before in
     let f = c .before .before .put-byte in
-    (omega arith, omega (arith, f .ensures .place), f .kept .0 ∙ l .loop .inv .2, wrote-byte (l .before .before .before .args .src .now) (l .loop .i) (search needs) (l .loop .inv .3) (f .ensures))
+    let s = l .before .before .before .args .src .now in (
+      omega arith,
+      omega (arith, f .ensures .place),
+      f .kept .0 ∙ l .loop .inv .2,
+      wrote-byte s (l .loop .i) (search needs) (l .loop .inv .3) (f .ensures),
+    )
 
 same-length : tie.Need-same-length Inv-loop μ-loop
 same-length c = search needs

@@ -40,13 +40,18 @@ unfolding hexOf
 loop-again c =
     let l = c .before .before .before .before .before .before in
     let f = c .before .before .put-hex-byte in
-    (omega arith, omega (arith, f .ensures .place), f .kept .0 ∙ l .loop .inv .2, wrote-hex (l .before .before .before .args .src .now) (l .loop .i) (search needs) (l .loop .inv .3) (f .ensures))
+    let s = l .before .before .before .args .src .now in (
+      omega arith,
+      omega arith,
+      f .kept .0 ∙ l .loop .inv .2,
+      wrote-hex s (l .loop .i) (search needs) (l .loop .inv .3) (f .ensures .0),
+    )
 
 same-length : tie.Need-same-length Inv-loop μ-loop
 same-length c = search needs
 
 returns : tie.Need-returns Inv-loop μ-loop
-returns c = wrote-as (ap hexOf (take-all _ _ (c .loop-test .left))) (c .before .loop .inv .3)
+returns c = (wrote-as (ap hexOf (take-all _ _ (c .loop-test .left))) (c .before .loop .inv .3), omega arith)
 
 pub put-hex-spec : {M : Type 1} → statement M
 put-hex-spec =

@@ -27,11 +27,11 @@ same-length c = search needs
 returns : tie.Need-returns
 unfolding hexOf
 returns c =
-    let f = c .before .before .before .before .before .before .before .put-byte in
-    let g = c .before .before .put-byte2 in
-    let d = c .before .before .before .before .before .before .before .before .digit in
-    let e = c .before .before .before .digit2 in
-    wrote-append (wrote-as (ap (λ (d : ℕ). d ∷ []) (d .ensures)) (f .ensures)) (wrote-as (ap (λ (d : ℕ). d ∷ []) (e .ensures)) (g .ensures))
+    let high = ap (λ (d : ℕ). d ∷ []) (c .before .before .before .before .before .before .before .before .digit .ensures) in
+    let low = ap (λ (d : ℕ). d ∷ []) (c .before .before .before .digit2 .ensures) in
+    let first = wrote-as high (c .before .before .before .before .before .before .before .put-byte .ensures) in
+    let both = wrote-append first (wrote-as low (c .before .before .put-byte2 .ensures)) in
+    (both, both .place)
 
 pub put-hex-byte-spec : {M : Type 1} → statement M
 put-hex-byte-spec =

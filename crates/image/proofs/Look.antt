@@ -1,0 +1,44 @@
+-- What the functions that look at the parts of an image tell of it: each told it of the part that was cut, which is the image's own.
+-- Assumes nothing.
+use Prim.Native.Nat.{ℕ}
+use mathlib.Core.Path.{_≡_, sym, ap, _∙_}
+use mathlib.Core.Bool.{Bool, true, cond, _&&_}
+use mathlib.Core.List.{List}
+use Rattle.model.specs.Lists.{allFF}
+use Rattle.model.specs.Region.{tailAt, tail, sound, clean}
+use Rattle.model.specs.Work.{wellFormed, endsInFC, idle}
+use Rattle.model.proofs.Tests.{and-split}
+use Rattle.records.specs.Look.{lookAt, restsAt, closesAt}
+use Rattle.records.specs.declared.Look.{Look}
+use Rattle.records.proofs.Block.{look-idle, look-closed}
+use Rattle.region.specs.Judge.{judgedOf}
+use Rattle.region.specs.declared.Judged.{Judged}
+
+-- cut from the image as w′, which is its part w
+module _ {w w′ : List ℕ} (same : w′ ≡ w) {l : Look} (looked : l ≡ lookAt w′) {t : Bool} where
+  pub told-idle : t ≡ restsAt l → idle w ≡ t
+  told-idle e = sym (look-idle w) ∙ ap (λ (x : List ℕ). restsAt (lookAt x)) (sym same) ∙ ap restsAt (sym looked) ∙ sym e
+
+  pub told-closed : t ≡ closesAt l → (wellFormed w && endsInFC w) ≡ t
+  told-closed e = sym (look-closed w) ∙ ap (λ (x : List ℕ). closesAt (lookAt x)) (sym same) ∙ ap closesAt (sym looked) ∙ sym e
+
+module _ {r r′ : List ℕ} (same : r′ ≡ r) {j : Judged} (judged : j ≡ judgedOf r′) where
+  its : j ≡ judgedOf r
+  its = judged ∙ ap judgedOf same
+
+  pub told-clean : clean r ≡ j .clean
+  unfolding judgedOf
+  told-clean = sym (ap (λ (x : Judged). x .clean) its)
+
+  pub told-sound : sound r ≡ j .sound
+  unfolding judgedOf
+  told-sound = sym (ap (λ (x : Judged). x .sound) its)
+
+  told-tail : j .tail ≡ cond (sound r) (tailAt r) 0
+  unfolding judgedOf
+  told-tail = ap (λ (x : Judged). x .tail) its
+
+  -- a clean region's tail
+  pub told-clean-tail : j .clean ≡ true → j .tail ≡ tailAt r
+  unfolding clean
+  told-clean-tail e = told-tail ∙ rw (and-split (sound r) (allFF (tail r)) (told-clean ∙ e) .0)

@@ -1,0 +1,26 @@
+-- What rules 1 and 2 leave to a call and to a start-up.
+use Prim.Native.Nat.{ℕ}
+use mathlib.Core.Bool.{cond}
+use mathlib.Core.List.{List}
+use Rattle.model.specs.Lists.{onSome}
+use Rattle.model.specs.Image.{blocks, rightLength, region}
+use Rattle.model.specs.Region.{tailAt}
+use Rattle.model.specs.Work.{pending}
+use Rattle.model.specs.Rules.{firstBroken, imageRules, startUpBroken}
+use Rattle.image.specs.declared.Check.{Check}
+use Rattle.image.specs.declared.Check.the-variants as call
+use Rattle.image.specs.declared.Start.{Start}
+use Rattle.image.specs.declared.Start.the-variants as start
+
+-- b, or 0 where rule 1 is broken
+unfoldable pub blocksOf : List ℕ → ℕ
+blocksOf img = cond (rightLength img) (blocks img) 0
+
+-- of a call: the first of rules 1 and 2 broken, or b and the offset of the tail
+unfoldable pub callOf : List ℕ → Check
+callOf img = onSome (firstBroken (imageRules img)) call.Refused (call.Ready (blocks img) (tailAt (region img)))
+
+-- of a start-up: the first broken, or b of what is pending, else of the sound region
+unfoldable pub startUpOf : List ℕ → Start
+startUpOf img =
+    onSome (startUpBroken img) start.Refused (cond (pending img) (start.Pending (blocks img)) (start.Sound (blocks img)))

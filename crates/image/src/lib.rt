@@ -1,0 +1,88 @@
+// A whole image: its length, and whether a call or a start-up may begin on it.
+ghost use mathlib.Core.Path.{_≡_};
+ghost use Prim.Native.Nat.{_≤_};
+ghost use Rattle.model.specs.Work.{pending};
+ghost use Rattle.image.specs.Check.{blocksOf, callOf, startUpOf};
+use model::Rule;
+
+// What rules 1 and 2 leave to a call: the number of blocks and the offset of the tail, or the rule broken.
+pub enum Check {
+    Ready(usize, usize),
+    Refused(Rule),
+}
+
+// What they leave to a start-up: the number of blocks of a pending compaction or of a sound region, or the rule broken.
+pub enum Start {
+    Pending(usize),
+    Sound(usize),
+    Refused(Rule),
+}
+
+// b, or 0 where the length is not 4,096 × (2b + 1) with b from 1 to 7.
+pub fn blocks(image: &[u8]) -> usize
+    ensures { λ r. ⌜ (r ≡ blocksOf (now (image .entry))) × (r ≤ 7) ⌝ }
+{
+    let n = image.len();
+    let b = n / 8192;
+    if b < 1 {
+        return 0;
+    }
+    if 7 < b {
+        return 0;
+    }
+    if n == 8192 * b + 4096 {
+        return b;
+    }
+    0
+}
+
+// Rules 1 and 2 as a call meets them. What is cheap to look at comes first: the work block, the spare, then the entries.
+pub fn check_call(image: &[u8]) -> Check
+    ensures { λ r. ⌜ r ≡ callOf (now (image .entry)) ⌝ }
+{
+    let b = blocks(image);
+    if b == 0 {
+        return Check::Refused(Rule::Length);
+    }
+    let size = 4096 * b;
+    if records::is_idle(records::look_at(slices::cut(image, size, 4096))) {
+        if slices::is_blank(slices::cut(image, size + 4096, size)) {
+            let j = region::judge::judge(slices::cut(image, 0, size));
+            if j.clean {
+                return Check::Ready(b, j.tail);
+            }
+        }
+    }
+    Check::Refused(Rule::Unready)
+}
+
+// Whether a compaction of b blocks is pending.
+fn is_pending(image: &[u8], b: usize) -> bool
+    requires { ⌜ (b ≡ blocksOf (now image)) × (1 ≤ b) × (b ≤ 7) ⌝ }
+    ensures { λ r. ⌜ r ≡ pending (now (image .entry)) ⌝ }
+{
+    let size = 4096 * b;
+    if records::is_closed(records::look_at(slices::cut(image, size, 4096))) {
+        let s = region::judge::judge(slices::cut(image, size + 4096, size));
+        return s.clean;
+    }
+    false
+}
+
+// Rules 1 and 2 as a start-up meets them.
+pub fn check_start(image: &[u8]) -> Start
+    ensures { λ r. ⌜ r ≡ startUpOf (now (image .entry)) ⌝ }
+{
+    let b = blocks(image);
+    if b == 0 {
+        return Start::Refused(Rule::Length);
+    }
+    if is_pending(image, b) {
+        return Start::Pending(b);
+    }
+    let j = region::judge::judge(slices::cut(image, 0, 4096 * b));
+    if j.sound {
+        return Start::Sound(b);
+    }
+    Start::Refused(Rule::Unready)
+}

@@ -1,0 +1,58 @@
+-- `report::put_value` meets its contract: GUID and name, the attributes' two digits, the size, the end of the line, one behind the other.
+-- Assumes nothing.
+use native.Mathlib.Omega.{arith}
+use Prim.Native.Nat.{ℕ}
+use mathlib.Core.Path.{ap}
+use mathlib.Core.List.{[], _∷_}
+use Rattle.text.specs.Text.{ascii, hexOf}
+use Rattle.text.proofs.Writing.{wrote-append, wrote-as}
+use Rattle.report.specs.Varlist.{entryLine}
+use borrow.Author.Needs.{needs}
+use Rattle.report.proofs.put_value.Statement.{statement}
+use Rattle.report.proofs.put_value.Tie as tie
+
+put-key-requires : tie.Need-put-key-requires
+put-key-requires c κs = search needs
+
+low-byte-requires : tie.Need-low-byte-requires
+low-byte-requires c κs = search needs
+
+put-hex-byte-requires : tie.Need-put-hex-byte-requires
+put-hex-byte-requires c κs = search needs
+
+slice-aggregate-put-field : tie.Need-slice-aggregate-put-field
+slice-aggregate-put-field c = search needs
+
+put-field-requires : tie.Need-put-field-requires
+put-field-requires c κs = search needs
+
+put-byte-requires : tie.Need-put-byte-requires
+put-byte-requires c κs = search needs
+
+same-length : tie.Need-same-length
+same-length c = search needs
+
+returns : tie.Need-returns
+unfolding entryLine ascii
+returns c =
+    let key = c .before .before .before .before .before .before .before .before .before .before .before .before .before .before .before .before .put-key .ensures in
+    let low = ap (λ (b : ℕ). hexOf (b ∷ [])) (c .before .before .before .before .before .before .before .before .before .before .before .before .low-byte .ensures) in
+    let attributes = c .before .before .before .before .before .before .before .before .before .before .before .put-hex-byte .ensures in
+    let size = c .before .before .before .before .before .before .put-field .ensures in
+    let end = c .before .before .put-byte .ensures in (
+      wrote-append (wrote-append (wrote-append (key .0) (wrote-as low (attributes .0))) (size .0)) end,
+      omega (arith, key .1, attributes .1, size .1, end .place),
+    )
+
+pub put-value-spec : {M : Type 1} → statement M
+put-value-spec =
+    tie.close
+    (tie.spec
+    put-key-requires
+    low-byte-requires
+    put-hex-byte-requires
+    slice-aggregate-put-field
+    put-field-requires
+    put-byte-requires
+    same-length
+    returns)

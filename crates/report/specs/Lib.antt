@@ -1,0 +1,2 @@
+-- What `varlist` prints.
+pub mod Varlist

@@ -1,0 +1,53 @@
+-- The first entry that passes a test, from an offset on: it is the entry there, if that passes, and else the first from the next offset on.
+-- Assumes nothing.
+use Prim.Native.Nat.{ℕ}
+use mathlib.Core.Path.{_≡_, refl, ap, _∙_}
+use mathlib.Core.Bool.{Bool, true, false, cond}
+use mathlib.Core.List.{List, []}
+use mathlib.Core.Option.{Option, none, some}
+use Rattle.model.specs.Lists.{first, orElse}
+use Rattle.model.specs.Walk as walk
+use Rattle.model.specs.Region.{from}
+use Rattle.layout.specs.Head.{numbersOf}
+use Rattle.layout.specs.declared.Entry as numbers
+use Rattle.region.specs.Walk.{entryAt}
+use Rattle.region.proofs.Turns.{Turned}
+use Rattle.values.specs.Found.{foundOf, entryFound, elseFound}
+use Rattle.values.specs.declared.Found.{Found}
+use Rattle.values.specs.declared.Found.the-variants.{At, Nothing}
+
+-- an entry of some numbers at an offset is found as these
+pub found-at : (r : List ℕ) (at : ℕ) (e : numbers.Entry) → At (entryAt r at e .at) (numbersOf (entryAt r at e .header)) ≡ At at e
+unfolding entryAt walk.placed
+found-at r at e = refl
+
+pub found-else : (a b : Option walk.Entry) → foundOf (orElse a b) ≡ elseFound (foundOf a) (foundOf b)
+found-else (some e) b = refl
+found-else none b = refl
+
+pub found-none : (r : List ℕ) (at : ℕ) (f : walk.Entry → Bool) → from r at ≡ [] → foundOf (first f (from r at)) ≡ Nothing
+found-none r at f p = ap (λ (es : List walk.Entry). foundOf (first f es)) p
+
+-- where nothing more is found, what was found before stays
+pub else-none : (r : List ℕ) (at : ℕ) (f : walk.Entry → Bool) → from r at ≡ [] → (g : Found) → elseFound g (foundOf (first f (from r at))) ≡ g
+else-none r at f p (At a n) = refl
+else-none r at f p Nothing = found-none r at f p
+
+module _ (r : List ℕ) (at : ℕ) (e : numbers.Entry) (k : ℕ) (w : Turned r at e k) (f : walk.Entry → Bool) where
+  pub found-here : f (entryAt r at e) ≡ true → foundOf (first f (from r at)) ≡ At at e
+  found-here h = ap (λ (es : List walk.Entry). foundOf (first f es)) (w .walk) ∙ rw h (found-at r at e)
+
+  pub found-next : f (entryAt r at e) ≡ false → foundOf (first f (from r at)) ≡ foundOf (first f (from r k))
+  found-next h = ap (λ (es : List walk.Entry). foundOf (first f es)) (w .walk) ∙ rw h
+
+  -- with what was found before
+  pub found-turn : (g : Found)
+      → elseFound g (foundOf (first f (from r at))) ≡ elseFound (elseFound g (entryFound f (entryAt r at e))) (foundOf (first f (from r k)))
+  found-turn (At a n) = refl
+  found-turn Nothing = ap (λ (es : List walk.Entry). foundOf (first f es)) (w .walk) ∙ go (f (entryAt r at e))
+    where
+      go : (t : Bool)
+          → foundOf (cond t (some (entryAt r at e)) (first f (from r k)))
+          ≡ elseFound (cond t (foundOf (some (entryAt r at e))) Nothing) (foundOf (first f (from r k)))
+      go true = refl
+      go false = refl

@@ -1,0 +1,112 @@
+-- `values::lookup::find` meets its contract. The loop's invariant: what stands is the first 3F entry from here on, else the 3E entry found so far, else
+-- the first from here on. What is left of the region falls.
+-- Assumes nothing.
+use Prim.Native.Nat.{_-_}
+use native.Mathlib.Omega.{arith}
+use mathlib.Core.Path.{_≡_, sym, ap, _∙_}
+use lib.ListN.{length}
+use denote.Ref.{now}
+use borrow.Author.Needs.{needs}
+use Rattle.model.specs.Lists.{first}
+use Rattle.model.specs.Region.{entries, isEntry, added, replacing, standing}
+use Rattle.model.specs.Region.{from}
+use Rattle.region.specs.Walk.{keyed}
+use Rattle.region.proofs.Turns.{turned, stopped}
+use Rattle.values.specs.Found.{foundOf, elseFound}
+use Rattle.values.proofs.Finds.{found-else, found-none, found-here, found-next, found-turn, else-none}
+use Rattle.values.proofs.lookup.find.Statement.{statement}
+use Rattle.values.proofs.lookup.find.Tie as tie
+
+abbrev Inv-loop : tie.InvT-loop
+Inv-loop region name vendor replacing₀ at₀ old at =
+    foundOf (standing (keyed name vendor) (entries region))
+    ≡ elseFound (foundOf (first (isEntry 0x3F (keyed name vendor)) (from region at)))
+    (elseFound old (foundOf (first (isEntry 0x3E (keyed name vendor)) (from region at))))
+
+abbrev μ-loop : tie.MeasureT-loop
+μ-loop region name vendor replacing₀ at₀ old at = length region - at
+
+loop-holds : tie.Need-loop-holds Inv-loop μ-loop
+unfolding standing added replacing entries from
+loop-holds c =
+    let a = c .before .before .before .args in
+    let k = keyed (now (a .name)) (now (a .vendor)) in
+    found-else (first (isEntry 0x3F k) (from (now (a .region)) 28)) (first (isEntry 0x3E k) (from (now (a .region)) 28))
+
+turn-requires : tie.Need-turn-requires Inv-loop μ-loop
+turn-requires c κs = search needs
+
+enum-known-t : tie.Need-enum-known-t Inv-loop μ-loop
+enum-known-t c = search needs
+
+enum-told : tie.Need-enum-told Inv-loop μ-loop
+enum-told c = search needs
+
+returns : tie.Need-returns Inv-loop μ-loop
+returns c =
+    let l = c .before .before .before in
+    let a = l .before .before .before .before .args in
+    let r = now (a .region) in
+    let k = keyed (now (a .name)) (now (a .vendor)) in
+    let end = stopped r (l .loop .at) (sym (c .before .before .turn .ensures) ∙ c .enum-told .given .1) in
+    sym (l .loop .inv
+    ∙ ap (λ g. elseFound g (elseFound (l .loop .replacing) (foundOf (first (isEntry 0x3E k) (from r (l .loop .at)))))) (found-none r (l .loop .at) (isEntry 0x3F k) end)
+    ∙ else-none r (l .loop .at) (isEntry 0x3E k) end (l .loop .replacing))
+
+is-entry-requires : tie.Need-is-entry-requires Inv-loop μ-loop
+is-entry-requires c κs = search needs
+
+returns-2 : tie.Need-returns-2 Inv-loop μ-loop
+returns-2 c =
+    let l = c .before .before .before .before .before .before in
+    let a = l .before .before .before .before .args in
+    let r = now (a .region) in
+    let k = keyed (now (a .name)) (now (a .vendor)) in
+    let t = c .before .before .before .t .given in
+    let w = turned r (l .loop .at) (t .0 .0) (t .0 .1 .0) (sym (c .before .before .before .before .before .turn .ensures) ∙ t .1) in
+    sym (l .loop .inv
+    ∙ ap (λ g. elseFound g (elseFound (l .loop .replacing) (foundOf (first (isEntry 0x3E k) (from r (l .loop .at))))))
+    (found-here r (l .loop .at) (t .0 .0) (t .0 .1 .0) w (isEntry 0x3F k) (sym (c .before .is-entry .ensures) ∙ c .if1 .taken)))
+
+or-entry-requires : tie.Need-or-entry-requires Inv-loop μ-loop
+or-entry-requires c κs = search needs
+
+loop-less : tie.Need-loop-less Inv-loop μ-loop
+loop-less c =
+    let l = c .before .before .before .before .before .before .before in
+    let t = c .before .before .before .before .t .given in
+    let w = turned (now (l .before .before .before .before .args .region)) (l .loop .at) (t .0 .0) (t .0 .1 .0) (sym (c .before .before .before .before .before .before .turn .ensures) ∙ t .1) in
+    omega arith
+
+loop-again : tie.Need-loop-again Inv-loop μ-loop
+loop-again c =
+    let l = c .before .before .before .before .before .before .before in
+    let a = l .before .before .before .before .args in
+    let r = now (a .region) in
+    let k = keyed (now (a .name)) (now (a .vendor)) in
+    let t = c .before .before .before .before .t .given in
+    let next = t .0 .1 .0 in
+    let w = turned r (l .loop .at) (t .0 .0) next (sym (c .before .before .before .before .before .before .turn .ensures) ∙ t .1) in
+    l .loop .inv
+    ∙ ap (λ g. elseFound g (elseFound (l .loop .replacing) (foundOf (first (isEntry 0x3E k) (from r (l .loop .at))))))
+    (found-next r (l .loop .at) (t .0 .0) next w (isEntry 0x3F k) (sym (c .before .before .is-entry .ensures) ∙ c .before .if1 .left))
+    ∙ ap (elseFound (foundOf (first (isEntry 0x3F k) (from r next))))
+    (found-turn r (l .loop .at) (t .0 .0) next w (isEntry 0x3E k) (l .loop .replacing)
+    ∙ ap (λ g. elseFound g (foundOf (first (isEntry 0x3E k) (from r next)))) (sym (c .or-entry .ensures)))
+
+pub find-spec : {M : Type 1} → statement M
+find-spec =
+    tie.close
+    (tie.spec
+    Inv-loop
+    μ-loop
+    loop-holds
+    turn-requires
+    enum-known-t
+    enum-told
+    returns
+    is-entry-requires
+    returns-2
+    or-entry-requires
+    loop-less
+    loop-again)

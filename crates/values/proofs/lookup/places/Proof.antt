@@ -1,0 +1,93 @@
+-- `values::lookup::places` meets its contract. The loop's invariant: the first 3F entry of all is the one found so far, else the first from here on, and
+-- so for 3E. What is left of the region falls.
+-- Assumes nothing.
+use Prim.Native.Nat.{_-_}
+use native.Mathlib.Omega.{arith}
+use mathlib.Core.Path.{_≡_, refl, sym, ap, _∙_}
+use lib.ListN.{length}
+use denote.Ref.{now}
+use borrow.Author.Needs.{needs}
+use Rattle.model.specs.Lists.{first}
+use Rattle.model.specs.Region.{entries, isEntry, added, replacing}
+use Rattle.model.specs.Region.{from}
+use Rattle.region.specs.Walk.{keyed}
+use Rattle.region.proofs.Turns.{turned, stopped}
+use Rattle.values.specs.Found.{foundOf, elseFound}
+use Rattle.values.proofs.Finds.{found-turn, else-none}
+use Rattle.values.proofs.lookup.places.Statement.{statement}
+use Rattle.values.proofs.lookup.places.Tie as tie
+
+abbrev Inv-loop : tie.InvT-loop
+Inv-loop region name vendor added₀ replacing₀ at₀ a b at =
+    (foundOf (added (keyed name vendor) (entries region)) ≡ elseFound a (foundOf (first (isEntry 0x3F (keyed name vendor)) (from region at))))
+    × (foundOf (replacing (keyed name vendor) (entries region)) ≡ elseFound b (foundOf (first (isEntry 0x3E (keyed name vendor)) (from region at))))
+
+abbrev μ-loop : tie.MeasureT-loop
+μ-loop region name vendor added₀ replacing₀ at₀ a b at = length region - at
+
+loop-holds : tie.Need-loop-holds Inv-loop μ-loop
+unfolding added replacing entries from
+loop-holds c = (refl, refl)
+
+turn-requires : tie.Need-turn-requires Inv-loop μ-loop
+turn-requires c κs = search needs
+
+enum-known-t : tie.Need-enum-known-t Inv-loop μ-loop
+enum-known-t c = search needs
+
+enum-told : tie.Need-enum-told Inv-loop μ-loop
+enum-told c = search needs
+
+returns : tie.Need-returns Inv-loop μ-loop
+returns c =
+    let l = c .before .before .before in
+    let a = l .before .before .before .before .args in
+    let r = now (a .region) in
+    let k = keyed (now (a .name)) (now (a .vendor)) in
+    let end = stopped r (l .loop .at) (sym (c .before .before .turn .ensures) ∙ c .enum-told .given .1) in (
+      sym (l .loop .inv .0 ∙ else-none r (l .loop .at) (isEntry 0x3F k) end (l .loop .added)),
+      sym (l .loop .inv .1 ∙ else-none r (l .loop .at) (isEntry 0x3E k) end (l .loop .replacing)),
+    )
+
+or-entry-requires : tie.Need-or-entry-requires Inv-loop μ-loop
+or-entry-requires c κs = search needs
+
+or-entry-requires-2 : tie.Need-or-entry-requires-2 Inv-loop μ-loop
+or-entry-requires-2 c κs = search needs
+
+loop-less : tie.Need-loop-less Inv-loop μ-loop
+loop-less c =
+    let l = c .before .before .before .before .before .before in
+    let t = c .before .before .before .t .given in
+    let w = turned (now (l .before .before .before .before .args .region)) (l .loop .at) (t .0 .0) (t .0 .1 .0) (sym (c .before .before .before .before .before .turn .ensures) ∙ t .1) in
+    omega arith
+
+loop-again : tie.Need-loop-again Inv-loop μ-loop
+loop-again c =
+    let l = c .before .before .before .before .before .before in
+    let a = l .before .before .before .before .args in
+    let r = now (a .region) in
+    let k = keyed (now (a .name)) (now (a .vendor)) in
+    let t = c .before .before .before .t .given in
+    let w = turned r (l .loop .at) (t .0 .0) (t .0 .1 .0) (sym (c .before .before .before .before .before .turn .ensures) ∙ t .1) in (
+      l .loop .inv .0 ∙ found-turn r (l .loop .at) (t .0 .0) (t .0 .1 .0) w (isEntry 0x3F k) (l .loop .added)
+          ∙ ap (λ g. elseFound g (foundOf (first (isEntry 0x3F k) (from r (t .0 .1 .0))))) (sym (c .before .or-entry .ensures)),
+      l .loop .inv .1 ∙ found-turn r (l .loop .at) (t .0 .0) (t .0 .1 .0) w (isEntry 0x3E k) (l .loop .replacing)
+          ∙ ap (λ g. elseFound g (foundOf (first (isEntry 0x3E k) (from r (t .0 .1 .0))))) (sym (c .or-entry2 .ensures)),
+    )
+
+pub places-spec : {M : Type 1} → statement M
+places-spec =
+    tie.close
+    (tie.spec
+    Inv-loop
+    μ-loop
+    loop-holds
+    turn-requires
+    enum-known-t
+    enum-told
+    returns
+    or-entry-requires
+    or-entry-requires-2
+    loop-less
+    loop-again)

@@ -1,0 +1,21 @@
+-- What is found among the entries of a region, by offset and numbers.
+use mathlib.Core.Bool.{Bool, cond}
+use mathlib.Core.Option.{Option, none, some}
+use Rattle.model.specs.Walk.{Entry}
+use Rattle.layout.specs.Head.{numbersOf}
+use Rattle.values.specs.declared.Found.{Found}
+use Rattle.values.specs.declared.Found.the-variants.{At, Nothing}
+
+-- an entry by its offset and its numbers, where there is one
+abbrev pub foundOf : Option Entry → Found
+foundOf (some e) = At (e .at) (numbersOf (e .header))
+foundOf none = Nothing
+
+-- an entry, if it passes a test
+abbrev pub entryFound : (Entry → Bool) → Entry → Found
+entryFound f e = cond (f e) (foundOf (some e)) Nothing
+
+-- one or the other
+abbrev pub elseFound : Found → Found → Found
+elseFound (At at e) g = At at e
+elseFound Nothing g = g

@@ -1,0 +1,2 @@
+-- What is found of a region.
+pub mod Found

@@ -1,0 +1,17 @@
+// The values of a region: found by name, listed in flash order, summed.
+use layout::Entry;
+
+pub mod list;
+pub mod lookup;
+
+// An entry's offset and numbers, or nothing.
+pub enum Found {
+    At(usize, Entry),
+    Nothing,
+}
+
+// The first 3F entry of a name and its first 3E entry: the places that a set marks.
+pub struct Places {
+    pub added: Found,
+    pub replacing: Found,
+}

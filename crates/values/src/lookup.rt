@@ -1,0 +1,104 @@
+// Entries of a region, looked up by name and GUID.
+ghost use mathlib.Core.Path.{_≡_};
+ghost use Rattle.model.specs.Lists.{first};
+ghost use Rattle.model.specs.Region.{entries, isEntry, added, replacing, standing};
+ghost use Rattle.model.specs.Region.{from};
+ghost use Rattle.region.specs.Walk.{entryAt, keyed};
+ghost use Rattle.values.specs.Found.{foundOf, entryFound, elseFound};
+use crate::Found;
+use crate::Places;
+use layout::Entry;
+use region::Turn;
+use region::walk;
+
+// The data of an entry, as much of it as the region holds; an unfinished entry has none.
+pub fn data_of(region: &[u8], at: usize, e: Entry) -> &[u8]
+    ensures { λ r. ⌜ now r ≡ entryAt (now (region .entry)) at e .bytes ⌝ }
+{
+    if e.state == 0xFF {
+        return &region[..0];
+    }
+    if region.len() < at {
+        return &region[..0];
+    }
+    slices::cut(region, at + 60 + e.name as usize, e.size as usize)
+}
+
+// The first entry at or behind an offset in this state, under this name and GUID.
+pub fn find_from(region: &[u8], at: usize, state: u8, name: &[u8], vendor: &[u8]) -> Found
+    ensures { λ r. ⌜ r ≡ foundOf (first (isEntry state (keyed (now (name .entry)) (now (vendor .entry)))) (from (now (region .entry)) at)) ⌝ }
+{
+    let mut here = at;
+    loop {
+        let t = walk::turn(region, here);
+        let Turn::Entry(e, next) = t else {
+            return Found::Nothing;
+        };
+        if walk::is_entry(region, here, e, state, name, vendor) {
+            return Found::At(here, e);
+        }
+        here = next;
+    }
+}
+
+// What was found before, else this entry if it is in the state under the name and GUID.
+fn or_entry(
+    found: Found,
+    region: &[u8],
+    at: usize,
+    e: Entry,
+    state: u8,
+    name: &[u8],
+    vendor: &[u8],
+) -> Found
+    ensures { λ r. ⌜ r ≡ elseFound found (entryFound (isEntry state (keyed (now (name .entry)) (now (vendor .entry)))) (entryAt (now (region .entry)) at e)) ⌝ }
+{
+    match found {
+        Found::At(_, _) => found,
+        Found::Nothing => {
+            if walk::is_entry(region, at, e, state, name, vendor) {
+                Found::At(at, e)
+            } else {
+                Found::Nothing
+            }
+        }
+    }
+}
+
+// The first 3F and the first 3E entry of a name and GUID, in one pass.
+pub fn places(region: &[u8], name: &[u8], vendor: &[u8]) -> Places
+    ensures { λ r. ⌜ (r .added ≡ foundOf (added (keyed (now (name .entry)) (now (vendor .entry))) (entries (now (region .entry)))))
+        × (r .replacing ≡ foundOf (replacing (keyed (now (name .entry)) (now (vendor .entry))) (entries (now (region .entry))))) ⌝ }
+{
+    let mut added = Found::Nothing;
+    let mut replacing = Found::Nothing;
+    let mut at: usize = 28;
+    loop {
+        let t = walk::turn(region, at);
+        let Turn::Entry(e, next) = t else {
+            return Places { added, replacing };
+        };
+        added = or_entry(added, region, at, e, 0x3F, name, vendor);
+        replacing = or_entry(replacing, region, at, e, 0x3E, name, vendor);
+        at = next;
+    }
+}
+
+// A name's value: its 3F entry, at which the pass ends, else its 3E entry.
+pub fn find(region: &[u8], name: &[u8], vendor: &[u8]) -> Found
+    ensures { λ r. ⌜ r ≡ foundOf (standing (keyed (now (name .entry)) (now (vendor .entry))) (entries (now (region .entry)))) ⌝ }
+{
+    let mut replacing = Found::Nothing;
+    let mut at: usize = 28;
+    loop {
+        let t = walk::turn(region, at);
+        let Turn::Entry(e, next) = t else {
+            return replacing;
+        };
+        if walk::is_entry(region, at, e, 0x3F, name, vendor) {
+            return Found::At(at, e);
+        }
+        replacing = or_entry(replacing, region, at, e, 0x3E, name, vendor);
+        at = next;
+    }
+}
