@@ -1,11 +1,72 @@
--- The lines of joined lists of values are the joined lines, by induction over the first list: what a loop that writes a line for each value goes by.
+-- The lines of joined lists of values are the joined lines, by induction over the first list. So a loop that writes a line for each value has at each turn
+-- written a text that the lines of the values still to come make whole.
 -- Assumes nothing.
+use Prim.Native.Nat.{ℕ, _+_, _≤_}
+use native.Mathlib.Nat.{min-le-left}
+use native.Mathlib.Omega.{arith}
 use mathlib.Core.Path.{_≡_, refl, sym, ap, _∙_}
-use mathlib.Core.List.{List, [], _∷_, _++_, append-assoc}
-use Rattle.model.specs.Entry.{Value}
-use Rattle.report.specs.Varlist.{valueLine, valueLines}
+use mathlib.Core.List.{List, [], _∷_, _++_, append-assoc, append-nil}
+use lib.ListN.{length, drop, length-take}
+use Rattle.model.specs.Entry.{Value, rounded}
+use Rattle.model.specs.Walk as walk
+use Rattle.model.specs.Region.{entries, values}
+use Rattle.layout.specs.declared.Entry as numbers
+use Rattle.region.specs.Walk.{entryAt, vendorAt}
+use Rattle.region.proofs.Entries.{vendor as vendor-part}
+use Rattle.values.proofs.Listed.{listed, listed-all}
+use Rattle.values.proofs.Sizes.{lengths}
+use Rattle.text.specs.Text.{Wrote}
+use Rattle.text.proofs.Writing.{wrote-none, wrote-append, wrote-as}
+use Rattle.report.specs.Varlist.{entryLine, valueLine, valueLines}
+use Rattle.report.proofs.Next.{Next}
 
 pub lines-append : (xs ys : List Value) → valueLines (xs ++ ys) ≡ valueLines xs ++ valueLines ys
 unfolding valueLines
 lines-append [] ys = refl
 lines-append (x ∷ xs) ys = rw (append-assoc, lines-append xs ys)
+
+-- the line of an entry's value, by what is read of the entry
+module _ (r : List ℕ) (a : ℕ) (e : numbers.Entry) {vendor name bytes : List ℕ}
+    (v : vendor ≡ vendorAt r a) (n : name ≡ entryAt r a e .name) (b : bytes ≡ entryAt r a e .bytes) where
+  pub entry-line : entryLine vendor name (e .attributes) (length bytes) ≡ valueLine (walk.entryValue (entryAt r a e))
+  unfolding valueLine entryAt walk.placed vendorAt
+  entry-line = rw (v, n, b)
+
+  -- and how long its parts can be
+  pub record Short : Type 0 where
+    pub vendor-short : length vendor ≤ 16
+    pub name-short : length name ≤ length r
+    pub name-same : length name ≡ length (entryAt r a e .name)
+    pub bytes-short : length bytes ≤ length r
+
+  pub short : Short
+  short =
+      let l = lengths r a e in
+      let g = ap length v in
+      let k = ap length n in
+      let d = ap length b in
+      let m : length (vendorAt r a) ≤ 16 = rw (vendor-part r a, length-take 16 (drop (a + 44) r)) (min-le-left 16 (length (drop (a + 44) r))) in
+      record { vendor-short = omega arith; name-short = omega (arith, l .whole); name-same = k; bytes-short = omega (arith, l .whole) }
+
+-- the lines of the values before an offset are written, from a place of a buffer on
+pub record Written (r : List ℕ) (at : ℕ) (out out′ : List ℕ) (next here : ℕ) : Type 0 where
+  pub text : List ℕ
+  pub whole : valueLines (values (entries r)) ≡ text ++ valueLines (listed r here)
+  pub wrote : Wrote text at out out′ next
+
+pub written-none : (r : List ℕ) (at : ℕ) (out : List ℕ) → Written r at out out at 28
+written-none r at out = record { text = []; whole = ap valueLines (listed-all r); wrote = wrote-none at out }
+
+pub written-line : {r : List ℕ} {at here a : ℕ} {e : numbers.Entry} {n n′ : ℕ} {l l′ l″ : List ℕ}
+    → Written r at l l′ n here → Next r here a e → Wrote (valueLine (walk.entryValue (entryAt r a e))) n l′ l″ n′
+    → Written r at l l″ n′ (a + rounded (60 + e .name + e .size))
+unfolding valueLines
+written-line {r} {a = a} {e} w x p = record {
+  text = w .text ++ valueLine (walk.entryValue (entryAt r a e));
+  whole = w .whole ∙ ap (λ (vs : List Value). w .text ++ valueLines vs) (x .list) ∙ sym (append-assoc (w .text) (valueLine (walk.entryValue (entryAt r a e))) (valueLines (listed r (a + rounded (60 + e .name + e .size)))));
+  wrote = wrote-append (w .wrote) p;
+}
+
+pub written-all : {r : List ℕ} {at here n : ℕ} {l l′ : List ℕ} → Written r at l l′ n here → listed r here ≡ [] → Wrote (valueLines (values (entries r))) at l l′ n
+unfolding valueLines
+written-all {r} {here = here} w p = wrote-as (sym (w .whole ∙ rw (p, append-nil))) (w .wrote)

@@ -1,9 +1,22 @@
-// The lines of the report that `varlist` prints, written into a lent buffer.
+// The report that `varlist` prints, written into a lent buffer.
 ghost use mathlib.Core.Path.{_≡_};
 ghost use Prim.Native.Nat.{_+_, _*_, _%_, _^_, _<_, _≤_};
+ghost use mathlib.Core.List.{_++_};
 ghost use lib.ListN.{length};
+ghost use Rattle.model.specs.Entry.{rounded};
+ghost use Rattle.model.specs.Walk.{entryValue};
+ghost use Rattle.model.specs.Region.{entries, values};
+ghost use Rattle.model.specs.Answers.{ruleNumber};
+ghost use Rattle.region.specs.Walk.{entryAt};
 ghost use Rattle.text.specs.Text.{Wrote};
-ghost use Rattle.report.specs.Varlist.{field, summaryLine, keyText, entryLine, refusedLine};
+ghost use Rattle.report.specs.Varlist.{field, summaryLine, keyText, entryLine, valueLine, valueLines, refusedLine, varlistText};
+use image::Check;
+use layout::Entry;
+use model::Rule;
+use region::walk;
+use values::Found;
+use values::list;
+use values::lookup;
 
 // A word and a number behind it.
 fn put_field(out: &mut [u8], at: usize, word: &[u8], n: u32) -> usize
@@ -68,4 +81,85 @@ pub fn put_value(
     let next = text::put_hex_byte(out, next, low_byte(attributes));
     let next = put_field(out, next, b" ", size);
     text::put_byte(out, next, b'\n')
+}
+
+// The line of the value that an entry holds.
+fn put_entry(out: &mut [u8], at: usize, region: &[u8], place: usize, e: Entry) -> usize
+    requires { ⌜ (at < 2 ^ 40) × (length (now region) ≤ 28672) ⌝ }
+    ensures { λ r. ⌜ Wrote (valueLine (entryValue (entryAt (now (region .entry)) place e))) at (now (out .entry)) (now (out .exit)) r × (r ≤ at + 48 + 2 * length (entryAt (now (region .entry)) place e .name)) ⌝ }
+{
+    let vendor = walk::vendor_of(region, place);
+    let name = walk::name_of(region, place, e);
+    let data = lookup::data_of(region, place, e);
+    put_value(out, at, vendor, name, e.attributes, data.len() as u32)
+}
+
+// The offset behind a value's entry, which is never an unfinished one.
+fn behind(place: usize, e: Entry) -> usize
+    requires { ⌜ place < 2 ^ 40 ⌝ }
+    ensures { λ r. ⌜ r ≡ place + rounded (60 + e .name + e .size) ⌝ }
+{
+    place + (60 + e.name as usize + e.size as usize + 3) / 4 * 4
+}
+
+// A line for each value in flash order.
+fn put_lines(region: &[u8], out: &mut [u8], at: usize) -> usize
+    requires { ⌜ (at < 2 ^ 32) × (length (now region) ≤ 28672) ⌝ }
+    ensures { λ r. ⌜ Wrote (valueLines (values (entries (now (region .entry))))) at (now (out .entry)) (now (out .exit)) r ⌝ }
+{
+    let mut next = at;
+    let mut here: usize = 28;
+    loop {
+        let f = list::next_value(region, here);
+        let Found::At(place, e) = f else {
+            return next;
+        };
+        next = put_entry(out, next, region, place, e);
+        here = behind(place, e);
+    }
+}
+
+// The report on an accepted store: the summary, then the values.
+fn put_store(region: &[u8], tail: usize, out: &mut [u8]) -> usize
+    requires { ⌜ (tail ≤ 28672) × (length (now region) ≤ 28672) ⌝ }
+    ensures { λ r. ⌜ Wrote (summaryLine (length (now (region .entry))) tail (length (values (entries (now (region .entry))))) ++ valueLines (values (entries (now (region .entry))))) 0 (now (out .entry)) (now (out .exit)) r ⌝ }
+{
+    let live = list::count(region);
+    let next = put_summary(out, 0, region.len() as u32, tail as u32, live as u32);
+    put_lines(region, out, next)
+}
+
+// The rules are numbered in checking order.
+fn number(rule: Rule) -> u32
+    ensures { λ r. ⌜ r ≡ ruleNumber rule ⌝ }
+{
+    match rule {
+        Rule::Length => 1,
+        Rule::Unready => 2,
+        Rule::Name => 3,
+        Rule::Attributes => 4,
+        Rule::KeyAttributes => 5,
+        Rule::Locked => 6,
+        Rule::Standing => 7,
+        Rule::Descriptor => 8,
+        Rule::Verdict => 9,
+        Rule::Stamp => 10,
+        Rule::Absent => 11,
+        Rule::DataSize => 12,
+        Rule::Room => 13,
+        Rule::Buffer => 14,
+        Rule::LockPhase => 15,
+        Rule::LockSpace => 16,
+    }
+}
+
+// What `varlist` prints of an image, checked as a call checks it.
+pub fn report(image: &[u8], out: &mut [u8]) -> usize
+    ensures { λ r. ⌜ Wrote (varlistText (now (image .entry))) 0 (now (out .entry)) (now (out .exit)) r ⌝ }
+{
+    let c = image::check_call(image);
+    match c {
+        Check::Ready(b, tail) => put_store(slices::cut(image, 0, 4096 * b), tail, out),
+        Check::Refused(rule) => put_refused(out, 0, number(rule)),
+    }
 }

@@ -1,0 +1,10 @@
+// varlist: reads an image on standard input and prints its variables, or the rule that it breaks.
+use libc::STDOUT_FILENO;
+
+fn main() {
+    let mut image = io::large_buffer();
+    let n = io::read_full(0, &mut image);
+    let mut out = io::large_buffer();
+    let length = report::report(&image[..n], &mut out);
+    io::write_all(STDOUT_FILENO, slices::cut(&out, 0, length));
+}
