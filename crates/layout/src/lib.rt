@@ -28,14 +28,14 @@ fn wide(x: u8) -> u32
 }
 
 // Little-endian fields.
-pub fn u16_at(s: &[u8], i: usize) -> u32
+fn u16_at(s: &[u8], i: usize) -> u32
     requires { ⌜ i + 2 ≤ length (now s) ⌝ }
     ensures { λ r. ⌜ (r ≡ u16At (now (s .entry)) i) × (r < 65536) ⌝ }
 {
     wide(s[i]) + 256 * wide(s[i + 1])
 }
 
-pub fn u32_at(s: &[u8], i: usize) -> u32
+fn u32_at(s: &[u8], i: usize) -> u32
     requires { ⌜ i + 4 ≤ length (now s) ⌝ }
     ensures { λ r. ⌜ r ≡ u32At (now (s .entry)) i ⌝ }
 {

@@ -28,7 +28,7 @@ fn put_field(out: &mut [u8], at: usize, word: &[u8], n: u32) -> usize
 }
 
 // An image that a call refuses, by the number of the rule.
-pub fn put_refused(out: &mut [u8], at: usize, rule: u32) -> usize
+fn put_refused(out: &mut [u8], at: usize, rule: u32) -> usize
     requires { ⌜ at < 2 ^ 60 ⌝ }
     ensures { λ r. ⌜ Wrote (refusedLine rule) at (now (out .entry)) (now (out .exit)) r ⌝ }
 {
@@ -37,7 +37,7 @@ pub fn put_refused(out: &mut [u8], at: usize, rule: u32) -> usize
 }
 
 // The first line: region length, tail offset, number of values.
-pub fn put_summary(out: &mut [u8], at: usize, size: u32, used: u32, live: u32) -> usize
+fn put_summary(out: &mut [u8], at: usize, size: u32, used: u32, live: u32) -> usize
     requires { ⌜ at < 2 ^ 60 ⌝ }
     ensures { λ r. ⌜ Wrote (summaryLine size used live) at (now (out .entry)) (now (out .exit)) r × (r ≤ at + 50) ⌝ }
 {
@@ -66,7 +66,7 @@ fn low_byte(n: u32) -> u8
 }
 
 // The line of a value: GUID, name bytes, attributes, data size.
-pub fn put_value(
+fn put_value(
     out: &mut [u8],
     at: usize,
     vendor: &[u8],
