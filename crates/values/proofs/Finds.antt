@@ -1,18 +1,24 @@
 -- The first entry that passes a test, from an offset on: it is the entry there, if that passes, and else the first from the next offset on.
 -- Assumes nothing.
 use Prim.Native.Nat.{ℕ}
-use mathlib.Core.Path.{_≡_, refl, ap, _∙_}
-use mathlib.Core.Bool.{Bool, true, false, cond}
+use mathlib.Core.Path.{_≡_, refl, sym, ap, _∙_}
+use mathlib.Core.Logic.{_≢_}
+use mathlib.Core.Bool.{Bool, true, false}
 use mathlib.Core.List.{List, []}
 use mathlib.Core.Option.{Option, none, some}
+use lib.Dec.{eqb}
+use borrow.Author.Tests.{ne-eqb, eqb-true}
 use Rattle.model.specs.Lists.{first, orElse}
+use Rattle.model.specs.Name.{Key, sameKey}
 use Rattle.model.specs.Walk as walk
+use Rattle.model.specs.Region.{isEntry}
+use Rattle.model.proofs.Tests.{and-split}
 use Rattle.model.specs.Region.{from}
 use Rattle.layout.specs.Head.{numbersOf}
 use Rattle.layout.specs.declared.Entry as numbers
 use Rattle.region.specs.Walk.{entryAt}
 use Rattle.region.proofs.Turns.{Turned}
-use Rattle.values.specs.Found.{foundOf, entryFound, elseFound}
+use Rattle.values.specs.Found.{foundOf, elseFound}
 use Rattle.values.specs.declared.Found.{Found}
 use Rattle.values.specs.declared.Found.the-variants.{At, Nothing}
 
@@ -41,13 +47,17 @@ module _ (r : List ℕ) (at : ℕ) (e : numbers.Entry) (k : ℕ) (w : Turned r a
   found-next h = ap (λ (es : List walk.Entry). foundOf (first f es)) (w .walk) ∙ rw h
 
   -- with what was found before
-  pub found-turn : (g : Found)
-      → elseFound g (foundOf (first f (from r at))) ≡ elseFound (elseFound g (entryFound f (entryAt r at e))) (foundOf (first f (from r k)))
-  found-turn (At a n) = refl
-  found-turn Nothing = ap (λ (es : List walk.Entry). foundOf (first f es)) (w .walk) ∙ go (f (entryAt r at e))
-    where
-      go : (t : Bool)
-          → foundOf (cond t (some (entryAt r at e)) (first f (from r k)))
-          ≡ elseFound (cond t (foundOf (some (entryAt r at e))) Nothing) (foundOf (first f (from r k)))
-      go true = refl
-      go false = refl
+  pub found-hit : (g : Found) → f (entryAt r at e) ≡ true
+      → elseFound g (foundOf (first f (from r at))) ≡ elseFound (elseFound g (At at e)) (foundOf (first f (from r k)))
+  found-hit (At a n) h = refl
+  found-hit Nothing h = found-here h
+
+  pub found-miss : (g : Found) → f (entryAt r at e) ≡ false
+      → elseFound g (foundOf (first f (from r at))) ≡ elseFound g (foundOf (first f (from r k)))
+  found-miss g h = ap (elseFound g) (found-next h)
+
+-- an entry is in one state
+pub one-state : (s t : ℕ) (k : Key) (x : walk.Entry) → s ≢ t → isEntry s k x ≡ true → isEntry t k x ≡ false
+one-state s t k x n h =
+    let p = and-split (eqb (walk.stateOf x) s) (sameKey (walk.entryKey x) k) h in
+    rw (ne-eqb (walk.stateOf x) t (λ q. n (sym (eqb-true (walk.stateOf x) s (p .0)) ∙ q)))

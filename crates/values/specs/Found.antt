@@ -1,5 +1,4 @@
 -- What is found among the entries of a region, by offset and numbers.
-use mathlib.Core.Bool.{Bool, cond}
 use mathlib.Core.Option.{Option, none, some}
 use Rattle.model.specs.Walk.{Entry}
 use Rattle.layout.specs.Head.{numbersOf}
@@ -10,10 +9,6 @@ use Rattle.values.specs.declared.Found.the-variants.{At, Nothing}
 abbrev pub foundOf : Option Entry → Found
 foundOf (some e) = At (e .at) (numbersOf (e .header))
 foundOf none = Nothing
-
--- an entry, if it passes a test
-abbrev pub entryFound : (Entry → Bool) → Entry → Found
-entryFound f e = cond (f e) (foundOf (some e)) Nothing
 
 -- one or the other
 abbrev pub elseFound : Found → Found → Found

@@ -25,13 +25,9 @@ fn is_value(region: &[u8], at: usize, e: Entry) -> bool
     if e.state != 0x3E {
         return false;
     }
-    let f = lookup::find_from(
-        region,
-        28,
-        0x3F,
-        walk::name_of(region, at, e),
-        walk::vendor_of(region, at),
-    );
+    let name = walk::name_of(region, at, e);
+    let vendor = walk::vendor_of(region, at);
+    let f = lookup::find_from(region, 28, 0x3F, name, vendor);
     match f {
         Found::At(_, _) => false,
         Found::Nothing => true,

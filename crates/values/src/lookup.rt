@@ -4,7 +4,7 @@ ghost use Rattle.model.specs.Lists.{first};
 ghost use Rattle.model.specs.Region.{entries, isEntry, added, replacing, standing};
 ghost use Rattle.model.specs.Region.{from};
 ghost use Rattle.region.specs.Walk.{entryAt, keyed};
-ghost use Rattle.values.specs.Found.{foundOf, entryFound, elseFound};
+ghost use Rattle.values.specs.Found.{foundOf, elseFound};
 use crate::Found;
 use crate::Places;
 use layout::Entry;
@@ -41,27 +41,13 @@ pub fn find_from(region: &[u8], at: usize, state: u8, name: &[u8], vendor: &[u8]
     }
 }
 
-// What was found before, else this entry if it is in the state under the name and GUID.
-fn or_entry(
-    found: Found,
-    region: &[u8],
-    at: usize,
-    e: Entry,
-    state: u8,
-    name: &[u8],
-    vendor: &[u8],
-) -> Found
-    ensures { λ r. ⌜ r ≡ elseFound found (entryFound (isEntry state (keyed (now (name .entry)) (now (vendor .entry)))) (entryAt (now (region .entry)) at e)) ⌝ }
+// What was found before, else this entry.
+fn or_entry(found: Found, at: usize, e: Entry) -> Found
+    ensures { λ r. ⌜ r ≡ elseFound found (Found.At at e) ⌝ }
 {
     match found {
         Found::At(_, _) => found,
-        Found::Nothing => {
-            if walk::is_entry(region, at, e, state, name, vendor) {
-                Found::At(at, e)
-            } else {
-                Found::Nothing
-            }
-        }
+        Found::Nothing => Found::At(at, e),
     }
 }
 
@@ -78,8 +64,13 @@ pub fn places(region: &[u8], name: &[u8], vendor: &[u8]) -> Places
         let Turn::Entry(e, next) = t else {
             return Places { added, replacing };
         };
-        added = or_entry(added, region, at, e, 0x3F, name, vendor);
-        replacing = or_entry(replacing, region, at, e, 0x3E, name, vendor);
+        if walk::is_entry(region, at, e, 0x3F, name, vendor) {
+            added = or_entry(added, at, e);
+        } else {
+            if walk::is_entry(region, at, e, 0x3E, name, vendor) {
+                replacing = or_entry(replacing, at, e);
+            }
+        }
         at = next;
     }
 }
@@ -98,7 +89,9 @@ pub fn find(region: &[u8], name: &[u8], vendor: &[u8]) -> Found
         if walk::is_entry(region, at, e, 0x3F, name, vendor) {
             return Found::At(at, e);
         }
-        replacing = or_entry(replacing, region, at, e, 0x3E, name, vendor);
+        if walk::is_entry(region, at, e, 0x3E, name, vendor) {
+            replacing = or_entry(replacing, at, e);
+        }
         at = next;
     }
 }

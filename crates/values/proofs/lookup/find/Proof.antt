@@ -3,7 +3,7 @@
 -- Assumes nothing.
 use Prim.Native.Nat.{_-_}
 use native.Mathlib.Omega.{arith}
-use mathlib.Core.Path.{_≡_, sym, ap, _∙_}
+use mathlib.Core.Path.{_≡_, sym, ap, ap₂, _∙_}
 use lib.ListN.{length}
 use denote.Ref.{now}
 use borrow.Author.Needs.{needs}
@@ -13,7 +13,7 @@ use Rattle.model.specs.Region.{from}
 use Rattle.region.specs.Walk.{keyed}
 use Rattle.region.proofs.Turns.{turned, stopped}
 use Rattle.values.specs.Found.{foundOf, elseFound}
-use Rattle.values.proofs.Finds.{found-else, found-none, found-here, found-next, found-turn, else-none}
+use Rattle.values.proofs.Finds.{found-else, found-none, found-here, found-next, found-hit, found-miss, else-none}
 use Rattle.values.proofs.lookup.find.Statement.{statement}
 use Rattle.values.proofs.lookup.find.Tie as tie
 
@@ -68,31 +68,52 @@ returns-2 c =
     ∙ ap (λ g. elseFound g (elseFound (l .loop .replacing) (foundOf (first (isEntry 0x3E k) (from r (l .loop .at))))))
     (found-here r (l .loop .at) (t .0 .0) (t .0 .1 .0) w (isEntry 0x3F k) (sym (c .before .is-entry .ensures) ∙ c .if1 .taken)))
 
+is-entry-requires-2 : tie.Need-is-entry-requires-2 Inv-loop μ-loop
+is-entry-requires-2 c κs = search needs
+
 or-entry-requires : tie.Need-or-entry-requires Inv-loop μ-loop
 or-entry-requires c κs = search needs
 
 loop-less : tie.Need-loop-less Inv-loop μ-loop
 loop-less c =
-    let l = c .before .before .before .before .before .before .before in
-    let t = c .before .before .before .before .t .given in
-    let w = turned (now (l .before .before .before .before .args .region)) (l .loop .at) (t .0 .0) (t .0 .1 .0) (sym (c .before .before .before .before .before .before .turn .ensures) ∙ t .1) in
+    let l = c .before .before .before .before .before .before .before .before .before in
+    let t = c .before .before .before .before .before .before .t .given in
+    let w = turned (now (l .before .before .before .before .args .region)) (l .loop .at) (t .0 .0) (t .0 .1 .0) (sym (c .before .before .before .before .before .before .before .before .turn .ensures) ∙ t .1) in
     omega arith
 
 loop-again : tie.Need-loop-again Inv-loop μ-loop
 loop-again c =
-    let l = c .before .before .before .before .before .before .before in
+    let l = c .before .before .before .before .before .before .before .before .before in
     let a = l .before .before .before .before .args in
     let r = now (a .region) in
     let k = keyed (now (a .name)) (now (a .vendor)) in
-    let t = c .before .before .before .before .t .given in
-    let next = t .0 .1 .0 in
-    let w = turned r (l .loop .at) (t .0 .0) next (sym (c .before .before .before .before .before .before .turn .ensures) ∙ t .1) in
+    let t = c .before .before .before .before .before .before .t .given in
+    let w = turned r (l .loop .at) (t .0 .0) (t .0 .1 .0) (sym (c .before .before .before .before .before .before .before .before .turn .ensures) ∙ t .1) in
     l .loop .inv
-    ∙ ap (λ g. elseFound g (elseFound (l .loop .replacing) (foundOf (first (isEntry 0x3E k) (from r (l .loop .at))))))
-    (found-next r (l .loop .at) (t .0 .0) next w (isEntry 0x3F k) (sym (c .before .before .is-entry .ensures) ∙ c .before .if1 .left))
-    ∙ ap (elseFound (foundOf (first (isEntry 0x3F k) (from r next))))
-    (found-turn r (l .loop .at) (t .0 .0) next w (isEntry 0x3E k) (l .loop .replacing)
-    ∙ ap (λ g. elseFound g (foundOf (first (isEntry 0x3E k) (from r next)))) (sym (c .or-entry .ensures)))
+    ∙ ap₂ elseFound
+    (found-next r (l .loop .at) (t .0 .0) (t .0 .1 .0) w (isEntry 0x3F k) (sym (c .before .before .before .before .is-entry .ensures) ∙ c .before .before .before .if1 .left))
+    (found-hit r (l .loop .at) (t .0 .0) (t .0 .1 .0) w (isEntry 0x3E k) (l .loop .replacing) (sym (c .before .before .is-entry2 .ensures) ∙ c .before .if2 .taken)
+    ∙ ap (λ g. elseFound g (foundOf (first (isEntry 0x3E k) (from r (t .0 .1 .0))))) (sym (c .or-entry .ensures)))
+
+loop-less-2 : tie.Need-loop-less-2 Inv-loop μ-loop
+loop-less-2 c =
+    let l = c .before .before .before .before .before .before .before .before in
+    let t = c .before .before .before .before .before .t .given in
+    let w = turned (now (l .before .before .before .before .args .region)) (l .loop .at) (t .0 .0) (t .0 .1 .0) (sym (c .before .before .before .before .before .before .before .turn .ensures) ∙ t .1) in
+    omega arith
+
+loop-again-2 : tie.Need-loop-again-2 Inv-loop μ-loop
+loop-again-2 c =
+    let l = c .before .before .before .before .before .before .before .before in
+    let a = l .before .before .before .before .args in
+    let r = now (a .region) in
+    let k = keyed (now (a .name)) (now (a .vendor)) in
+    let t = c .before .before .before .before .before .t .given in
+    let w = turned r (l .loop .at) (t .0 .0) (t .0 .1 .0) (sym (c .before .before .before .before .before .before .before .turn .ensures) ∙ t .1) in
+    l .loop .inv
+    ∙ ap₂ elseFound
+    (found-next r (l .loop .at) (t .0 .0) (t .0 .1 .0) w (isEntry 0x3F k) (sym (c .before .before .before .is-entry .ensures) ∙ c .before .before .if1 .left))
+    (found-miss r (l .loop .at) (t .0 .0) (t .0 .1 .0) w (isEntry 0x3E k) (l .loop .replacing) (sym (c .before .is-entry2 .ensures) ∙ c .if2 .left))
 
 pub find-spec : {M : Type 1} → statement M
 find-spec =
@@ -107,6 +128,9 @@ find-spec =
     returns
     is-entry-requires
     returns-2
+    is-entry-requires-2
     or-entry-requires
     loop-less
-    loop-again)
+    loop-again
+    loop-less-2
+    loop-again-2)

@@ -10,10 +10,10 @@ use borrow.Author.Needs.{needs}
 use Rattle.model.specs.Lists.{first}
 use Rattle.model.specs.Region.{entries, isEntry, added, replacing}
 use Rattle.model.specs.Region.{from}
-use Rattle.region.specs.Walk.{keyed}
+use Rattle.region.specs.Walk.{entryAt, keyed}
 use Rattle.region.proofs.Turns.{turned, stopped}
 use Rattle.values.specs.Found.{foundOf, elseFound}
-use Rattle.values.proofs.Finds.{found-turn, else-none}
+use Rattle.values.proofs.Finds.{found-hit, found-miss, else-none, one-state}
 use Rattle.values.proofs.lookup.places.Statement.{statement}
 use Rattle.values.proofs.lookup.places.Tie as tie
 
@@ -49,31 +49,76 @@ returns c =
       sym (l .loop .inv .1 ∙ else-none r (l .loop .at) (isEntry 0x3E k) end (l .loop .replacing)),
     )
 
+is-entry-requires : tie.Need-is-entry-requires Inv-loop μ-loop
+is-entry-requires c κs = search needs
+
 or-entry-requires : tie.Need-or-entry-requires Inv-loop μ-loop
 or-entry-requires c κs = search needs
+
+is-entry-requires-2 : tie.Need-is-entry-requires-2 Inv-loop μ-loop
+is-entry-requires-2 c κs = search needs
 
 or-entry-requires-2 : tie.Need-or-entry-requires-2 Inv-loop μ-loop
 or-entry-requires-2 c κs = search needs
 
 loop-less : tie.Need-loop-less Inv-loop μ-loop
 loop-less c =
-    let l = c .before .before .before .before .before .before in
-    let t = c .before .before .before .t .given in
-    let w = turned (now (l .before .before .before .before .args .region)) (l .loop .at) (t .0 .0) (t .0 .1 .0) (sym (c .before .before .before .before .before .turn .ensures) ∙ t .1) in
+    let l = c .before .before .before .before .before .before .before in
+    let t = c .before .before .before .before .t .given in
+    let w = turned (now (l .before .before .before .before .args .region)) (l .loop .at) (t .0 .0) (t .0 .1 .0) (sym (c .before .before .before .before .before .before .turn .ensures) ∙ t .1) in
     omega arith
 
 loop-again : tie.Need-loop-again Inv-loop μ-loop
 loop-again c =
-    let l = c .before .before .before .before .before .before in
+    let l = c .before .before .before .before .before .before .before in
     let a = l .before .before .before .before .args in
     let r = now (a .region) in
     let k = keyed (now (a .name)) (now (a .vendor)) in
-    let t = c .before .before .before .t .given in
-    let w = turned r (l .loop .at) (t .0 .0) (t .0 .1 .0) (sym (c .before .before .before .before .before .turn .ensures) ∙ t .1) in (
-      l .loop .inv .0 ∙ found-turn r (l .loop .at) (t .0 .0) (t .0 .1 .0) w (isEntry 0x3F k) (l .loop .added)
-          ∙ ap (λ g. elseFound g (foundOf (first (isEntry 0x3F k) (from r (t .0 .1 .0))))) (sym (c .before .or-entry .ensures)),
-      l .loop .inv .1 ∙ found-turn r (l .loop .at) (t .0 .0) (t .0 .1 .0) w (isEntry 0x3E k) (l .loop .replacing)
+    let t = c .before .before .before .before .t .given in
+    let w = turned r (l .loop .at) (t .0 .0) (t .0 .1 .0) (sym (c .before .before .before .before .before .before .turn .ensures) ∙ t .1) in
+    let hit = sym (c .before .before .is-entry .ensures) ∙ c .before .if1 .taken in (
+      l .loop .inv .0 ∙ found-hit r (l .loop .at) (t .0 .0) (t .0 .1 .0) w (isEntry 0x3F k) (l .loop .added) hit
+          ∙ ap (λ g. elseFound g (foundOf (first (isEntry 0x3F k) (from r (t .0 .1 .0))))) (sym (c .or-entry .ensures)),
+      l .loop .inv .1 ∙ found-miss r (l .loop .at) (t .0 .0) (t .0 .1 .0) w (isEntry 0x3E k) (l .loop .replacing) (one-state 0x3F 0x3E k (entryAt r (l .loop .at) (t .0 .0)) (λ q. omega arith) hit),
+    )
+
+loop-less-2 : tie.Need-loop-less-2 Inv-loop μ-loop
+loop-less-2 c =
+    let l = c .before .before .before .before .before .before .before .before .before in
+    let t = c .before .before .before .before .before .before .t .given in
+    let w = turned (now (l .before .before .before .before .args .region)) (l .loop .at) (t .0 .0) (t .0 .1 .0) (sym (c .before .before .before .before .before .before .before .before .turn .ensures) ∙ t .1) in
+    omega arith
+
+loop-again-2 : tie.Need-loop-again-2 Inv-loop μ-loop
+loop-again-2 c =
+    let l = c .before .before .before .before .before .before .before .before .before in
+    let a = l .before .before .before .before .args in
+    let r = now (a .region) in
+    let k = keyed (now (a .name)) (now (a .vendor)) in
+    let t = c .before .before .before .before .before .before .t .given in
+    let w = turned r (l .loop .at) (t .0 .0) (t .0 .1 .0) (sym (c .before .before .before .before .before .before .before .before .turn .ensures) ∙ t .1) in (
+      l .loop .inv .0 ∙ found-miss r (l .loop .at) (t .0 .0) (t .0 .1 .0) w (isEntry 0x3F k) (l .loop .added) (sym (c .before .before .before .before .is-entry .ensures) ∙ c .before .before .before .if1 .left),
+      l .loop .inv .1 ∙ found-hit r (l .loop .at) (t .0 .0) (t .0 .1 .0) w (isEntry 0x3E k) (l .loop .replacing) (sym (c .before .before .is-entry2 .ensures) ∙ c .before .if2 .taken)
           ∙ ap (λ g. elseFound g (foundOf (first (isEntry 0x3E k) (from r (t .0 .1 .0))))) (sym (c .or-entry2 .ensures)),
+    )
+
+loop-less-3 : tie.Need-loop-less-3 Inv-loop μ-loop
+loop-less-3 c =
+    let l = c .before .before .before .before .before .before .before .before in
+    let t = c .before .before .before .before .before .t .given in
+    let w = turned (now (l .before .before .before .before .args .region)) (l .loop .at) (t .0 .0) (t .0 .1 .0) (sym (c .before .before .before .before .before .before .before .turn .ensures) ∙ t .1) in
+    omega arith
+
+loop-again-3 : tie.Need-loop-again-3 Inv-loop μ-loop
+loop-again-3 c =
+    let l = c .before .before .before .before .before .before .before .before in
+    let a = l .before .before .before .before .args in
+    let r = now (a .region) in
+    let k = keyed (now (a .name)) (now (a .vendor)) in
+    let t = c .before .before .before .before .before .t .given in
+    let w = turned r (l .loop .at) (t .0 .0) (t .0 .1 .0) (sym (c .before .before .before .before .before .before .before .turn .ensures) ∙ t .1) in (
+      l .loop .inv .0 ∙ found-miss r (l .loop .at) (t .0 .0) (t .0 .1 .0) w (isEntry 0x3F k) (l .loop .added) (sym (c .before .before .before .is-entry .ensures) ∙ c .before .before .if1 .left),
+      l .loop .inv .1 ∙ found-miss r (l .loop .at) (t .0 .0) (t .0 .1 .0) w (isEntry 0x3E k) (l .loop .replacing) (sym (c .before .is-entry2 .ensures) ∙ c .if2 .left),
     )
 
 pub places-spec : {M : Type 1} → statement M
@@ -87,7 +132,13 @@ places-spec =
     enum-known-t
     enum-told
     returns
+    is-entry-requires
     or-entry-requires
+    is-entry-requires-2
     or-entry-requires-2
     loop-less
-    loop-again)
+    loop-again
+    loop-less-2
+    loop-again-2
+    loop-less-3
+    loop-again-3)
