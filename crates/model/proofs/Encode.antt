@@ -488,9 +488,12 @@ kept-distinct es (e ∷ ys) w u =
     (λ p ih. (value-alone es ys (entryKey e) w′ (rw (value-live es e p, value-state es ys e w p) at (not-true (live e && some) (m .0))), ih))
     (kept-distinct es ys w′ (m .1))
 
-pub sound-distinct : (r : List ℕ) → Chunked r → Distinct (values (entries r))
+pub values-distinct : (es : List Entry) → undoubled es ≡ true → Distinct (values es)
 unfolding values
-sound-distinct r c = rw (made-entries (c .made)) (kept-distinct _ _ (λ k h. h) (parts r c .single))
+values-distinct es u = kept-distinct es es (λ k h. h) u
+
+pub sound-distinct : (r : List ℕ) → Chunked r → Distinct (values (entries r))
+sound-distinct r c = rw (made-entries (c .made)) (values-distinct _ (parts r c .single))
 
 pub sound-fits : (r : List ℕ) → Chunked r → spaceOf (values (entries r)) ≤ length r
 unfolding spaceOf

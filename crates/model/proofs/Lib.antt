@@ -1,18 +1,6 @@
--- Laws about the definitions, and the cases that are proved of them.
--- Every definition opened at once, for proofs by evaluation
-pub mod Evaluated
+-- Laws about the definitions.
 -- Lists of stores: composition, and what a run of bytes leaves
 pub mod Stores
--- Lists of stores as pieces laid over an image
-pub mod Pieces
--- A row of a table of cases, and what the rows are made of
-pub mod Row
--- The cases with a star of "Values to try": one table, one theorem
-pub mod Table
--- Cases beyond those with a star
-pub mod Readings
--- Calls that make no stores, and formatting
-pub mod Replies
 -- Boolean tests, and tests of equal lists and names
 pub mod Tests
 -- One segment of an image under stores within it
@@ -31,3 +19,5 @@ pub mod Encode
 pub mod WorkBlock
 -- What the rules leave of a call that breaks none
 pub mod Requests
+-- A place of the lock list, and one more lock
+pub mod Locks

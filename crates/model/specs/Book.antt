@@ -1,4 +1,4 @@
--- 01, the run, the book and Demand 3; and the two claims about bits. Each claim is a type: `recovery` is to prove them.
+-- 01, the run, the book and Demand 3; and the two claims about bits. Each claim is a type; `recovery` proves them.
 use Prim.Native.Nat.{ℕ, _+_}
 use mathlib.Core.Path.{_≡_}
 use mathlib.Core.Bool.{Bool, true, false, _&&_, _||_}

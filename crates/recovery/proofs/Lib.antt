@@ -27,3 +27,5 @@ pub mod BitsOfCompaction
 pub mod BitsOfSets
 -- The two claims about bits, of every call
 pub mod Bits
+-- The interface: by their contracts, calls to it are a run
+pub mod Interface

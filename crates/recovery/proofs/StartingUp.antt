@@ -6,7 +6,7 @@ use native.Mathlib.Omega.{arith}
 use mathlib.Core.Path.{_≡_, refl, sym, ap, _∙_, subst}
 use mathlib.Core.Logic.{_⊎_, inl, inr}
 use mathlib.Core.Bool.{Bool, true, false, cond, not, _&&_, _||_, true≢false, false≢true}
-use mathlib.Core.List.{List, [], _++_}
+use mathlib.Core.List.{List, [], _++_, append-nil}
 use lib.ListN.{length, set, replicate, length-append, length-set, length-replicate}
 use Rattle.model.specs.Lists.{allFF}
 use Rattle.model.specs.Image.{block, rightLength, region, work, spare}
@@ -133,7 +133,7 @@ goes-then {P} f g {i} {j} {k} p q = goes-append p (rw (p .left) q)
 
 module _ (P : List ℕ → Type 0) {b : ℕ} {r w s : List ℕ} (p : Parts b r w s) where
   -- the spare's blocks, if it is not all FF
-  tidySpare-goes : (allFF s ≡ false → (x : List ℕ) → length x ≡ block * b → P (r ++ (w ++ x)))
+  pub tidySpare-goes : (allFF s ≡ false → (x : List ℕ) → length x ≡ block * b → P (r ++ (w ++ x)))
       → Goes P (tidySpare (r ++ (w ++ s))) (r ++ (w ++ s)) (r ++ (w ++ replicate (block * b) 0xFF))
   unfolding tidySpare
   tidySpare-goes f = rw (parts-spare p, parts-blocks p) (go (allFF s) refl)
@@ -155,7 +155,7 @@ module _ (P : List ℕ → Type 0) {b : ℕ} {r w s : List ℕ} (p : Parts b r w
     pub rested : idle w₁ ≡ true
     pub goes : Goes P (tidyWork (r ++ (w ++ s))) (r ++ (w ++ s)) (r ++ (w₁ ++ s))
 
-  tidyWork-goes : (idle w ≡ false → (x : List ℕ) → length x ≡ block → P (r ++ (x ++ s))) → Rested
+  pub tidyWork-goes : (idle w ≡ false → (x : List ℕ) → length x ≡ block → P (r ++ (x ++ s))) → Rested
   unfolding tidyWork
   tidyWork-goes f = go (idle w) refl
     where
@@ -248,7 +248,7 @@ unfolding pending
 is-pending p f e c = rw (parts-work p, parts-spare p) (true-and (true-and f e) c)
 
 -- nothing to resume
-resume-none : (img : List ℕ) → pending img ≡ false → resume img ≡ []
+pub resume-none : (img : List ℕ) → pending img ≡ false → resume img ≡ []
 unfolding resume
 resume-none img h = rw h
 
@@ -296,11 +296,17 @@ ready-rests img i =
     rw none (ready-tidy img i)
 
 -- pending: the compaction is finished, and nothing more is to do
+record Resumed (K : List Value) (img : List ℕ) : Type 0 where
+  end : List ℕ
+  goes : Goes (Holding K) (resume img) img end
+  ready : Ready end
+  held : valuesOf end ≡ K
+
 module _ (K : List Value) {b : ℕ} {r w s : List ℕ} (p : Parts b r w s)
     (formed : wellFormed w ≡ true) (ended : endsInFC w ≡ true) (cleaned : clean s ≡ true) (held : values (entries s) ≡ K) where
-  pub startUp-pending : Up (Holding K) K (r ++ (w ++ s))
-  unfolding startUpStores resume valuesOf
-  startUp-pending =
+  resumed : Resumed K (r ++ (w ++ s))
+  unfolding resume valuesOf
+  resumed =
       let i = usedRecords w - 1 in
       let w′ = set w i 0xF8 in
       let ff : List ℕ = replicate (block * b) 0xFF in
@@ -311,27 +317,42 @@ module _ (K : List Value) {b : ℕ} {r w s : List ℕ} (p : Parts b r w s)
         work-long = length-set w i 0xF8 ∙ p .work-long;
         spare-long = length-replicate (block * b) 0xFF;
       } in
-      let ready : Ready (s ++ (w′ ++ ff)) = record {
-        b = b;
-        r = s;
-        w = w′;
-        s = ff;
-        parts = e;
-        whole = refl;
-        cleaned = cleaned;
-        free = blank-allFF (block * b);
-        rested = work-last w (p .work-long) formed ended .finished;
-      } in
-      let first : Goes (Holding K) (resume (r ++ (w ++ s))) (r ++ (w ++ s)) (s ++ (w′ ++ ff)) =
-      rw (is-pending p formed ended cleaned, parts-work p, parts-spare p, parts-blocks p) (finish-goes K p formed ended cleaned held) in
       record {
         end = s ++ (w′ ++ ff);
-        goes =
-            goes-then resume (andThen tidySpare (andThen tidyWork tidyTail)) first
-            (rw (ready-tidy (s ++ (w′ ++ ff)) ready) (goes-nowhere (Holding K) (s ++ (w′ ++ ff))));
-        ready = ready;
+        goes = rw (is-pending p formed ended cleaned, parts-work p, parts-spare p, parts-blocks p) (finish-goes K p formed ended cleaned held);
+        ready = record {
+          b = b;
+          r = s;
+          w = w′;
+          s = ff;
+          parts = e;
+          whole = refl;
+          cleaned = cleaned;
+          free = blank-allFF (block * b);
+          rested = work-last w (p .work-long) formed ended .finished;
+        };
         held = rw (parts-region e) held;
       }
+
+  pub startUp-pending : Up (Holding K) K (r ++ (w ++ s))
+  unfolding startUpStores
+  startUp-pending =
+      let f = resumed in
+      record {
+        end = f .end;
+        goes =
+            goes-then resume (andThen tidySpare (andThen tidyWork tidyTail)) (f .goes)
+            (rw (ready-tidy (f .end) (f .ready)) (goes-nowhere (Holding K) (f .end)));
+        ready = f .ready;
+        held = f .held;
+      }
+
+  -- its stores are those of the resumption alone
+  resumed-alone : startUpStores (r ++ (w ++ s)) ≡ resume (r ++ (w ++ s))
+  unfolding startUpStores
+  resumed-alone =
+      let f = resumed in
+      rw (f .goes .left, ready-tidy (f .end) (f .ready)) (append-nil (resume (r ++ (w ++ s))))
 
 -- ---- from the invariant, and from any image that a start-up accepts
 
@@ -361,6 +382,14 @@ pending-parts {b} {r} {w} {s} p h =
     let c = and-split (wellFormed w && endsInFC w) (clean s) a in
     let d = and-split (wellFormed w) (endsInFC w) (c .0) in
     (d .0, d .1, c .1)
+
+-- a start-up that finds a compaction pending resumes it and makes no other stores
+pub resume-alone : (img : List ℕ) → rightLength img ≡ true → pending img ≡ true → startUpStores img ≡ resume img
+resume-alone img l h =
+    let i = right-parts img l in
+    let p = i .parts in
+    let a = pending-parts p (ap pending (sym (i .whole)) ∙ h) in
+    subst (λ (x : List ℕ). startUpStores x ≡ resume x) (sym (i .whole)) (resumed-alone (values (entries (i .s))) p (a .0) (a .1) (a .2) refl)
 
 begins : {b : ℕ} {r w s : List ℕ} → Parts b r w s → (t : Bool) → pending (r ++ (w ++ s)) ≡ t → (t || sound r) ≡ true → Begins (r ++ (w ++ s))
 begins {b} {r} {w} {s} p true e q =

@@ -1,2 +1,4 @@
 -- The claims beside Demand 3, which itself stands with the definitions in `model`.
 pub mod Claims
+-- The functions of the interface, and what holds of every list of calls to them
+pub mod Interface

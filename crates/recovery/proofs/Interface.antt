@@ -1,0 +1,67 @@
+-- What holds of every list of calls to the functions of the interface: by its contract each call is a step of a run, so Demand 3 speaks of it.
+-- Assumes nothing.
+use Prim.Native.Nat.{ℕ}
+use mathlib.Core.Path.{_≡_, sym, ap, _∙_, subst}
+use mathlib.Core.List.{List, []}
+use lib.Seq.{take-nil}
+use Rattle.model.specs.declared.Answer.{Answer}
+use Rattle.model.specs.declared.Session.{Session}
+use Rattle.model.specs.declared.Rule.{Rule}
+use mathlib.Core.Option.{Option, none, some}
+use Rattle.model.specs.Lists.{onSome}
+use Rattle.model.specs.Name.{Key}
+use Rattle.model.specs.Entry.{Value}
+use Rattle.model.specs.Region.{valuesOf}
+use Rattle.model.specs.Rules.{getBroken, nextBroken}
+use Rattle.model.specs.Stores.{after, applyAll}
+use Rattle.model.specs.Set.{refuse, make}
+use Rattle.model.specs.Answers.{Outcome, answerOf, outcome, imageAfter, storesOf, decided, getPlan, nextPlan}
+use Rattle.model.specs.Book.{Call, set, get, next, startUp, planOf, counts, bookAfter, Run, begin, ran, cut, StartedUp}
+use Rattle.recovery.specs.Interface.{Returned, Calls, none-yet, returned, power-failed, InterfaceKeepsTheBook}
+use Rattle.recovery.proofs.Theorem.{demand3}
+
+-- get and next-name make no stores
+none-made : (n : ℕ) (o : Option Rule) (img : List ℕ) → imageAfter n (onSome o refuse (make [] [])) img ≡ img
+unfolding imageAfter storesOf after applyAll
+none-made n (some rule) img = rw take-nil
+none-made n none img = rw take-nil
+
+get-image : (n : ℕ) (s : Session) (k : Key) (buffer img : List ℕ) → imageAfter n (getPlan s k buffer img) img ≡ img
+unfolding getPlan
+get-image n s k buffer img = none-made n (getBroken s k buffer img) img
+
+next-image : (n : ℕ) (s : Session) (k : Key) (buffer img : List ℕ) → imageAfter n (nextPlan s k buffer img) img ≡ img
+unfolding nextPlan
+next-image n s k buffer img = none-made n (nextBroken s k buffer img) img
+
+-- a call that returned did what its plan says
+record Step (c : Call) (n : ℕ) (img img′ : List ℕ) (a : Answer) : Type 0 where
+  told : answerOf a ≡ outcome n (planOf c img)
+  left : img′ ≡ imageAfter n (planOf c img) img
+
+step-of : (c : Call) (n : ℕ) (img img′ : List ℕ) (a : Answer) → Returned c n img img′ a → Step c n img img′ a
+unfolding planOf
+step-of (set s r) n img img′ a m = record { told = m .0; left = m .1 }
+step-of (get s k buffer) n img img′ a m = record { told = m .0; left = m .1 ∙ sym (get-image n s k buffer img) }
+step-of (next s k buffer) n img img′ a m = record { told = m .0; left = m .1 ∙ sym (next-image n s k buffer img) }
+step-of (startUp custom reserve) n img img′ a m = record { told = m .0; left = m .1 }
+
+-- so the calls are a run
+pub calls-run : {start img : List ℕ} {book : List Value} → Calls start img book → Run start img book
+calls-run none-yet = begin
+calls-run {start} (returned {img} {img′} {book} calls c sized n a m) =
+    let s = step-of c n img img′ a m in
+    subst
+    (λ (x : List ℕ). Run start x (bookAfter c (counts (answerOf a) (decided n (planOf c img))) book))
+    (sym (s .left))
+    (subst
+    (λ (o : Outcome). Run start (imageAfter n (planOf c img) img) (bookAfter c (counts o (decided n (planOf c img))) book))
+    (sym (s .told))
+    (ran (calls-run calls) c sized n))
+calls-run (power-failed calls c sized k left) = cut (calls-run calls) c sized k left
+
+pub interface-keeps-the-book : InterfaceKeepsTheBook
+interface-keeps-the-book before start img img′ book custom reserve n stores custom′ reserve′ n′ stores′ bytes up calls again =
+    let began : StartedUp start = record { before = before; bytes = bytes; n = n; stores = stores; finished = sym (up .0); left = up .1 } in
+    let all = demand3 start _ _ began (ran (calls-run calls) (startUp custom′ reserve′) tt n′) in
+    ap valuesOf (again .1) ∙ all .1 stores′ (sym (again .0))

@@ -1,0 +1,13 @@
+-- Cases that are proved of the definitions, by evaluation on the real sizes.
+-- Every definition opened at once, for proofs by evaluation
+pub mod Evaluated
+-- Lists of stores as pieces laid over an image
+pub mod Pieces
+-- A row of a table of cases, and what the rows are made of
+pub mod Row
+-- The cases with a star of "Values to try": one table, one theorem
+pub mod Table
+-- Cases beyond those with a star
+pub mod Readings
+-- Calls that make no stores, and formatting
+pub mod Replies
