@@ -3,3 +3,5 @@
 pub mod Cut
 -- What a look at its parts tells
 pub mod Look
+-- What rules 1 and 2 tell of an image
+pub mod Ready

@@ -5,7 +5,7 @@
 use Prim.Native.Nat.{ℕ, _+_, _≤_}
 use mathlib.Core.Path.{_≡_, ap}
 use mathlib.Core.Logic.{_≢_}
-use mathlib.Core.Bool.{false, _&&_, and-false, and-comm}
+use mathlib.Core.Bool.{false, _&&_, and-false}
 use mathlib.Core.List.{List, []}
 use lib.ListN.{length, take, drop, drop-of-length-le}
 use lib.Dec.{eqb}
@@ -54,6 +54,6 @@ module _ (r : List ℕ) (at : ℕ) (e : numbers.Entry) (state : ℕ) (name guid 
   other-length h =
       rw (same-lengths (entryAt r at e .name) name h) (and-false (eqb (entryAt r at e .header .state) state))
 
-  pub by-key : e .state ≡ state → isEntry state (keyed name guid) (entryAt r at e) ≡ (same (vendorAt r at) guid && same (entryAt r at e .name) name)
+  pub by-key : e .state ≡ state → isEntry state (keyed name guid) (entryAt r at e) ≡ (same (entryAt r at e .name) name && same (vendorAt r at) guid)
   unfolding entryAt walk.placed vendorAt
-  by-key h = rw (eq-eqb (e .state) state h) (and-comm (same (entryAt r at e .name) name) (same (vendorAt r at) guid))
+  by-key h = rw (eq-eqb (e .state) state h)

@@ -68,7 +68,7 @@ pub fn vendor_of(region: &[u8], at: usize) -> &[u8]
     slices::cut(region, at + 44, 16)
 }
 
-// Whether an entry has this state, name and GUID; what is cheap to compare comes first.
+// Whether an entry has this state, name and GUID. What is cheap to compare comes first, and the name before the GUID: variables of one vendor differ early in their names.
 pub fn is_entry(region: &[u8], at: usize, e: Entry, state: u8, name: &[u8], vendor: &[u8]) -> bool
     ensures { λ r. ⌜ r ≡ isEntry state (keyed (now (name .entry)) (now (vendor .entry))) (entryAt (now (region .entry)) at e) ⌝ }
 {
@@ -79,8 +79,8 @@ pub fn is_entry(region: &[u8], at: usize, e: Entry, state: u8, name: &[u8], vend
     if own.len() != name.len() {
         return false;
     }
-    if slices::equal(vendor_of(region, at), vendor) {
-        slices::equal(own, name)
+    if slices::equal(own, name) {
+        slices::equal(vendor_of(region, at), vendor)
     } else {
         false
     }

@@ -18,7 +18,7 @@ use Rattle.values.proofs.Sizes.{lengths}
 use Rattle.text.specs.Text.{Wrote}
 use Rattle.text.proofs.Writing.{wrote-none, wrote-append, wrote-as}
 use Rattle.report.specs.Varlist.{entryLine, valueLine, valueLines}
-use Rattle.report.proofs.Next.{Next}
+use Rattle.values.proofs.Next.{Next}
 
 pub lines-append : (xs ys : List Value) → valueLines (xs ++ ys) ≡ valueLines xs ++ valueLines ys
 unfolding valueLines

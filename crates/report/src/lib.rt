@@ -3,16 +3,13 @@ ghost use mathlib.Core.Path.{_≡_};
 ghost use Prim.Native.Nat.{_+_, _*_, _%_, _^_, _<_, _≤_};
 ghost use mathlib.Core.List.{_++_};
 ghost use lib.ListN.{length};
-ghost use Rattle.model.specs.Entry.{rounded};
 ghost use Rattle.model.specs.Walk.{entryValue};
 ghost use Rattle.model.specs.Region.{entries, values};
-ghost use Rattle.model.specs.Answers.{ruleNumber};
 ghost use Rattle.region.specs.Walk.{entryAt};
 ghost use Rattle.text.specs.Text.{Wrote};
 ghost use Rattle.report.specs.Varlist.{field, summaryLine, keyText, entryLine, valueLine, valueLines, refusedLine, varlistText};
 use image::Check;
 use layout::Entry;
-use model::Rule;
 use region::walk;
 use values::Found;
 use values::list;
@@ -94,14 +91,6 @@ fn put_entry(out: &mut [u8], at: usize, region: &[u8], place: usize, e: Entry) -
     put_value(out, at, vendor, name, e.attributes, data.len() as u32)
 }
 
-// The offset behind a value's entry, which is never an unfinished one.
-fn behind(place: usize, e: Entry) -> usize
-    requires { ⌜ place < 2 ^ 40 ⌝ }
-    ensures { λ r. ⌜ r ≡ place + rounded (60 + e .name + e .size) ⌝ }
-{
-    place + (60 + e.name as usize + e.size as usize + 3) / 4 * 4
-}
-
 // A line for each value in flash order.
 fn put_lines(region: &[u8], out: &mut [u8], at: usize) -> usize
     requires { ⌜ (at < 2 ^ 32) × (length (now region) ≤ 28672) ⌝ }
@@ -115,7 +104,7 @@ fn put_lines(region: &[u8], out: &mut [u8], at: usize) -> usize
             return next;
         };
         next = put_entry(out, next, region, place, e);
-        here = behind(place, e);
+        here = list::behind(place, e);
     }
 }
 
@@ -129,30 +118,6 @@ fn put_store(region: &[u8], tail: usize, out: &mut [u8]) -> usize
     put_lines(region, out, next)
 }
 
-// The rules are numbered in checking order.
-fn number(rule: Rule) -> u32
-    ensures { λ r. ⌜ r ≡ ruleNumber rule ⌝ }
-{
-    match rule {
-        Rule::Length => 1,
-        Rule::Unready => 2,
-        Rule::Name => 3,
-        Rule::Attributes => 4,
-        Rule::KeyAttributes => 5,
-        Rule::Locked => 6,
-        Rule::Standing => 7,
-        Rule::Descriptor => 8,
-        Rule::Verdict => 9,
-        Rule::Stamp => 10,
-        Rule::Absent => 11,
-        Rule::DataSize => 12,
-        Rule::Room => 13,
-        Rule::Buffer => 14,
-        Rule::LockPhase => 15,
-        Rule::LockSpace => 16,
-    }
-}
-
 // What `varlist` prints of an image, checked as a call checks it.
 pub fn report(image: &[u8], out: &mut [u8]) -> usize
     ensures { λ r. ⌜ Wrote (varlistText (now (image .entry))) 0 (now (out .entry)) (now (out .exit)) r ⌝ }
@@ -160,6 +125,6 @@ pub fn report(image: &[u8], out: &mut [u8]) -> usize
     let c = image::check_call(image);
     match c {
         Check::Ready(b, tail) => put_store(slices::cut(image, 0, 4096 * b), tail, out),
-        Check::Refused(rule) => put_refused(out, 0, number(rule)),
+        Check::Refused(rule) => put_refused(out, 0, model::number(rule)),
     }
 }

@@ -1,12 +1,16 @@
 -- Texts written one behind the other are one text written: storing a joined list is storing its parts in turn, by induction over the first.
 -- Assumes nothing.
-use Prim.Native.Nat.{ℕ, suc, _+_, _<_}
+use Prim.Native.Nat.{ℕ, suc, _+_, _-_, _≤_, _<_, min}
 use native.Mathlib.Nat.{add-zero, add-assoc, add-suc, suc-add}
 use native.Mathlib.Numerals.{add-one}
+use native.Mathlib.Omega.{arith}
 use mathlib.Core.Path.{_≡_, refl, sym, ap, subst, _∙_}
+use mathlib.Core.Bool.{Bool, true, false}
 use mathlib.Core.List.{List, [], _∷_, _++_}
-use lib.ListN.{length, take, getD, set, length-append}
-use lib.Seq.{sets, take-suc, length-sets}
+use lib.ListN.{length, take, drop, getD, set, length-append, take-append-drop}
+use lib.Seq.{sets, take-suc, take-all, length-take-le, length-sets, set-out}
+use lib.Dec.{leb}
+use borrow.Author.Tests.{leb-true, leb-false}
 use Rattle.text.specs.Text.{Wrote, hexOf}
 
 pub sets-append : (l : List ℕ) (at : ℕ) (xs ys : List ℕ) → sets l at (xs ++ ys) ≡ sets (sets l at xs) (at + length xs) ys
@@ -35,6 +39,27 @@ wrote-length {xs} {at} {l = l} w = ap length (w .buffer) ∙ length-sets l at xs
 pub wrote-byte : (src : List ℕ) (i : ℕ) {at n n′ : ℕ} {l l′ l″ : List ℕ} → i < length src
     → Wrote (take i src) at l l′ n → Wrote (getD src i 0 ∷ []) n l′ l″ n′ → Wrote (take (i + 1) src) at l l″ n′
 wrote-byte src i h p q = wrote-as (rw (add-one, take-suc src i 0)) (wrote-append p q)
+
+-- bytes past the buffer's end are not stored
+sets-out : (xs l : List ℕ) (at : ℕ) → length l ≤ at → sets l at xs ≡ l
+sets-out [] l at h = refl
+sets-out (x ∷ xs) l at h = rw (set-out l at x h) (sets-out xs l (suc at) (omega arith))
+
+sets-room : (l : List ℕ) (at : ℕ) (s : List ℕ) (n : ℕ) → n ≡ min (length s) (length l - at) → sets l at (take n s) ≡ sets l at s
+sets-room l at s n e = go (leb (length s) (length l - at)) refl
+  where
+    go : (t : Bool) → leb (length s) (length l - at) ≡ t → sets l at (take n s) ≡ sets l at s
+    go true h = ap (sets l at) (take-all n s (omega (arith, leb-true (length s) (length l - at) h)))
+    go false h =
+        let few : n < length s = omega (arith, leb-false (length s) (length l - at) h) in
+        let past : length (sets l at (take n s)) ≤ at + length (take n s) = rw (length-sets l at (take n s), length-take-le n s (omega arith)) (omega arith) in
+        sym (ap (sets l at) (sym (take-append-drop n s)) ∙ sets-append l at (take n s) (drop n s)
+        ∙ sets-out (drop n s) (sets l at (take n s)) (at + length (take n s)) past)
+
+-- so a text is written with the bytes that have a place
+pub wrote-room : (src : List ℕ) (n : ℕ) {at next : ℕ} {l l′ : List ℕ} → n ≡ min (length src) (length l - at)
+    → Wrote (take n src) at l l′ next → Wrote src at l l′ (at + length src)
+wrote-room src n {at} {next} {l} e w = record { place = refl; buffer = w .buffer ∙ sets-room l at src n e }
 
 -- and of one that writes their hexadecimal digits
 hex-append : (xs ys : List ℕ) → hexOf (xs ++ ys) ≡ hexOf xs ++ hexOf ys

@@ -1,7 +1,7 @@
 // Text written into a lent buffer. A function is given the place of its first byte and gives back the place behind its last one. Bytes past the
 // buffer's end are counted and not stored: a last place beyond the buffer tells the caller how long the buffer should have been.
 ghost use mathlib.Core.Path.{_≡_};
-ghost use Prim.Native.Nat.{_+_, _*_, _^_, _<_, _≤_};
+ghost use Prim.Native.Nat.{_+_, _*_, _-_, _^_, _<_, _≤_, min};
 ghost use mathlib.Core.List.{[], _∷_};
 ghost use lib.ListN.{length};
 ghost use Rattle.text.specs.Text.{Wrote, digit, hexOf, decimalOf};
@@ -18,18 +18,31 @@ pub fn put_byte(out: &mut [u8], at: usize, b: u8) -> usize
     next
 }
 
-// Bytes as they are.
+// How many of len bytes have a place in a buffer of so many bytes, from a place on.
+fn room(size: usize, at: usize, len: usize) -> usize
+    ensures { λ r. ⌜ r ≡ min len (size - at) ⌝ }
+{
+    if size <= at {
+        return 0;
+    }
+    if len <= size - at {
+        return len;
+    }
+    size - at
+}
+
+// Bytes as they are. How many have a place is found first, so that the loop copies and tests nothing.
 pub fn put_bytes(out: &mut [u8], at: usize, src: &[u8]) -> usize
-    requires { ⌜ at + length (now src) < 2 ^ 63 ⌝ }
+    requires { ⌜ at + length (now src) < 2 ^ 64 ⌝ }
     ensures { λ r. ⌜ Wrote (now (src .entry)) at (now (out .entry)) (now (out .exit)) r ⌝ }
 {
-    let mut next = at;
+    let n = room(out.len(), at, src.len());
     let mut i = 0;
-    while i < src.len() {
-        next = put_byte(out, next, src[i]);
+    while i < n {
+        out[at + i] = src[i];
         i += 1;
     }
-    next
+    at + src.len()
 }
 
 // A digit below 16, in upper case.

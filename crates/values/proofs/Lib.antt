@@ -7,3 +7,5 @@ pub mod Listed
 pub mod Stands
 -- The data of an entry as a part of the region, and its size
 pub mod Sizes
+-- The values from an offset on, by what the search for the next one finds, and how many there are
+pub mod Next

@@ -32,6 +32,8 @@ not-found a e p = let z : _≡_ {A = ℕ} 0 1 = cc in omega arith
 pub record Kept (r : List ℕ) (f : walk.Entry → Bool) (at a : ℕ) (e : numbers.Entry) : Type 0 where
   pub next : ℕ
   pub turn : turnOf r a ≡ Entry e next
+  pub from-here : at ≤ a
+  pub passes : f (entryAt r a e) ≡ true
   pub entry : first f (from r at) ≡ some (entryAt r a e)
   pub rest : keep f (from r at) ≡ entryAt r a e ∷ keep f (from r next)
 
@@ -50,6 +52,8 @@ module _ (r : List ℕ) (f : walk.Entry → Bool) (a : ℕ) (e : numbers.Entry) 
           record {
             next = k;
             turn = ap (turnOf r) (sym i) ∙ q ∙ ap (λ (x : numbers.Entry). Entry x k) j;
+            from-here = omega arith;
+            passes = ap₂ (λ (y : ℕ) (x : numbers.Entry). f (entryAt r y x)) (sym i) (sym j) ∙ s;
             entry = ap (first f) (w .walk) ∙ rw s (ap₂ (λ (y : ℕ) (x : numbers.Entry). some (entryAt r y x)) i j);
             rest = ap (keep f) (w .walk) ∙ rw s (ap₂ (λ (y : ℕ) (x : numbers.Entry). entryAt r y x ∷ keep f (from r k)) i j);
           }
@@ -59,6 +63,8 @@ module _ (r : List ℕ) (f : walk.Entry → Bool) (a : ℕ) (e : numbers.Entry) 
           record {
             next = m .next;
             turn = m .turn;
+            from-here = omega (arith, w .more, m .from-here);
+            passes = m .passes;
             entry = ap (first f) (w .walk) ∙ rw s (m .entry);
             rest = ap (keep f) (w .walk) ∙ rw s (m .rest);
           }

@@ -1,8 +1,9 @@
 // The values of a region in flash order, their number and their space.
 ghost use mathlib.Core.Path.{_≡_};
+ghost use Prim.Native.Nat.{_+_, _^_, _<_};
 ghost use lib.ListN.{length};
 ghost use Rattle.model.specs.Lists.{first};
-ghost use Rattle.model.specs.Entry.{entrySize};
+ghost use Rattle.model.specs.Entry.{rounded, entrySize};
 ghost use Rattle.model.specs.Walk.{entryValue};
 ghost use Rattle.model.specs.Region.{entries, isValue, values};
 ghost use Rattle.model.specs.Change.{spaceOf};
@@ -16,7 +17,7 @@ use region::Turn;
 use region::walk;
 
 // Whether an entry is its name's value: a 3F entry, or a 3E entry beside no 3F entry.
-fn is_value(region: &[u8], at: usize, e: Entry) -> bool
+pub fn is_value(region: &[u8], at: usize, e: Entry) -> bool
     ensures { λ r. ⌜ r ≡ isValue (entries (now (region .entry))) (entryAt (now (region .entry)) at e) ⌝ }
 {
     if e.state == 0x3F {
@@ -49,6 +50,14 @@ pub fn next_value(region: &[u8], at: usize) -> Found
         }
         here = next;
     }
+}
+
+// The offset behind a value's entry, which is never an unfinished one.
+pub fn behind(place: usize, e: Entry) -> usize
+    requires { ⌜ place < 2 ^ 40 ⌝ }
+    ensures { λ r. ⌜ r ≡ place + rounded (60 + e .name + e .size) ⌝ }
+{
+    place + (60 + e.name as usize + e.size as usize + 3) / 4 * 4
 }
 
 // How many values there are.

@@ -3,10 +3,11 @@
 -- Assumes nothing.
 use Prim.Native.Nat.{_+_, _*_, _-_, _≤_}
 use native.Mathlib.Omega.{arith}
-use mathlib.Core.Path.{_≡_, refl, sym, ap, _∙_}
+use mathlib.Core.Path.{_≡_, refl, sym, _∙_}
 use lib.ListN.{length}
 use denote.Ref.{now}
-use Rattle.report.proofs.Next.{next-value, next-none}
+use Rattle.values.proofs.Stands.{listed-nothing}
+use Rattle.values.proofs.Next.{next-value}
 use Rattle.report.proofs.Lines.{Written, written-none, written-line, written-all}
 use borrow.Author.Needs.{needs}
 use Rattle.report.proofs.put_lines.Statement.{statement}
@@ -38,7 +39,7 @@ returns : tie.Need-returns Inv-loop μ-loop
 returns c =
     let l = c .before .before .before in
     let r = now (l .before .before .before .args .region) in
-    written-all (l .loop .inv .2) (next-none r (l .loop .here) (sym (c .before .before .next-value .ensures) ∙ c .enum-told .given .1))
+    written-all (l .loop .inv .2) (listed-nothing r (l .loop .here) (sym (c .before .before .next-value .ensures) ∙ c .enum-told .given .1))
 
 put-entry-requires : tie.Need-put-entry-requires Inv-loop μ-loop
 put-entry-requires c κs =

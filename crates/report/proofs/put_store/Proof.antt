@@ -8,7 +8,7 @@ use denote.Ref.{now}
 use Rattle.model.specs.Region.{entries, values}
 use Rattle.text.proofs.Writing.{wrote-append, wrote-as}
 use Rattle.report.specs.Varlist.{summaryLine}
-use Rattle.report.proofs.Next.{few-values}
+use Rattle.values.proofs.Next.{few-values}
 use borrow.Author.Needs.{needs}
 use Rattle.report.proofs.put_store.Statement.{statement}
 use Rattle.report.proofs.put_store.Tie as tie

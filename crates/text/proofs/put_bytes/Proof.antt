@@ -1,32 +1,36 @@
--- `text::put_bytes` meets its contract: after i turns the text of the first i bytes is written.
+-- `text::put_bytes` meets its contract: after i turns the text of the first i bytes is written, and those left at the end have no place.
 -- Assumes nothing.
-use Prim.Native.Nat.{ℕ, _+_, _*_, _-_, _≤_}
+use Prim.Native.Nat.{ℕ, _+_, _-_, _≤_}
 use native.Mathlib.Omega.{arith}
 use mathlib.Core.Path.{_≡_, refl, ap, _∙_}
-use mathlib.Core.List.{[], _∷_}
-use lib.ListN.{length, take, getD}
-use lib.Seq.{take-all}
-use Rattle.text.specs.Text.{Wrote, hexOf}
-use Rattle.text.proofs.Writing.{wrote-none, wrote-as, wrote-byte}
+use lib.ListN.{length, take, getD, length-set}
+use denote.Ref.{now}
+use Rattle.text.specs.Text.{Wrote}
+use Rattle.text.proofs.Writing.{wrote-as, wrote-byte, wrote-room}
 use borrow.Author.Needs.{needs}
 use Rattle.text.proofs.put_bytes.Statement.{statement}
 use Rattle.text.proofs.put_bytes.Tie as tie
 
 abbrev Inv-loop : tie.InvT-loop
-Inv-loop out₀ at src next₀ i₀ out next i =
-    (i ≤ length src) × (next ≡ at + i) × (length out ≡ length out₀) × Wrote (take i src) at out₀ out next
+Inv-loop out₀ at src n i₀ out i = (i ≤ n) × (length out ≡ length out₀) × Wrote (take i src) at out₀ out (at + i)
 
 abbrev μ-loop : tie.MeasureT-loop
-μ-loop out₀ at src next₀ i₀ out next i = length src - i
+μ-loop out₀ at src n i₀ out i = n - i
+
+room-requires : tie.Need-room-requires Inv-loop μ-loop
+room-requires c κs = search needs
 
 loop-holds : tie.Need-loop-holds Inv-loop μ-loop
-loop-holds c = (search needs, omega arith, refl, wrote-none _ _)
+loop-holds c = (omega arith, refl, record { place = refl; buffer = refl })
 
-shared-slice-read-put-byte : tie.Need-shared-slice-read-put-byte Inv-loop μ-loop
-shared-slice-read-put-byte c = search needs
+shared-slice-read-out : tie.Need-shared-slice-read-out Inv-loop μ-loop
+shared-slice-read-out c = search needs
 
-put-byte-requires : tie.Need-put-byte-requires Inv-loop μ-loop
-put-byte-requires c κs = search needs
+add-out : tie.Need-add-out Inv-loop μ-loop
+add-out c = search needs
+
+slice-write-out : tie.Need-slice-write-out Inv-loop μ-loop
+slice-write-out c = search needs
 
 add-i : tie.Need-add-i Inv-loop μ-loop
 add-i c = search needs
@@ -36,20 +40,26 @@ loop-less c = search needs
 
 loop-again : tie.Need-loop-again Inv-loop μ-loop
 loop-again c =
-    let l = c .before .before .before .before .before .before in
-    let f = c .before .before .put-byte in
-    let s = l .before .before .before .args .src .now in (
+    let l = c .before .before .loop in
+    let a = c .before .before .before .before .before .before .args in (
       omega arith,
-      omega (arith, f .ensures .place),
-      f .kept .0 ∙ l .loop .inv .2,
-      wrote-byte s (l .loop .i) (search needs) (l .loop .inv .3) (f .ensures),
+      length-set (l .out) (a .at + l .i) (getD (now (a .src)) (l .i) 0) ∙ l .inv .1,
+      wrote-byte (now (a .src)) (l .i) (search needs) (l .inv .2) (record { place = omega arith; buffer = refl }),
     )
+
+add-result : tie.Need-add-result Inv-loop μ-loop
+add-result c = search needs
 
 same-length : tie.Need-same-length Inv-loop μ-loop
 same-length c = search needs
 
 returns : tie.Need-returns Inv-loop μ-loop
-returns c = wrote-as (take-all _ _ (c .loop-test .left)) (c .before .loop .inv .3)
+returns c =
+    let l = c .before .loop in
+    let a = c .before .before .before .before .before .args in
+    let n = c .before .before .room .result in
+    let all : l .i ≡ n = omega arith in
+    wrote-room (now (a .src)) n (c .before .before .room .ensures) (wrote-as (ap (λ (k : ℕ). take k (now (a .src))) all) (l .inv .2))
 
 pub put-bytes-spec : {M : Type 1} → statement M
 put-bytes-spec =
@@ -57,11 +67,14 @@ put-bytes-spec =
     (tie.spec
     Inv-loop
     μ-loop
+    room-requires
     loop-holds
-    shared-slice-read-put-byte
-    put-byte-requires
+    shared-slice-read-out
+    add-out
+    slice-write-out
     add-i
     loop-less
     loop-again
+    add-result
     same-length
     returns)

@@ -6,7 +6,7 @@ use lib.ListN.{length}
 use denote.Ref.{now}
 use borrow.Author.Needs.{needs}
 use Rattle.model.specs.Lists.{same}
-use Rattle.region.specs.Walk.{vendorAt}
+use Rattle.region.specs.Walk.{entryAt}
 use Rattle.region.proofs.Entries.{other-state, other-length, by-key}
 use Rattle.region.proofs.walk.is_entry.Statement.{statement}
 use Rattle.region.proofs.walk.is_entry.Tie as tie
@@ -24,11 +24,11 @@ returns-2 c =
     let a = c .before .before .before .before .before .before .before .args in
     sym (other-length (now (a .region)) (a .at) (a .e) (a .state) (now (a .name)) (now (a .vendor)) (λ p. c .if2 .taken (ap length (c .before .name-of .ensures) ∙ p)))
 
-vendor-of-requires : tie.Need-vendor-of-requires
-vendor-of-requires c κs = search needs
-
 equal-requires : tie.Need-equal-requires
 equal-requires c κs = search needs
+
+vendor-of-requires : tie.Need-vendor-of-requires
+vendor-of-requires c κs = search needs
 
 equal-requires-2 : tie.Need-equal-requires-2
 equal-requires-2 c κs = search needs
@@ -36,18 +36,18 @@ equal-requires-2 c κs = search needs
 returns-3 : tie.Need-returns-3
 returns-3 c =
     let a = c .before .before .before .before .before .before .before .before .before .before .before .args in
-    let g : same (vendorAt (now (a .region)) (a .at)) (now (a .vendor)) ≡ true =
-    sym (c .before .before .equal .ensures ∙ ap (λ l. same l (now (a .vendor))) (c .before .before .before .vendor-of .ensures)) ∙ c .before .if3 .taken in
+    let g : same (entryAt (now (a .region)) (a .at) (a .e) .name) (now (a .name)) ≡ true =
+    sym (c .before .before .before .equal .ensures ∙ ap (λ l. same l (now (a .name))) (c .before .before .before .before .before .name-of .ensures)) ∙ c .before .before .if3 .taken in
     c .equal2 .ensures
-    ∙ ap (λ l. same l (now (a .name))) (c .before .before .before .before .before .name-of .ensures)
+    ∙ ap (λ l. same l (now (a .vendor))) (c .before .vendor-of .ensures)
     ∙ sym (by-key (now (a .region)) (a .at) (a .e) (a .state) (now (a .name)) (now (a .vendor)) (c .before .before .before .before .before .before .if1 .left) ∙ rw g)
 
 returns-4 : tie.Need-returns-4
 returns-4 c =
-    let a = c .before .before .before .before .before .before .before .before .before .before .args in
-    let g : same (vendorAt (now (a .region)) (a .at)) (now (a .vendor)) ≡ false =
-    sym (c .before .equal .ensures ∙ ap (λ l. same l (now (a .vendor))) (c .before .before .vendor-of .ensures)) ∙ c .if3 .left in
-    sym (by-key (now (a .region)) (a .at) (a .e) (a .state) (now (a .name)) (now (a .vendor)) (c .before .before .before .before .before .if1 .left) ∙ rw g)
+    let a = c .before .before .before .before .before .before .before .before .before .args in
+    let g : same (entryAt (now (a .region)) (a .at) (a .e) .name) (now (a .name)) ≡ false =
+    sym (c .before .equal .ensures ∙ ap (λ l. same l (now (a .name))) (c .before .before .before .name-of .ensures)) ∙ c .if3 .left in
+    sym (by-key (now (a .region)) (a .at) (a .e) (a .state) (now (a .name)) (now (a .vendor)) (c .before .before .before .before .if1 .left) ∙ rw g)
 
 pub is-entry-spec : {M : Type 1} → statement M
 is-entry-spec =
@@ -56,8 +56,8 @@ is-entry-spec =
     returns
     name-of-requires
     returns-2
-    vendor-of-requires
     equal-requires
+    vendor-of-requires
     equal-requires-2
     returns-3
     returns-4)

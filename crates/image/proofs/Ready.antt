@@ -1,0 +1,95 @@
+-- What rules 1 and 2 tell of an image: of a refused one which of them is broken first, and of one that is ready that its region is sound and is the part that is
+-- cut, with the tail within it, since the entries of a sound region end within it.
+-- Assumes nothing.
+use Prim.Native.Nat.{ℕ, _*_, _%_, _≤_}
+use native.Mathlib.Omega.{arith}
+use mathlib.Core.Path.{_≡_, refl, sym, ap, _∙_}
+use mathlib.Core.Bool.{true, _&&_}
+use mathlib.Core.List.{List}
+use mathlib.Core.Option.{Option, none, some}
+use lib.ListN.{length}
+use borrow.Author.Tests.{not-false}
+use Rattle.model.specs.Lists.{part, onSome, allFF}
+use Rattle.model.specs.Image.{block, blocks, rightLength, regionSize, region, spare, work}
+use Rattle.model.specs.Region.{tailAt, tail, sound, clean}
+use Rattle.model.specs.Work.{idle, readyForCall}
+use Rattle.model.specs.Rules.{firstBroken, rule1, rule2, imageRules}
+use Rattle.model.specs.declared.Rule.{Rule}
+use Rattle.model.proofs.Tests.{and-split}
+use Rattle.model.proofs.Parts.{right-parts, parts-region, parts-size}
+use Rattle.model.proofs.Chunks.{sound-chunked, made-length, made-tailAt}
+use Rattle.model.proofs.Requests.{unbroken}
+use Rattle.image.specs.Check.{callOf}
+use Rattle.image.specs.declared.Check.the-variants.{Ready, Refused}
+
+-- a refused image
+pub refused-rule : (img : List ℕ) (rule : Rule) → callOf img ≡ Refused rule → firstBroken (imageRules img) ≡ some rule
+unfolding callOf
+refused-rule img rule p = go (firstBroken (imageRules img)) p
+  where
+    go : (o : Option Rule) → onSome o Refused (Ready (blocks img) (tailAt (region img))) ≡ Refused rule → o ≡ some rule
+    go (some x) p = let same : x ≡ rule = cc in ap some same
+    go none p = let z : _≡_ {A = ℕ} 0 1 = cc in absurd (omega arith)
+
+-- one that is ready, of b blocks and with the tail at t
+pub record IsReady (img : List ℕ) (b t : ℕ) : Type 0 where
+  pub unbroken : firstBroken (imageRules img) ≡ none
+  pub right : rightLength img ≡ true
+  pub ready : readyForCall img ≡ true
+  pub sounds : sound (region img) ≡ true
+  pub number : blocks img ≡ b
+  pub few : b ≤ 7
+  pub cut : part 0 (4096 * b) img ≡ region img
+  pub long : length (region img) ≡ 4096 * b
+  pub tail-at : tailAt (region img) ≡ t
+  pub tail-within : t ≤ length (region img)
+
+ready-sound : (img : List ℕ) → readyForCall img ≡ true → sound (region img) ≡ true
+unfolding readyForCall clean
+ready-sound img h =
+    and-split (sound (region img)) (allFF (tail (region img)))
+    (and-split (clean (region img)) (allFF (spare img)) (and-split (clean (region img) && allFF (spare img)) (idle (work img)) h .0) .0) .0
+
+-- the length of the region of an image of a right length
+region-long : (img : List ℕ) → rightLength img ≡ true → (blocks img ≤ 7) × (length (region img) ≡ 4096 * blocks img)
+unfolding block regionSize
+region-long img h =
+    let i = right-parts img h in
+    let p = i .parts in
+    let r : region img ≡ i .r = ap region (i .whole) ∙ parts-region p in
+    let n : 4096 * blocks img ≡ 4096 * i .b = ap regionSize (i .whole) ∙ parts-size p in
+    let l = ap length r in
+    (omega (arith, p .high), omega (arith, p .region-long))
+
+sound-tail : (r : List ℕ) → length r % 4 ≡ 0 → sound r ≡ true → tailAt r ≤ length r
+sound-tail r m s =
+    let c = sound-chunked r m s in
+    let t = made-tailAt (c .made) in
+    let l = made-length (c .made) in
+    omega arith
+
+pub is-ready : (img : List ℕ) (b t : ℕ) → callOf img ≡ Ready b t → IsReady img b t
+unfolding callOf imageRules rule1 rule2 region regionSize block
+is-ready img b t p = go (firstBroken (imageRules img)) refl p
+  where
+    go : (o : Option Rule) → firstBroken (imageRules img) ≡ o → onSome o Refused (Ready (blocks img) (tailAt (region img))) ≡ Ready b t → IsReady img b t
+    go (some x) q p = let z : _≡_ {A = ℕ} 0 1 = cc in absurd (omega arith)
+    go none q p =
+        let n : blocks img ≡ b = cc in
+        let e : tailAt (region img) ≡ t = cc in
+        let right : rightLength img ≡ true = not-false (rightLength img) (unbroken (imageRules img) 0 q) in
+        let ready : readyForCall img ≡ true = not-false (readyForCall img) (unbroken (imageRules img) 1 q) in
+        let l = region-long img right in
+        let w = sound-tail (region img) (omega (arith, l .1)) (ready-sound img ready) in
+        record {
+          unbroken = q;
+          right = right;
+          ready = ready;
+          sounds = ready-sound img ready;
+          number = n;
+          few = omega (arith, l .0);
+          cut = ap (λ (k : ℕ). part 0 (4096 * k) img) (sym n);
+          long = omega (arith, l .1);
+          tail-at = e;
+          tail-within = omega arith;
+        }
