@@ -1,0 +1,134 @@
+-- What a decision says to the caller. It names a rule just where one of rules 3 to 13 is broken; over an image that breaks neither 1 nor 2 that is the
+-- answer of the set. Where it names none, it is the kind of the change, and every test is false: so a value to delete stands, and a value to put is small
+-- enough and fits.
+-- Assumes nothing.
+use Prim.Native.Nat.{ℕ, _+_, _≤_}
+use native.Mathlib.Omega.{arith}
+use mathlib.Core.Path.{_≡_, refl, sym, ap, _∙_}
+use mathlib.Core.Bool.{Bool, true, false, cond, _||_}
+use mathlib.Core.List.{List, _++_, append-assoc}
+use mathlib.Core.Option.{Option, none, some}
+use lib.ListN.{length}
+use borrow.Author.Tests.{ltb-false, not-false}
+use Rattle.model.specs.declared.Session.{Session}
+use Rattle.model.specs.declared.Rule.{Rule}
+use Rattle.model.specs.Lists.{isSome, onSome, orElse}
+use Rattle.model.specs.Image.{regionSize}
+use Rattle.model.specs.Entry.{Value}
+use Rattle.model.specs.Region.{maxData, valuesOf, find}
+use Rattle.model.specs.Session.{reserved}
+use Rattle.model.specs.Request.{Request, requestKey}
+use Rattle.model.specs.Change.{Change, nothing, remove, put, deletes, emptyAppend, equalTo, newValue, changeOf, changeIn, step, spaceOf}
+use Rattle.model.specs.Rules.{firstBroken, rule11, rule12, rule13, removesAbsent, imageRules, requestRules, standingRules, resultRules, roomRules, setBroken}
+use Rattle.model.proofs.Requests.{unbroken}
+use Rattle.decision.specs.declared.Decision.{Decision}
+use Rattle.decision.specs.declared.Decision.the-variants.{Nothing, Remove, Put}
+use Rattle.decision.specs.Decision.{kindOf, decided, decisionOf, brokenOf}
+use Rattle.decision.proofs.Broken.{broken-append}
+
+-- ---- the rule named
+
+named-rule : (o : Option Rule) (c : Change) → brokenOf (decided o (kindOf c)) ≡ o
+named-rule (some rule) c = refl
+named-rule none nothing = refl
+named-rule none (remove k) = refl
+named-rule none (put v) = refl
+
+-- the first broken rule of a set over an image that breaks neither 1 nor 2: with it the model's laws on a set that breaks none apply
+pub set-broken : (s : Session) (q : Request) (img : List ℕ) → firstBroken (imageRules img) ≡ none
+    → setBroken s q img ≡ brokenOf (decisionOf s q (regionSize img) (valuesOf img))
+unfolding setBroken decisionOf
+set-broken s q img h =
+    let vs : List Value = valuesOf img in
+    let i : List (Rule × Bool) = imageRules img in
+    let a : List (Rule × Bool) = requestRules s q in
+    let b : List (Rule × Bool) = standingRules s q vs in
+    let c : List (Rule × Bool) = resultRules q vs in
+    let d : List (Rule × Bool) = roomRules s q (regionSize img) vs in
+    ap firstBroken
+    (ap (λ (l : List (Rule × Bool)). l ++ c ++ d) (append-assoc i a b)
+    ∙ ap (λ (l : List (Rule × Bool)). l ++ d) (append-assoc i (a ++ b) c)
+    ∙ append-assoc i (a ++ b ++ c) d)
+    ∙ broken-append i (a ++ b ++ c ++ d)
+    ∙ ap (λ (o : Option Rule). orElse o (firstBroken (a ++ b ++ c ++ d))) h
+    ∙ sym (named-rule (firstBroken (a ++ b ++ c ++ d)) (changeIn q vs))
+
+-- ---- the change
+
+decided-none : (o : Option Rule) (d k : Decision) → decided o d ≡ k → brokenOf k ≡ none → (o ≡ none) × (d ≡ k)
+decided-none none d k h b = (refl, h)
+decided-none (some rule) d k h b =
+    let e : some rule ≡ none = ap brokenOf h ∙ b in
+    let z : _≡_ {A = ℕ} 0 1 = cc in
+    absurd (omega arith)
+
+module _ (q : Request) (old : Option Value) where
+  by-tests : (c : Change) (k : Decision) → kindOf c ≡ k
+      → ((d n : Bool) → kindOf (cond d (remove (requestKey q)) (cond n nothing (put (newValue q old)))) ≡ k
+      → cond d (remove (requestKey q)) (cond n nothing (put (newValue q old))) ≡ c)
+      → kindOf (changeOf q old) ≡ k → changeOf q old ≡ c
+  unfolding changeOf
+  by-tests c k e f h = f (deletes q) (emptyAppend q || onSome old (equalTo q) false) h
+
+  kind-put : kindOf (changeOf q old) ≡ Put → changeOf q old ≡ put (newValue q old)
+  kind-put h = by-tests (put (newValue q old)) Put refl go h
+    where
+      go : (d n : Bool) → kindOf (cond d (remove (requestKey q)) (cond n nothing (put (newValue q old)))) ≡ Put
+          → cond d (remove (requestKey q)) (cond n nothing (put (newValue q old))) ≡ put (newValue q old)
+      go true n h = let z : _≡_ {A = ℕ} 0 1 = cc in absurd (omega arith)
+      go false true h = let z : _≡_ {A = ℕ} 0 1 = cc in absurd (omega arith)
+      go false false h = refl
+
+  kind-remove : kindOf (changeOf q old) ≡ Remove → changeOf q old ≡ remove (requestKey q)
+  kind-remove h = by-tests (remove (requestKey q)) Remove refl go h
+    where
+      go : (d n : Bool) → kindOf (cond d (remove (requestKey q)) (cond n nothing (put (newValue q old)))) ≡ Remove
+          → cond d (remove (requestKey q)) (cond n nothing (put (newValue q old))) ≡ remove (requestKey q)
+      go true n h = refl
+      go false true h = let z : _≡_ {A = ℕ} 0 1 = cc in absurd (omega arith)
+      go false false h = let z : _≡_ {A = ℕ} 0 1 = cc in absurd (omega arith)
+
+kind-nothing : (c : Change) → kindOf c ≡ Nothing → c ≡ nothing
+kind-nothing nothing h = refl
+kind-nothing (remove k) h = let z : _≡_ {A = ℕ} 0 1 = cc in absurd (omega arith)
+kind-nothing (put v) h = let z : _≡_ {A = ℕ} 0 1 = cc in absurd (omega arith)
+
+module _ (s : Session) (q : Request) (size : ℕ) (vs : List Value) where
+  unbroken-rules : (k : Decision) → brokenOf k ≡ none → decisionOf s q size vs ≡ k
+      → (firstBroken (requestRules s q ++ standingRules s q vs ++ resultRules q vs ++ roomRules s q size vs) ≡ none) × (kindOf (changeIn q vs) ≡ k)
+  unfolding decisionOf
+  unbroken-rules k b h = decided-none _ (kindOf (changeIn q vs)) k h b
+
+  pub nothing-change : decisionOf s q size vs ≡ Nothing → changeIn q vs ≡ nothing
+  nothing-change h = kind-nothing (changeIn q vs) (unbroken-rules Nothing refl h .1)
+
+  pub remove-change : decisionOf s q size vs ≡ Remove → changeIn q vs ≡ remove (requestKey q)
+  unfolding changeIn
+  remove-change h = kind-remove q (find (requestKey q) vs) (unbroken-rules Remove refl h .1)
+
+  pub remove-stands : decisionOf s q size vs ≡ Remove → isSome (find (requestKey q) vs) ≡ true
+  unfolding requestRules standingRules resultRules rule11 removesAbsent
+  remove-stands h =
+      let t : rule11 q vs ≡ false = unbroken _ 8 (unbroken-rules Remove refl h .0) in
+      not-false (isSome (find (requestKey q) vs)) (rw (remove-change h) at t)
+
+  -- the value to put
+  abbrev pub new : Value
+  new = newValue q (find (requestKey q) vs)
+
+  pub put-change : decisionOf s q size vs ≡ Put → changeIn q vs ≡ put new
+  unfolding changeIn
+  put-change h = kind-put q (find (requestKey q) vs) (unbroken-rules Put refl h .1)
+
+  pub put-small : decisionOf s q size vs ≡ Put → length (new .bytes) ≤ maxData
+  unfolding requestRules standingRules resultRules rule12
+  put-small h =
+      let t : rule12 q vs ≡ false = unbroken _ 9 (unbroken-rules Put refl h .0) in
+      ltb-false maxData (length (new .bytes)) (rw (put-change h) at t)
+
+  -- beside the reserve
+  pub put-fits : decisionOf s q size vs ≡ Put → spaceOf (step (put new) vs) + reserved s ≤ size
+  unfolding requestRules standingRules resultRules roomRules rule13
+  put-fits h =
+      let t : rule13 s q size vs ≡ false = unbroken _ 10 (unbroken-rules Put refl h .0) in
+      ltb-false size (spaceOf (step (put new) vs) + reserved s) (rw (put-change h) at t)

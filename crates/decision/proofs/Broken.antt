@@ -1,0 +1,51 @@
+-- The first broken rule of two lists is that of the first, else that of the second.
+-- Assumes nothing.
+use Prim.Native.Nat.{ℕ}
+use native.Mathlib.Omega.{arith}
+use mathlib.Core.Path.{_≡_, refl, ap, _∙_}
+use mathlib.Core.Bool.{Bool, true, false, cond}
+use mathlib.Core.List.{List, [], _∷_, _++_}
+use mathlib.Core.Option.{Option, none, some}
+use Rattle.model.specs.declared.Rule.{Rule}
+use Rattle.model.specs.Lists.{orElse}
+use Rattle.model.specs.Rules.{firstBroken}
+use Rattle.decision.specs.declared.Judged.the-variants.{Kept, Breaks}
+use Rattle.decision.specs.Parts.{judgedOf}
+
+pub broken-append : (xs ys : List (Rule × Bool)) → firstBroken (xs ++ ys) ≡ orElse (firstBroken xs) (firstBroken ys)
+unfolding firstBroken
+broken-append [] ys = refl
+broken-append (x ∷ xs) ys = go (x .1) (broken-append xs ys)
+  where
+    go : (t : Bool) → firstBroken (xs ++ ys) ≡ orElse (firstBroken xs) (firstBroken ys)
+        → cond t (some (x .0)) (firstBroken (xs ++ ys)) ≡ orElse (cond t (some (x .0)) (firstBroken xs)) (firstBroken ys)
+    go true i = refl
+    go false i = i
+
+-- a later rule counts only where an earlier one is kept
+pub fourth-broken : (p q x y : Rule) (a b c d e : Bool) → (b ≡ false → d ≡ e)
+    → firstBroken ((p, a) ∷ (q, b) ∷ (x, c) ∷ (y, d) ∷ []) ≡ firstBroken ((p, a) ∷ (q, b) ∷ (x, c) ∷ (y, e) ∷ [])
+unfolding firstBroken
+fourth-broken p q x y true b c d e h = refl
+fourth-broken p q x y false true c d e h = refl
+fourth-broken p q x y false false true d e h = refl
+fourth-broken p q x y false false false d e h = rw (h refl)
+
+-- ---- rules that were judged
+
+pub kept-none : (o : Option Rule) → judgedOf o ≡ Kept → o ≡ none
+kept-none none h = refl
+kept-none (some rule) h = let z : _≡_ {A = ℕ} 0 1 = cc in absurd (omega arith)
+
+pub breaks-some : (o : Option Rule) (rule : Rule) → judgedOf o ≡ Breaks rule → o ≡ some rule
+breaks-some none rule h = let z : _≡_ {A = ℕ} 0 1 = cc in absurd (omega arith)
+breaks-some (some x) rule h = let e : x ≡ rule = cc in ap some e
+
+module _ (xs ys : List (Rule × Bool)) where
+  pub after-kept : judgedOf (firstBroken xs) ≡ Kept → judgedOf (firstBroken (xs ++ ys)) ≡ judgedOf (firstBroken ys)
+  after-kept h =
+      ap judgedOf (broken-append xs ys ∙ ap (λ (o : Option Rule). orElse o (firstBroken ys)) (kept-none (firstBroken xs) h))
+
+  pub after-breaks : (rule : Rule) → judgedOf (firstBroken xs) ≡ Breaks rule → judgedOf (firstBroken (xs ++ ys)) ≡ Breaks rule
+  after-breaks rule h =
+      ap judgedOf (broken-append xs ys ∙ ap (λ (o : Option Rule). orElse o (firstBroken ys)) (breaks-some (firstBroken xs) rule h))

@@ -1,0 +1,73 @@
+-- `decision::change::outcome` meets its contract: it goes by what the set asks for. Assumes nothing.
+use Prim.Native.Nat.{ℕ, _+_}
+use mathlib.Core.Path.{sym, ap, _∙_}
+use mathlib.Core.Bool.{true}
+use lib.ListN.{length}
+use denote.Ref.{now}
+use Rattle.model.specs.Entry.{rounded}
+use Rattle.decision.specs.declared.Decision.the-variants.{Put}
+use Rattle.decision.specs.Parts.{resultBy, roomBy, outcomeBy}
+use borrow.Author.Needs.{needs}
+use Rattle.decision.proofs.change.outcome.Statement.{statement}
+use Rattle.decision.proofs.change.outcome.Tie as tie
+
+kind-requires : tie.Need-kind-requires
+kind-requires c κs = search needs
+
+enum-told : tie.Need-enum-told
+enum-told c = search needs
+
+remove-requires : tie.Need-remove-requires
+remove-requires c κs = search needs
+
+enum-told-2 : tie.Need-enum-told-2
+enum-told-2 c = search needs
+
+new-size-requires : tie.Need-new-size-requires
+new-size-requires c κs = search needs
+
+put-requires : tie.Need-put-requires
+put-requires c κs = search needs
+
+enum-told-3 : tie.Need-enum-told-3
+enum-told-3 c = search needs
+
+enum-told-4 : tie.Need-enum-told-4
+enum-told-4 c = search needs
+
+returns : tie.Need-returns
+unfolding outcomeBy resultBy
+returns c = rw (sym (c .before .before .before .kind .ensures) ∙ c .before .enum-told .given .1) (c .remove .ensures)
+
+returns-2 : tie.Need-returns-2
+unfolding outcomeBy resultBy
+returns-2 c =
+    let a = c .before .before .before .before .before .before .before .before .args in
+    rw (sym (c .before .before .before .before .kind .ensures) ∙ c .before .before .enum-told2 .given .1)
+    (c .put .ensures
+    ∙ ap (λ (n : ℕ). resultBy true Put n (roomBy (now (a .region)) (a .old) (rounded (60 + length (now (a .name)) + n) + a .reserve))) (c .before .new-size .ensures))
+
+returns-3 : tie.Need-returns-3
+unfolding outcomeBy resultBy
+returns-3 c = rw (sym (c .before .before .kind .ensures) ∙ c .enum-told3 .given .1) (c .enum-told3 .given .1)
+
+returns-4 : tie.Need-returns-4
+unfolding outcomeBy resultBy
+returns-4 c = rw (sym (c .before .before .kind .ensures) ∙ c .enum-told4 .given .1) (c .enum-told4 .given .1)
+
+pub outcome-spec : {M : Type 1} → statement M
+outcome-spec =
+    tie.close
+    (tie.spec
+    kind-requires
+    enum-told
+    remove-requires
+    enum-told-2
+    new-size-requires
+    put-requires
+    enum-told-3
+    enum-told-4
+    returns
+    returns-2
+    returns-3
+    returns-4)

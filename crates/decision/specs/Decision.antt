@@ -1,0 +1,48 @@
+-- The decision on a set: the first broken of rules 3 to 13, or what the set does to the values.
+use Prim.Native.Nat.{ℕ}
+use mathlib.Core.List.{List, _++_}
+use mathlib.Core.Option.{Option, none, some}
+use Rattle.model.specs.declared.Session.{Session}
+use Rattle.model.specs.declared.Rule.{Rule}
+use Rattle.model.specs.Lists.{onSome}
+use Rattle.model.specs.Entry.{Value}
+use Rattle.model.specs.Request.{Request}
+use Rattle.model.specs.Change.{Change, nothing, remove, put, changeIn}
+use Rattle.model.specs.Rules.{firstBroken, requestRules, standingRules, resultRules, roomRules}
+use Rattle.decision.specs.declared.Decision.{Decision}
+use Rattle.decision.specs.declared.Decision.the-variants.{Broken, Nothing, Remove, Put}
+
+-- a request by its arguments
+abbrev pub requestOf : List ℕ → List ℕ → ℕ → List ℕ → ℕ → ℕ → Request
+requestOf name vendor a bytes presence verdict = record {
+  name = name;
+  vendor = vendor;
+  attributes = a;
+  bytes = bytes;
+  presence = presence;
+  verdict = verdict;
+}
+
+-- what a change does, without the value
+abbrev pub kindOf : Change → Decision
+kindOf nothing = Nothing
+kindOf (remove k) = Remove
+kindOf (put v) = Put
+
+-- the first broken rule, or the change
+abbrev pub decided : Option Rule → Decision → Decision
+decided broken what = onSome broken (λ rule. Broken rule) what
+
+-- over a region of so many bytes with these values
+unfoldable pub decisionOf : Session → Request → ℕ → List Value → Decision
+decisionOf s r size vs =
+    decided
+    (firstBroken (requestRules s r ++ standingRules s r vs ++ resultRules r vs ++ roomRules s r size vs))
+    (kindOf (changeIn r vs))
+
+-- the rule that a decision names, if any
+abbrev pub brokenOf : Decision → Option Rule
+brokenOf (Broken rule) = some rule
+brokenOf Nothing = none
+brokenOf Remove = none
+brokenOf Put = none

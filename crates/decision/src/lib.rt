@@ -1,0 +1,178 @@
+// The decision on a set over a sound region: the first broken of rules 3 to 13, or what the set does to the values.
+ghost use mathlib.Core.Path.{_≡_};
+ghost use mathlib.Core.Bool.{true};
+ghost use mathlib.Core.List.{_++_};
+ghost use Prim.Native.Nat.{_≤_};
+ghost use lib.ListN.{length};
+ghost use Rattle.model.specs.Lists.{isSome};
+ghost use Rattle.model.specs.Region.{sound, entries, values, added, replacing, standing};
+ghost use Rattle.model.specs.Session.{atRuntime};
+ghost use Rattle.model.specs.Request.{keyPK};
+ghost use Rattle.model.specs.Rules.{firstBroken};
+ghost use Rattle.region.specs.Walk.{keyed};
+ghost use Rattle.values.specs.Found.{foundOf, elseFound};
+ghost use Rattle.policy.specs.Descriptor.{stampOf};
+ghost use Rattle.policy.specs.Verdict.{wantedBy};
+ghost use Rattle.decision.specs.Decision.{requestOf, decisionOf};
+ghost use Rattle.decision.specs.Parts.{judgedOf, stands, standingBy, verdictBy};
+use model::Rule;
+use model::Session;
+use values::Found;
+use values::Places;
+use values::lookup;
+
+mod change;
+mod rules;
+
+// The first broken rule, or what a set does: nothing, remove the value that stands, put a new one.
+pub enum Decision {
+    Broken(Rule),
+    Nothing,
+    Remove,
+    Put,
+}
+
+// With it the places of the name's entries, which the set marks.
+pub struct Decided {
+    pub what: Decision,
+    pub places: Places,
+}
+
+// What some of the rules say: kept, or the first broken.
+pub enum Judged {
+    Kept,
+    Breaks(Rule),
+}
+
+// The 3F entry, else the 3E entry.
+fn either(added: Found, replacing: Found) -> Found
+    ensures { λ r. ⌜ r ≡ elseFound added replacing ⌝ }
+{
+    match added {
+        Found::At(_, _) => added,
+        Found::Nothing => replacing,
+    }
+}
+
+// Rules 7 to 10: the mode is looked up, and the stamp read, only where 7 and 8 are kept.
+fn judge_standing(
+    s: Session,
+    region: &[u8],
+    old: Found,
+    name: &[u8],
+    vendor: &[u8; 16],
+    attributes: u32,
+    bytes: &[u8],
+    presence: u32,
+    verdict: u32,
+) -> Judged
+    ensures { λ r. ⌜ r ≡ judgedOf (firstBroken (standingBy (atRuntime s) attributes (now (bytes .entry)) old
+        ++ verdictBy (now (region .entry)) old
+        (wantedBy (s .custom) presence (isSome (standing keyPK (entries (now (region .entry))))) (keyed (now (name .entry)) (now (vendor .entry))) attributes (stands old))
+        verdict (stampOf attributes (now (bytes .entry))))) ⌝ }
+{
+    let t = rules::standing(session::at_runtime(s.phase), attributes, bytes, old);
+    match t {
+        Judged::Kept => {
+            let w = rules::wanted(
+                region,
+                s.custom,
+                name,
+                vendor,
+                attributes,
+                presence,
+                change::stands(old),
+            );
+            let stamp = policy::stamp(attributes, bytes);
+            rules::verdict(region, old, w, verdict, &stamp)
+        }
+        Judged::Breaks(_) => t,
+    }
+}
+
+// The rules in their order, then the change.
+fn judge(
+    s: Session,
+    region: &[u8],
+    old: Found,
+    name: &[u8],
+    vendor: &[u8; 16],
+    attributes: u32,
+    bytes: &[u8],
+    presence: u32,
+    verdict: u32,
+) -> Decision
+    requires { ⌜ sound (now region) ≡ true ⌝ }
+    requires { ⌜ length (now region) ≤ 28672 ⌝ }
+    requires { ⌜ old ≡ foundOf (standing (keyed (now name) (now vendor)) (entries (now region))) ⌝ }
+    ensures { λ r. ⌜ r ≡ decisionOf s (requestOf (now (name .entry)) (now (vendor .entry)) attributes (now (bytes .entry)) presence verdict)
+        (length (now (region .entry))) (values (entries (now (region .entry)))) ⌝ }
+{
+    let q = rules::request(s, name, vendor, attributes);
+    match q {
+        Judged::Breaks(rule) => Decision::Broken(rule),
+        Judged::Kept => {
+            let t = judge_standing(
+                s,
+                region,
+                old,
+                name,
+                vendor,
+                attributes,
+                bytes,
+                presence,
+                verdict,
+            );
+            match t {
+                Judged::Breaks(rule) => Decision::Broken(rule),
+                Judged::Kept => {
+                    let reserve = session::reserved(s.phase, s.reserve);
+                    change::outcome(
+                        region,
+                        old,
+                        reserve,
+                        name,
+                        attributes,
+                        policy::proper(attributes, bytes),
+                    )
+                }
+            }
+        }
+    }
+}
+
+// The decision on a set, and the places of the name's entries.
+pub fn decide(
+    s: Session,
+    region: &[u8],
+    name: &[u8],
+    vendor: &[u8; 16],
+    attributes: u32,
+    bytes: &[u8],
+    presence: u32,
+    verdict: u32,
+) -> Decided
+    requires { ⌜ sound (now region) ≡ true ⌝ }
+    requires { ⌜ length (now region) ≤ 28672 ⌝ }
+    ensures { λ r. ⌜ (r .what ≡ decisionOf s (requestOf (now (name .entry)) (now (vendor .entry)) attributes (now (bytes .entry)) presence verdict)
+        (length (now (region .entry))) (values (entries (now (region .entry)))))
+        × (r .places .added ≡ foundOf (added (keyed (now (name .entry)) (now (vendor .entry))) (entries (now (region .entry)))))
+        × (r .places .replacing ≡ foundOf (replacing (keyed (now (name .entry)) (now (vendor .entry))) (entries (now (region .entry))))) ⌝ }
+{
+    let places = lookup::places(region, name, vendor);
+    let added = places.added;
+    let replacing = places.replacing;
+    let old = either(added, replacing);
+    let what = judge(
+        s,
+        region,
+        old,
+        name,
+        vendor,
+        attributes,
+        bytes,
+        presence,
+        verdict,
+    );
+    Decided { what, places }
+}

@@ -1,0 +1,137 @@
+// Rules 3 to 10: on the call itself and on what stands.
+ghost use mathlib.Core.Path.{_≡_};
+ghost use mathlib.Core.Bool.{false};
+ghost use mathlib.Core.List.{[]};
+ghost use Rattle.model.specs.Lists.{isSome};
+ghost use Rattle.model.specs.Region.{entries, standing};
+ghost use Rattle.model.specs.Request.{keyPK};
+ghost use Rattle.model.specs.Rules.{firstBroken, requestRules};
+ghost use Rattle.policy.specs.Rules.{rule7Of};
+ghost use Rattle.policy.specs.Verdict.{verdictsOf, wantedBy};
+ghost use Rattle.decision.specs.Decision.{requestOf};
+ghost use Rattle.decision.specs.Parts.{judgedOf, onFound, standingBy, stampAt, notLater, verdictBy};
+use crate::Judged;
+use layout::fixed;
+use model::Rule;
+use model::Session;
+use policy::Wanted;
+use values::Found;
+use values::lookup;
+
+// Rules 3 to 6, on the call itself.
+pub fn request(s: Session, name: &[u8], vendor: &[u8; 16], attributes: u32) -> Judged
+    ensures { λ r. ⌜ r ≡ judgedOf (firstBroken (requestRules s (requestOf (now (name .entry)) (now (vendor .entry)) attributes [] 0 0))) ⌝ }
+{
+    if !slices::is_named(name) {
+        return Judged::Breaks(Rule::Name);
+    }
+    if policy::attributes_broken(session::at_runtime(s.phase), attributes) {
+        return Judged::Breaks(Rule::Attributes);
+    }
+    if policy::key_attributes_broken(name, vendor, attributes) {
+        return Judged::Breaks(Rule::KeyAttributes);
+    }
+    if session::in_boot(s.phase) {
+        return Judged::Kept;
+    }
+    if session::is_locked(s, name, vendor) {
+        return Judged::Breaks(Rule::Locked);
+    }
+    Judged::Kept
+}
+
+// Rule 7, where a value stands.
+fn attributes_differ(runtime: bool, attributes: u32, old: Found) -> bool
+    ensures { λ r. ⌜ r ≡ onFound old (λ at e. rule7Of runtime attributes (e .attributes)) false ⌝ }
+{
+    match old {
+        Found::At(_, e) => policy::standing_broken(runtime, attributes, e.attributes),
+        Found::Nothing => false,
+    }
+}
+
+// Rules 7 and 8.
+pub fn standing(runtime: bool, attributes: u32, bytes: &[u8], old: Found) -> Judged
+    ensures { λ r. ⌜ r ≡ judgedOf (firstBroken (standingBy runtime attributes (now (bytes .entry)) old)) ⌝ }
+{
+    if attributes_differ(runtime, attributes, old) {
+        return Judged::Breaks(Rule::Standing);
+    }
+    if policy::descriptor_broken(attributes, bytes) {
+        return Judged::Breaks(Rule::Descriptor);
+    }
+    Judged::Kept
+}
+
+// User mode: PK has a value.
+fn user_mode(region: &[u8]) -> bool
+    ensures { λ r. ⌜ r ≡ isSome (standing keyPK (entries (now (region .entry)))) ⌝ }
+{
+    let name = fixed::pk_name();
+    let vendor = fixed::global_vendor();
+    let f = lookup::find(region, &name, &vendor);
+    match f {
+        Found::At(_, _) => true,
+        Found::Nothing => false,
+    }
+}
+
+// Verdict wanted. The mode is asked for key names only.
+pub fn wanted(
+    region: &[u8],
+    custom: u32,
+    name: &[u8],
+    vendor: &[u8; 16],
+    attributes: u32,
+    presence: u32,
+    stands: bool,
+) -> Wanted
+    ensures { λ r. ⌜ verdictsOf r ≡ wantedBy custom presence (isSome (standing keyPK (entries (now (region .entry)))))
+        (record { name = now (name .entry); vendor = now (vendor .entry) }) attributes stands ⌝ }
+{
+    if fixed::is_key_name(name, vendor) {
+        if policy::in_person(custom, presence) {
+            return Wanted::Free;
+        }
+        return policy::key_verdicts(user_mode(region), name, vendor);
+    }
+    policy::other_verdicts(attributes, stands)
+}
+
+// The stamp of the entry at an offset.
+fn stamp_of(region: &[u8], at: usize) -> &[u8]
+    ensures { λ r. ⌜ now r ≡ stampAt (now (region .entry)) at ⌝ }
+{
+    if region.len() < at {
+        return &region[..0];
+    }
+    slices::cut(region, at + 16, 16)
+}
+
+// Whether the stamp is not later than that of the value that stands.
+fn not_later(region: &[u8], old: Found, stamp: &[u8; 16]) -> bool
+    ensures { λ r. ⌜ r ≡ notLater (now (region .entry)) old (now (stamp .entry)) ⌝ }
+{
+    match old {
+        Found::At(at, _) => {
+            let own = policy::stamp_in(stamp_of(region, at));
+            !policy::later(stamp, &own)
+        }
+        Found::Nothing => false,
+    }
+}
+
+// Rules 9 and 10.
+pub fn verdict(region: &[u8], old: Found, wanted: Wanted, given: u32, stamp: &[u8; 16]) -> Judged
+    ensures { λ r. ⌜ r ≡ judgedOf (firstBroken (verdictBy (now (region .entry)) old (verdictsOf wanted) given (now (stamp .entry)))) ⌝ }
+{
+    if policy::verdict_broken(wanted, given) {
+        return Judged::Breaks(Rule::Verdict);
+    }
+    if policy::verdict_wanted(wanted) {
+        if not_later(region, old, stamp) {
+            return Judged::Breaks(Rule::Stamp);
+        }
+    }
+    Judged::Kept
+}

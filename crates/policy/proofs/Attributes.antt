@@ -1,0 +1,47 @@
+-- A test that fails or holds leaves of a rule what the others say.
+-- Assumes nothing.
+use Prim.Native.Nat.{ℕ}
+use mathlib.Core.Path.{_≡_, refl}
+use mathlib.Core.Logic.{_≢_}
+use mathlib.Core.Bool.{Bool, true, false, not, _&&_, _||_, and-true, and-false}
+use mathlib.Core.List.{[], _∷_}
+use lib.Dec.{eqb}
+use borrow.Author.Tests.{ne-eqb}
+use Rattle.model.specs.Lists.{among}
+use Rattle.model.specs.Name.{Key}
+use Rattle.model.specs.Region.{storedAttributes}
+use Rattle.model.specs.Request.{runtimeAccess, timeBased, withoutAppend, isKeyName}
+use Rattle.policy.specs.Rules.{rule4Of, rule5Of, unlikeStored}
+
+pub rule4-exact : (runtime : Bool) (a : ℕ) → a ≡ 0x40 → rule4Of runtime a ≡ true
+unfolding rule4Of
+rule4-exact runtime a h = rw h
+
+pub rule4-unknown : (runtime : Bool) (a : ℕ) → among (0 ∷ storedAttributes) (withoutAppend a) ≡ false → rule4Of runtime a ≡ true
+unfolding rule4Of
+rule4-unknown runtime a h = rw h
+
+pub rule4-known : (runtime : Bool) (a : ℕ) → a ≢ 0x40 → among (0 ∷ storedAttributes) (withoutAppend a) ≡ true
+    → rule4Of runtime a ≡ (runtime && not (eqb a 0) && not (runtimeAccess a))
+unfolding rule4Of
+rule4-known runtime a n h = rw (h, ne-eqb a 0x40 n)
+
+pub rule5-other : (k : Key) (a : ℕ) → a ≢ 0x27 → a ≢ 0x67 → rule5Of k a ≡ isKeyName k
+unfolding rule5Of
+rule5-other k a h n = rw (ne-eqb a 0x27 h, ne-eqb a 0x67 n) (and-true (isKeyName k))
+
+pub rule5-suits : (k : Key) (a : ℕ) → among (0x27 ∷ 0x67 ∷ []) a ≡ true → rule5Of k a ≡ false
+unfolding rule5Of
+rule5-suits k a h = rw h (and-false (isKeyName k))
+
+pub unlike-zero : (asked stored : ℕ) → asked ≡ 0 → unlikeStored asked stored ≡ timeBased stored
+unfolding unlikeStored
+unlike-zero asked stored h = rw h
+
+pub unlike-other : (asked stored : ℕ) → asked ≢ 0 → unlikeStored asked stored ≡ not (eqb asked stored)
+unfolding unlikeStored
+unlike-other asked stored h = rw (ne-eqb asked 0 h) (go (eqb asked stored))
+  where
+    go : (t : Bool) → (not (false || (t || false)) || (false && timeBased stored)) ≡ not t
+    go true = refl
+    go false = refl

@@ -1,0 +1,24 @@
+-- `policy::descriptor_broken` meets its contract: the form is asked with 0x20. Assumes nothing.
+use mathlib.Core.Path.{sym, _∙_}
+use Rattle.policy.specs.Rules.{rule8Of}
+use borrow.Author.Needs.{needs}
+use Rattle.policy.proofs.descriptor_broken.Statement.{statement}
+use Rattle.policy.proofs.descriptor_broken.Tie as tie
+
+time-based-requires : tie.Need-time-based-requires
+time-based-requires c κs = search needs
+
+descriptor-right-requires : tie.Need-descriptor-right-requires
+descriptor-right-requires c κs = search needs
+
+returns : tie.Need-returns
+unfolding rule8Of
+returns c = rw (sym (c .before .before .time-based .ensures) ∙ c .before .if1 .taken, ← c .descriptor-right .ensures)
+
+returns-2 : tie.Need-returns-2
+unfolding rule8Of
+returns-2 c = rw (sym (c .before .time-based .ensures) ∙ c .if1 .left)
+
+pub descriptor-broken-spec : {M : Type 1} → statement M
+descriptor-broken-spec =
+    tie.close (tie.spec time-based-requires descriptor-right-requires returns returns-2)

@@ -1,0 +1,45 @@
+-- `policy::equal` meets its contract: a test that fails decides, and where the others hold the data do. Assumes nothing.
+use mathlib.Core.Path.{sym, _∙_}
+use mathlib.Core.Bool.{and-true, and-false}
+use borrow.Author.Tests.{eq-eqb, ne-eqb}
+use Rattle.policy.specs.Change.{equalOf}
+use borrow.Author.Needs.{needs}
+use Rattle.policy.proofs.equal.Statement.{statement}
+use Rattle.policy.proofs.equal.Tie as tie
+
+returns : tie.Need-returns
+unfolding equalOf
+returns c = simp (ne-eqb _ _ (c .if1 .taken), and-false)
+
+time-based-requires : tie.Need-time-based-requires
+time-based-requires c κs = search needs
+
+returns-2 : tie.Need-returns-2
+unfolding equalOf
+returns-2 c = simp (sym (c .before .time-based .ensures) ∙ c .if2 .taken, and-false)
+
+appends-requires : tie.Need-appends-requires
+appends-requires c κs = search needs
+
+returns-3 : tie.Need-returns-3
+unfolding equalOf
+returns-3 c = simp (sym (c .before .appends .ensures) ∙ c .if3 .taken, and-false)
+
+equal-requires : tie.Need-equal-requires
+equal-requires c κs = search needs
+
+returns-4 : tie.Need-returns-4
+unfolding equalOf
+returns-4 c = simp (eq-eqb _ _ (c .before .before .before .before .before .if1 .left), sym (c .before .before .before .before .time-based .ensures) ∙ c .before .before .before .if2 .left, sym (c .before .before .appends .ensures) ∙ c .before .if3 .left, and-true) (c .equal .ensures)
+
+pub equal-spec : {M : Type 1} → statement M
+equal-spec =
+    tie.close
+    (tie.spec
+    returns
+    time-based-requires
+    returns-2
+    appends-requires
+    returns-3
+    equal-requires
+    returns-4)

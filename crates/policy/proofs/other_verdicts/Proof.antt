@@ -1,0 +1,24 @@
+-- `policy::other_verdicts` meets its contract: by 0x20, and then by whether a value stands. Assumes nothing.
+use mathlib.Core.Path.{sym, _∙_}
+use Rattle.policy.specs.Verdict.{otherVerdictsOf}
+use borrow.Author.Needs.{needs}
+use Rattle.policy.proofs.other_verdicts.Statement.{statement}
+use Rattle.policy.proofs.other_verdicts.Tie as tie
+
+time-based-requires : tie.Need-time-based-requires
+time-based-requires c κs = search needs
+
+returns : tie.Need-returns
+unfolding otherVerdictsOf
+returns c = rw (sym (c .before .before .time-based .ensures) ∙ c .before .if1 .taken, c .if2 .taken)
+
+returns-2 : tie.Need-returns-2
+unfolding otherVerdictsOf
+returns-2 c = rw (sym (c .before .before .time-based .ensures) ∙ c .before .if1 .taken, c .if2 .left)
+
+returns-3 : tie.Need-returns-3
+unfolding otherVerdictsOf
+returns-3 c = rw (sym (c .before .time-based .ensures) ∙ c .if1 .left)
+
+pub other-verdicts-spec : {M : Type 1} → statement M
+other-verdicts-spec = tie.close (tie.spec time-based-requires returns returns-2 returns-3)

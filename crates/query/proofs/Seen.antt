@@ -1,0 +1,127 @@
+-- The entries that are seen from an offset on: at an entry they are that entry, if it is seen, and those from the next offset on. So the entry to get,
+-- and the one to name, is found there or among the rest.
+-- Assumes nothing.
+use Prim.Native.Nat.{ℕ}
+use mathlib.Core.Path.{_≡_, refl, sym, ap, _∙_}
+use mathlib.Core.Bool.{Bool, true, false, _&&_, and-true, and-false}
+use mathlib.Core.List.{List, [], _∷_}
+use mathlib.Core.Option.{none, some}
+use lib.Dec.{eqb}
+use borrow.Author.Tests.{eq-eqb, eqb-false}
+use Rattle.model.specs.Lists.{same, keep, first, head}
+use Rattle.model.specs.Name.{Key, sameKey, emptyName}
+use Rattle.model.specs.Walk as walk
+use Rattle.model.specs.Region.{from, entries, isEntry, isValue}
+use Rattle.model.proofs.Tests.{and-split, or-split}
+use Rattle.model.proofs.Walking.{entries-from}
+use Rattle.layout.specs.declared.Entry as numbers
+use Rattle.region.specs.Walk.{entryAt}
+use Rattle.region.specs.Judge.{liveState}
+use Rattle.region.proofs.Turns.{Turned}
+use Rattle.values.proofs.Listed.{value-other}
+use Rattle.query.specs.Query.{visible, isSeen, isSought, entryToGet, entryFollowing, goingOn, entryToName}
+
+-- the entries that are seen from an offset on
+unfoldable pub seenFrom : Bool → List ℕ → ℕ → List walk.Entry
+seenFrom runtime r at = keep (isSeen runtime (entries r)) (from r at)
+
+-- ---- of one entry
+
+module _ (runtime : Bool) (r : List ℕ) (at : ℕ) (e : numbers.Entry) where
+  pub seen-value : visible runtime (e .attributes) ≡ true → isSeen runtime (entries r) (entryAt r at e) ≡ isValue (entries r) (entryAt r at e)
+  unfolding isSeen entryAt walk.placed
+  seen-value h = rw h (and-true (isValue (entries r) (entryAt r at e)))
+
+  pub not-visible : visible runtime (e .attributes) ≡ false → isSeen runtime (entries r) (entryAt r at e) ≡ false
+  unfolding isSeen entryAt walk.placed
+  not-visible h = rw h (and-false (isValue (entries r) (entryAt r at e)))
+
+  -- an entry that is not live, or of another name, is not sought
+  pub sought-dead : (k : Key) → liveState (e .state) ≡ false
+      → isSought runtime k (entries r) (entryAt r at e) ≡ false
+  unfolding isSeen isSought
+  sought-dead k h =
+      let p = or-split (eqb (e .state) 0x3F) (eqb (e .state) 0x3E) h in
+      let v = value-other r at e (eqb-false (e .state) 0x3F (p .0)) (eqb-false (e .state) 0x3E (p .1)) in
+      rw v (and-false (sameKey (walk.entryKey (entryAt r at e)) k))
+
+  own-state : (k : Key) → isEntry (e .state) k (entryAt r at e) ≡ sameKey (walk.entryKey (entryAt r at e)) k
+  unfolding entryAt walk.placed
+  own-state k = rw (eq-eqb (e .state) (e .state) refl)
+
+  pub sought-other : (k : Key) → isEntry (e .state) k (entryAt r at e) ≡ false
+      → isSought runtime k (entries r) (entryAt r at e) ≡ false
+  unfolding isSought
+  sought-other k h = rw (sym (own-state k) ∙ h)
+
+  pub sought-named : (k : Key) → isEntry (e .state) k (entryAt r at e) ≡ true
+      → isSought runtime k (entries r) (entryAt r at e) ≡ isSeen runtime (entries r) (entryAt r at e)
+  unfolding isSought
+  sought-named k h = rw (sym (own-state k) ∙ h)
+
+-- ---- of the walk from an offset on
+
+pub get-from : (runtime : Bool) (k : Key) (r : List ℕ) → entryToGet runtime k (entries r) ≡ first (λ e. sameKey (walk.entryKey e) k) (seenFrom runtime r 28)
+unfolding entryToGet seenFrom
+get-from runtime k r = ap (λ (es : List walk.Entry). first (λ e. sameKey (walk.entryKey e) k) (keep (isSeen runtime (entries r)) es)) (entries-from r)
+
+pub name-from : (runtime : Bool) (k : Key) (r : List ℕ) → entryToName runtime k (entries r) ≡ goingOn (same (k .name) emptyName) k (seenFrom runtime r 28)
+unfolding entryToName seenFrom
+name-from runtime k r = ap (λ (es : List walk.Entry). goingOn (same (k .name) emptyName) k (keep (isSeen runtime (entries r)) es)) (entries-from r)
+
+pub seen-none : (runtime : Bool) (r : List ℕ) (at : ℕ) → from r at ≡ [] → seenFrom runtime r at ≡ []
+unfolding seenFrom
+seen-none runtime r at p = ap (keep (isSeen runtime (entries r))) p
+
+pub going-none : (passed : Bool) (k : Key) {es : List walk.Entry} → es ≡ [] → goingOn passed k es ≡ none
+unfolding entryFollowing
+going-none true k p = rw p
+going-none false k p = rw p
+
+module _ (runtime : Bool) (r : List ℕ) (at : ℕ) (e : numbers.Entry) (n : ℕ) (w : Turned r at e n) where
+  seen-here : isSeen runtime (entries r) (entryAt r at e) ≡ true → seenFrom runtime r at ≡ entryAt r at e ∷ seenFrom runtime r n
+  unfolding seenFrom
+  seen-here h = ap (keep (isSeen runtime (entries r))) (w .walk) ∙ rw h
+
+  seen-next : isSeen runtime (entries r) (entryAt r at e) ≡ false → seenFrom runtime r at ≡ seenFrom runtime r n
+  unfolding seenFrom
+  seen-next h = ap (keep (isSeen runtime (entries r))) (w .walk) ∙ rw h
+
+  -- the entry to get
+  pub get-here : (k : Key) → isSought runtime k (entries r) (entryAt r at e) ≡ true
+      → first (λ y. sameKey (walk.entryKey y) k) (seenFrom runtime r at) ≡ some (entryAt r at e)
+  unfolding isSought
+  get-here k h =
+      let p = and-split (sameKey (walk.entryKey (entryAt r at e)) k) (isSeen runtime (entries r) (entryAt r at e)) h in
+      ap (first (λ y. sameKey (walk.entryKey y) k)) (seen-here (p .1)) ∙ rw (p .0)
+
+  pub get-next : (k : Key) → isSought runtime k (entries r) (entryAt r at e) ≡ false
+      → first (λ y. sameKey (walk.entryKey y) k) (seenFrom runtime r at) ≡ first (λ y. sameKey (walk.entryKey y) k) (seenFrom runtime r n)
+  unfolding isSought
+  get-next k h = go (isSeen runtime (entries r) (entryAt r at e)) refl
+    where
+      go : (t : Bool) → isSeen runtime (entries r) (entryAt r at e) ≡ t
+          → first (λ y. sameKey (walk.entryKey y) k) (seenFrom runtime r at) ≡ first (λ y. sameKey (walk.entryKey y) k) (seenFrom runtime r n)
+      go true s =
+          let other : sameKey (walk.entryKey (entryAt r at e)) k ≡ false = rw (s, and-true) at h in
+          ap (first (λ y. sameKey (walk.entryKey y) k)) (seen-here s) ∙ rw other
+      go false s = ap (first (λ y. sameKey (walk.entryKey y) k)) (seen-next s)
+
+  -- the entry to name, behind the name
+  pub name-here : (k : Key) → isSeen runtime (entries r) (entryAt r at e) ≡ true → goingOn true k (seenFrom runtime r at) ≡ some (entryAt r at e)
+  name-here k h = ap head (seen-here h)
+
+  pub name-next : (k : Key) → isSeen runtime (entries r) (entryAt r at e) ≡ false → goingOn true k (seenFrom runtime r at) ≡ goingOn true k (seenFrom runtime r n)
+  name-next k h = ap head (seen-next h)
+
+  -- and before it
+  pub name-before : (k : Key)
+      → goingOn false k (seenFrom runtime r at)
+      ≡ goingOn (isSought runtime k (entries r) (entryAt r at e)) k (seenFrom runtime r n)
+  unfolding entryFollowing isSought
+  name-before k = go (isSeen runtime (entries r) (entryAt r at e)) refl
+    where
+      go : (t : Bool) → isSeen runtime (entries r) (entryAt r at e) ≡ t
+          → goingOn false k (seenFrom runtime r at) ≡ goingOn (sameKey (walk.entryKey (entryAt r at e)) k && t) k (seenFrom runtime r n)
+      go true s = ap (entryFollowing k) (seen-here s) ∙ rw (and-true (sameKey (walk.entryKey (entryAt r at e)) k))
+      go false s = ap (entryFollowing k) (seen-next s) ∙ rw (and-false (sameKey (walk.entryKey (entryAt r at e)) k))

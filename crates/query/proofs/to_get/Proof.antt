@@ -1,0 +1,95 @@
+-- `query::to_get` meets its contract. The loop's invariant: the entry to get is the first of that name among those seen from here on. What is left of the
+-- region falls.
+-- Assumes nothing.
+use Prim.Native.Nat.{_-_}
+use native.Mathlib.Omega.{arith}
+use mathlib.Core.Path.{_≡_, sym, ap, _∙_}
+use lib.ListN.{length}
+use denote.Ref.{now}
+use Rattle.model.specs.Lists.{first}
+use Rattle.model.specs.Name.{sameKey}
+use Rattle.model.specs.Walk.{entryKey}
+use Rattle.model.specs.Region.{entries}
+use Rattle.region.specs.Walk.{keyed}
+use Rattle.region.proofs.Turns.{turned, stopped}
+use Rattle.query.specs.Query.{entryToGet}
+use Rattle.query.proofs.Seen.{seenFrom, get-from, seen-none, get-here, get-next}
+use borrow.Author.Needs.{needs}
+use Rattle.query.proofs.to_get.Statement.{statement}
+use Rattle.query.proofs.to_get.Tie as tie
+
+abbrev Inv-loop : tie.InvT-loop
+Inv-loop region runtime name vendor at₀ at =
+    entryToGet runtime (keyed name vendor) (entries region) ≡ first (λ e. sameKey (entryKey e) (keyed name vendor)) (seenFrom runtime region at)
+
+abbrev μ-loop : tie.MeasureT-loop
+μ-loop region runtime name vendor at₀ at = length region - at
+
+loop-holds : tie.Need-loop-holds Inv-loop μ-loop
+loop-holds c =
+    let a = c .before .before .args in
+    get-from (a .runtime) (keyed (now (a .name)) (now (a .vendor))) (now (a .region))
+
+turn-requires : tie.Need-turn-requires Inv-loop μ-loop
+turn-requires c κs = search needs
+
+enum-known-t : tie.Need-enum-known-t Inv-loop μ-loop
+enum-known-t c = search needs
+
+enum-told : tie.Need-enum-told Inv-loop μ-loop
+enum-told c = search needs
+
+returns : tie.Need-returns Inv-loop μ-loop
+returns c =
+    let l = c .before .before .before in
+    let a = l .before .before .before .args in
+    let r = now (a .region) in
+    let k = keyed (now (a .name)) (now (a .vendor)) in
+    sym (l .loop .inv ∙ ap (first (λ e. sameKey (entryKey e) k)) (seen-none (a .runtime) r (l .loop .at) (stopped r (l .loop .at) (sym (c .before .before .turn .ensures) ∙ c .enum-told .given .1))))
+
+is-sought-requires : tie.Need-is-sought-requires Inv-loop μ-loop
+is-sought-requires c κs = search needs
+
+returns-2 : tie.Need-returns-2 Inv-loop μ-loop
+returns-2 c =
+    let l = c .before .before .before .before .before .before .before in
+    let a = l .before .before .before .args in
+    let r = now (a .region) in
+    let k = keyed (now (a .name)) (now (a .vendor)) in
+    let t = c .before .before .before .before .t .given in
+    let w = turned r (l .loop .at) (t .0 .0) (t .0 .1 .0) (sym (c .before .before .before .before .before .before .turn .ensures) ∙ t .1) in
+    sym (l .loop .inv ∙ get-here (a .runtime) r (l .loop .at) (t .0 .0) (t .0 .1 .0) w k (sym (c .before .is-sought .ensures) ∙ c .if1 .taken))
+
+loop-less : tie.Need-loop-less Inv-loop μ-loop
+loop-less c =
+    let l = c .before .before .before .before .before .before .before in
+    let r = now (l .before .before .before .args .region) in
+    let t = c .before .before .before .before .t .given in
+    let w = turned r (l .loop .at) (t .0 .0) (t .0 .1 .0) (sym (c .before .before .before .before .before .before .turn .ensures) ∙ t .1) in
+    omega arith
+
+loop-again : tie.Need-loop-again Inv-loop μ-loop
+loop-again c =
+    let l = c .before .before .before .before .before .before .before in
+    let a = l .before .before .before .args in
+    let r = now (a .region) in
+    let k = keyed (now (a .name)) (now (a .vendor)) in
+    let t = c .before .before .before .before .t .given in
+    let w = turned r (l .loop .at) (t .0 .0) (t .0 .1 .0) (sym (c .before .before .before .before .before .before .turn .ensures) ∙ t .1) in
+    l .loop .inv ∙ get-next (a .runtime) r (l .loop .at) (t .0 .0) (t .0 .1 .0) w k (sym (c .before .is-sought .ensures) ∙ c .if1 .left)
+
+pub to-get-spec : {M : Type 1} → statement M
+to-get-spec =
+    tie.close
+    (tie.spec
+    Inv-loop
+    μ-loop
+    loop-holds
+    turn-requires
+    enum-known-t
+    enum-told
+    returns
+    is-sought-requires
+    returns-2
+    loop-less
+    loop-again)

@@ -1,0 +1,134 @@
+-- `query::to_name` meets its contract. The loop's invariant: the entry to name is, once the name is passed, the first of those seen from here on, and else
+-- the one that follows the name among them. What is left of the region falls.
+-- Assumes nothing.
+use Prim.Native.Nat.{_-_}
+use native.Mathlib.Omega.{arith}
+use mathlib.Core.Path.{_≡_, sym, ap, _∙_}
+use lib.ListN.{length}
+use denote.Ref.{now}
+use mathlib.Core.Bool.{Bool}
+use Rattle.model.specs.Region.{entries}
+use Rattle.region.specs.Walk.{keyed}
+use Rattle.region.proofs.Turns.{turned, stopped}
+use Rattle.query.specs.Query.{goingOn, entryToName}
+use Rattle.query.proofs.Seen.{seenFrom, name-from, seen-none, going-none, name-here, name-next, name-before}
+use borrow.Author.Needs.{needs}
+use Rattle.query.proofs.to_name.Statement.{statement}
+use Rattle.query.proofs.to_name.Tie as tie
+
+abbrev Inv-loop : tie.InvT-loop
+Inv-loop region runtime name vendor passed₀ here₀ passed here =
+    entryToName runtime (keyed name vendor) (entries region) ≡ goingOn passed (keyed name vendor) (seenFrom runtime region here)
+
+abbrev μ-loop : tie.MeasureT-loop
+μ-loop region runtime name vendor passed₀ here₀ passed here = length region - here
+
+is-empty-name-requires : tie.Need-is-empty-name-requires Inv-loop μ-loop
+is-empty-name-requires c κs = search needs
+
+loop-holds : tie.Need-loop-holds Inv-loop μ-loop
+loop-holds c =
+    let a = c .before .before .before .args in
+    let k = keyed (now (a .name)) (now (a .vendor)) in
+    name-from (a .runtime) k (now (a .region)) ∙ ap (λ (p : Bool). goingOn p k (seenFrom (a .runtime) (now (a .region)) 28)) (sym (c .is-empty-name .ensures))
+
+turn-requires : tie.Need-turn-requires Inv-loop μ-loop
+turn-requires c κs = search needs
+
+enum-known-t : tie.Need-enum-known-t Inv-loop μ-loop
+enum-known-t c = search needs
+
+enum-told : tie.Need-enum-told Inv-loop μ-loop
+enum-told c = search needs
+
+returns : tie.Need-returns Inv-loop μ-loop
+returns c =
+    let l = c .before .before .before in
+    let a = l .before .before .before .before .args in
+    let r = now (a .region) in
+    let k = keyed (now (a .name)) (now (a .vendor)) in
+    sym (l .loop .inv ∙ going-none (l .loop .passed) k (seen-none (a .runtime) r (l .loop .here) (stopped r (l .loop .here) (sym (c .before .before .turn .ensures) ∙ c .enum-told .given .1))))
+
+is-seen-requires : tie.Need-is-seen-requires Inv-loop μ-loop
+is-seen-requires c κs = search needs
+
+returns-2 : tie.Need-returns-2 Inv-loop μ-loop
+returns-2 c =
+    let l = c .before .before .before .before .before .before .before in
+    let a = l .before .before .before .before .args in
+    let r = now (a .region) in
+    let k = keyed (now (a .name)) (now (a .vendor)) in
+    let t = c .before .before .before .before .t .given in
+    let w = turned r (l .loop .here) (t .0 .0) (t .0 .1 .0) (sym (c .before .before .before .before .before .before .turn .ensures) ∙ t .1) in
+    let here = name-here (a .runtime) r (l .loop .here) (t .0 .0) (t .0 .1 .0) w k (sym (c .before .is-seen .ensures) ∙ c .if2 .taken) in
+    sym (l .loop .inv ∙ ap (λ (p : Bool). goingOn p k (seenFrom (a .runtime) r (l .loop .here))) (c .before .before .if1 .taken) ∙ here)
+
+is-sought-requires : tie.Need-is-sought-requires Inv-loop μ-loop
+is-sought-requires c κs = search needs
+
+loop-less : tie.Need-loop-less Inv-loop μ-loop
+loop-less c =
+    let l = c .before .before .before .before .before .before .before in
+    let a = l .before .before .before .before .args in
+    let r = now (a .region) in
+    let k = keyed (now (a .name)) (now (a .vendor)) in
+    let t = c .before .before .before .before .t .given in
+    let w = turned r (l .loop .here) (t .0 .0) (t .0 .1 .0) (sym (c .before .before .before .before .before .before .turn .ensures) ∙ t .1) in
+    omega arith
+
+loop-again : tie.Need-loop-again Inv-loop μ-loop
+loop-again c =
+    let l = c .before .before .before .before .before .before .before in
+    let a = l .before .before .before .before .args in
+    let r = now (a .region) in
+    let k = keyed (now (a .name)) (now (a .vendor)) in
+    let t = c .before .before .before .before .t .given in
+    let w = turned r (l .loop .here) (t .0 .0) (t .0 .1 .0) (sym (c .before .before .before .before .before .before .turn .ensures) ∙ t .1) in
+    let more = name-next (a .runtime) r (l .loop .here) (t .0 .0) (t .0 .1 .0) w k (sym (c .before .is-seen .ensures) ∙ c .if2 .left) in
+    l .loop .inv
+    ∙ ap (λ (p : Bool). goingOn p k (seenFrom (a .runtime) r (l .loop .here))) (c .before .before .if1 .taken)
+    ∙ more
+    ∙ ap (λ (p : Bool). goingOn p k (seenFrom (a .runtime) r (t .0 .1 .0))) (sym (c .before .before .if1 .taken))
+
+loop-less-2 : tie.Need-loop-less-2 Inv-loop μ-loop
+loop-less-2 c =
+    let l = c .before .before .before .before .before .before .before in
+    let a = l .before .before .before .before .args in
+    let r = now (a .region) in
+    let k = keyed (now (a .name)) (now (a .vendor)) in
+    let t = c .before .before .before .before .t .given in
+    let w = turned r (l .loop .here) (t .0 .0) (t .0 .1 .0) (sym (c .before .before .before .before .before .before .turn .ensures) ∙ t .1) in
+    omega arith
+
+loop-again-2 : tie.Need-loop-again-2 Inv-loop μ-loop
+loop-again-2 c =
+    let l = c .before .before .before .before .before .before .before in
+    let a = l .before .before .before .before .args in
+    let r = now (a .region) in
+    let k = keyed (now (a .name)) (now (a .vendor)) in
+    let t = c .before .before .before .before .t .given in
+    let w = turned r (l .loop .here) (t .0 .0) (t .0 .1 .0) (sym (c .before .before .before .before .before .before .turn .ensures) ∙ t .1) in
+    l .loop .inv
+    ∙ ap (λ (p : Bool). goingOn p k (seenFrom (a .runtime) r (l .loop .here))) (c .before .before .if1 .left)
+    ∙ name-before (a .runtime) r (l .loop .here) (t .0 .0) (t .0 .1 .0) w k
+    ∙ ap (λ (p : Bool). goingOn p k (seenFrom (a .runtime) r (t .0 .1 .0))) (sym (c .is-sought .ensures))
+
+pub to-name-spec : {M : Type 1} → statement M
+to-name-spec =
+    tie.close
+    (tie.spec
+    Inv-loop
+    μ-loop
+    is-empty-name-requires
+    loop-holds
+    turn-requires
+    enum-known-t
+    enum-told
+    returns
+    is-seen-requires
+    returns-2
+    is-sought-requires
+    loop-less
+    loop-again
+    loop-less-2
+    loop-again-2)

@@ -1,0 +1,2 @@
+-- Which entry a get and a next-name answer with.
+pub mod Query

@@ -1,0 +1,58 @@
+-- Which entry a get and a next-name answer with: that of the value which the rules name, by tests on the entries themselves.
+use Prim.Native.Nat.{ℕ}
+use mathlib.Core.Bool.{Bool, not, cond, _&&_, _||_}
+use mathlib.Core.List.{List, [], _∷_}
+use mathlib.Core.Option.{Option, none, some}
+use Rattle.model.specs.Lists.{same, keep, first, head}
+use Rattle.model.specs.Name.{Key, sameKey, emptyName}
+use Rattle.model.specs.Entry.{Value}
+use Rattle.model.specs.Walk.{Entry, entryKey}
+use Rattle.model.specs.Region.{isValue, find}
+use Rattle.model.specs.Request.{runtimeAccess}
+use Rattle.model.specs.Rules.{following}
+use Rattle.region.specs.Walk.{entryAt}
+use Rattle.values.specs.declared.Found.{Found}
+use Rattle.values.specs.declared.Found.the-variants.{At, Nothing}
+
+-- the entry of a region that was found by its offset and numbers
+abbrev pub entryIn : List ℕ → Found → Option Entry
+entryIn r (At at e) = some (entryAt r at e)
+entryIn r Nothing = none
+
+-- "at runtime, values without RT are absent to get and next-name": of attributes, of values, and of an entry beside all entries
+abbrev pub visible : Bool → ℕ → Bool
+visible runtime attributes = not runtime || runtimeAccess attributes
+
+unfoldable pub seenAt : Bool → List Value → List Value
+seenAt runtime vs = cond runtime (keep (λ v. runtimeAccess (v .attributes)) vs) vs
+
+unfoldable pub isSeen : Bool → List Entry → Entry → Bool
+isSeen runtime es e = isValue es e && visible runtime (e .header .attributes)
+
+-- an entry is a value that is seen, of this name and GUID
+unfoldable pub isSought : Bool → Key → List Entry → Entry → Bool
+isSought runtime k es e = sameKey (entryKey e) k && isSeen runtime es e
+
+-- the entry of the value to get
+unfoldable pub entryToGet : Bool → Key → List Entry → Option Entry
+entryToGet runtime k es = first (λ e. sameKey (entryKey e) k) (keep (isSeen runtime es) es)
+
+-- the entry that comes after another's name in a list; none where that name is absent or the last
+unfoldable pub entryFollowing : Key → List Entry → Option Entry
+entryFollowing k [] = none
+entryFollowing k (e ∷ es) = cond (sameKey (entryKey e) k) (head es) (entryFollowing k es)
+
+-- the one to go on with: the first of a list, or the first behind a name
+abbrev pub goingOn : Bool → Key → List Entry → Option Entry
+goingOn passed k es = cond passed (head es) (entryFollowing k es)
+
+-- the entry of the next value: the first after the empty name, whatever the GUID
+unfoldable pub entryToName : Bool → Key → List Entry → Option Entry
+entryToName runtime k es = goingOn (same (k .name) emptyName) k (keep (isSeen runtime es) es)
+
+-- the values themselves, as the rules have them
+unfoldable pub getAt : Bool → Key → List Value → Option Value
+getAt runtime k vs = find k (seenAt runtime vs)
+
+unfoldable pub nameAt : Bool → Key → List Value → Option Value
+nameAt runtime k vs = cond (same (k .name) emptyName) (head (seenAt runtime vs)) (following k (seenAt runtime vs))

@@ -1,0 +1,91 @@
+// Which value a get and a next-name answer with: the entry of a region that holds it.
+ghost use mathlib.Core.Path.{_≡_};
+ghost use Rattle.model.specs.Lists.{same};
+ghost use Rattle.model.specs.Name.{emptyName};
+ghost use Rattle.model.specs.Region.{entries};
+ghost use Rattle.region.specs.Walk.{entryAt, keyed};
+ghost use Rattle.query.specs.Query.{entryIn, visible, isSeen, isSought, entryToGet, entryToName};
+use layout::Entry;
+use region::Turn;
+use region::judge;
+use region::walk;
+use values::Found;
+use values::list;
+
+// Whether a value with these attributes is seen: at runtime only with runtime access.
+fn is_visible(runtime: bool, attributes: u32) -> bool
+    ensures { λ r. ⌜ r ≡ visible runtime attributes ⌝ }
+{
+    if runtime {
+        return attributes / 0x04 % 2 == 1;
+    }
+    true
+}
+
+// Whether an entry is a value that is seen.
+fn is_seen(region: &[u8], at: usize, e: Entry, runtime: bool) -> bool
+    ensures { λ r. ⌜ r ≡ isSeen runtime (entries (now (region .entry))) (entryAt (now (region .entry)) at e) ⌝ }
+{
+    if is_visible(runtime, e.attributes) {
+        return list::is_value(region, at, e);
+    }
+    false
+}
+
+// Whether an entry is a value that is seen, of this name and GUID; what is cheap to look at comes first.
+fn is_sought(region: &[u8], at: usize, e: Entry, runtime: bool, name: &[u8], vendor: &[u8]) -> bool
+    ensures { λ r. ⌜ r ≡ isSought runtime (keyed (now (name .entry)) (now (vendor .entry))) (entries (now (region .entry))) (entryAt (now (region .entry)) at e) ⌝ }
+{
+    if judge::is_live(e.state) {
+        if walk::is_entry(region, at, e, e.state, name, vendor) {
+            return is_seen(region, at, e, runtime);
+        }
+    }
+    false
+}
+
+// The value to get: the one of this name and GUID, if it is seen.
+pub fn to_get(region: &[u8], runtime: bool, name: &[u8], vendor: &[u8; 16]) -> Found
+    ensures { λ r. ⌜ entryIn (now (region .entry)) r ≡ entryToGet runtime (record { name = now (name .entry); vendor = now (vendor .entry) }) (entries (now (region .entry))) ⌝ }
+{
+    let mut at: usize = 28;
+    loop {
+        let t = walk::turn(region, at);
+        let Turn::Entry(e, next) = t else {
+            return Found::Nothing;
+        };
+        if is_sought(region, at, e, runtime, name, vendor) {
+            return Found::At(at, e);
+        }
+        at = next;
+    }
+}
+
+// Whether a name is the two-byte empty one, with which next-name begins.
+pub fn is_empty_name(name: &[u8]) -> bool
+    ensures { λ r. ⌜ r ≡ same (now (name .entry)) emptyName ⌝ }
+{
+    slices::equal(name, b"\0\0")
+}
+
+// The value to name: the first that is seen behind the one of this name and GUID, or the first of all behind the empty name.
+pub fn to_name(region: &[u8], runtime: bool, name: &[u8], vendor: &[u8; 16]) -> Found
+    ensures { λ r. ⌜ entryIn (now (region .entry)) r ≡ entryToName runtime (record { name = now (name .entry); vendor = now (vendor .entry) }) (entries (now (region .entry))) ⌝ }
+{
+    let mut passed = is_empty_name(name);
+    let mut here: usize = 28;
+    loop {
+        let t = walk::turn(region, here);
+        let Turn::Entry(e, next) = t else {
+            return Found::Nothing;
+        };
+        if passed {
+            if is_seen(region, here, e, runtime) {
+                return Found::At(here, e);
+            }
+        } else {
+            passed = is_sought(region, here, e, runtime, name, vendor);
+        }
+        here = next;
+    }
+}

@@ -1,0 +1,93 @@
+-- `session::is_locked` meets its contract. The loop's invariant: the name is locked just if one of the places in use from `i` on holds it. Assumes nothing.
+use Prim.Native.Nat.{min, _-_, _≤_}
+use native.Mathlib.Omega.{arith}
+use mathlib.Core.Path.{_≡_, refl, sym, _∙_}
+use denote.Ref.{now}
+use Rattle.model.specs.Name.{Key}
+use borrow.Author.Needs.{needs}
+use Rattle.session.proofs.Places.{heldFrom, held-end, held-here, held-next, locked-held}
+use Rattle.session.proofs.is_locked.Statement.{statement}
+use Rattle.session.proofs.is_locked.Tie as tie
+
+abbrev Inv-loop : tie.InvT-loop
+Inv-loop name vendor sizes locks count i₀ i =
+    (i ≤ min count 16)
+    × (heldFrom sizes locks count (record { name = name; vendor = vendor }) 0 ≡ heldFrom sizes locks count (record { name = name; vendor = vendor }) i)
+
+abbrev μ-loop : tie.MeasureT-loop
+μ-loop name vendor sizes locks count i₀ i = 16 - i
+
+cast-count : tie.Need-cast-count Inv-loop μ-loop
+cast-count c = search needs
+
+loop-holds : tie.Need-loop-holds Inv-loop μ-loop
+loop-holds c = (omega arith, refl)
+
+returns : tie.Need-returns Inv-loop μ-loop
+returns c =
+    let l = c .before .before in
+    let a = l .before .before .before .before .before .args in
+    let k : Key = record { name = now (a .name); vendor = now (a .vendor) } in
+    sym (locked-held (a .s) k ∙ l .loop .inv .1 ∙ held-end (a .s .sizes) (a .s .locks) (a .s .count) k (l .loop .i) (omega arith))
+
+slice-aggregate-is-place : tie.Need-slice-aggregate-is-place Inv-loop μ-loop
+slice-aggregate-is-place c = search needs
+
+mul-is-place : tie.Need-mul-is-place Inv-loop μ-loop
+mul-is-place c = search needs
+
+array-read-is-place : tie.Need-array-read-is-place Inv-loop μ-loop
+array-read-is-place c = search needs
+
+cast-is-place : tie.Need-cast-is-place Inv-loop μ-loop
+cast-is-place c = search needs
+
+is-place-requires : tie.Need-is-place-requires Inv-loop μ-loop
+is-place-requires c κs = search needs
+
+returns-2 : tie.Need-returns-2 Inv-loop μ-loop
+returns-2 c =
+    let l = c .before .before .before .before .before .before in
+    let a = l .before .before .before .before .before .args in
+    let k : Key = record { name = now (a .name); vendor = now (a .vendor) } in
+    sym (locked-held (a .s) k ∙ l .loop .inv .1 ∙ held-here (a .s .sizes) (a .s .locks) (a .s .count) k (l .loop .i) (omega arith) (sym (c .before .is-place .ensures) ∙ c .if2 .taken))
+
+add-i : tie.Need-add-i Inv-loop μ-loop
+add-i c = search needs
+
+loop-less : tie.Need-loop-less Inv-loop μ-loop
+loop-less c = search needs
+
+loop-again : tie.Need-loop-again Inv-loop μ-loop
+loop-again c =
+    let l = c .before .before .before .before .before .before in
+    let a = l .before .before .before .before .before .args in
+    let k : Key = record { name = now (a .name); vendor = now (a .vendor) } in
+    (omega arith, l .loop .inv .1 ∙ held-next (a .s .sizes) (a .s .locks) (a .s .count) k (l .loop .i) (omega arith) (sym (c .before .is-place .ensures) ∙ c .if2 .left))
+
+returns-3 : tie.Need-returns-3 Inv-loop μ-loop
+returns-3 c =
+    let l = c .before in
+    let a = l .before .before .before .before .before .args in
+    let k : Key = record { name = now (a .name); vendor = now (a .vendor) } in
+    sym (locked-held (a .s) k ∙ l .loop .inv .1 ∙ held-end (a .s .sizes) (a .s .locks) (a .s .count) k (l .loop .i) (omega arith))
+
+pub is-locked-spec : {M : Type 1} → statement M
+is-locked-spec =
+    tie.close
+    (tie.spec
+    Inv-loop
+    μ-loop
+    cast-count
+    loop-holds
+    returns
+    slice-aggregate-is-place
+    mul-is-place
+    array-read-is-place
+    cast-is-place
+    is-place-requires
+    returns-2
+    add-i
+    loop-less
+    loop-again
+    returns-3)

@@ -1,0 +1,115 @@
+// What a session says of a call: its phase, its reserve and its locks; and the lock call.
+ghost use mathlib.Core.Path.{_≡_};
+ghost use mathlib.Core.Bool.{cond};
+ghost use Prim.Native.Nat.{_≤_, _<_};
+ghost use lib.Dec.{eqb};
+ghost use Rattle.model.specs.Session.{countedPhase, countedReserve, locked};
+ghost use Rattle.model.specs.Answers.{answerOf, lockOutcome, lockSession};
+ghost use Rattle.session.specs.Places.{holds};
+use model::Answer;
+use model::Listed;
+use model::Rule;
+use model::Session;
+
+// Whether the phase is boot.
+pub fn in_boot(phase: u32) -> bool
+    ensures { λ r. ⌜ r ≡ eqb (countedPhase phase) 0 ⌝ }
+{
+    phase == 0
+}
+
+// Whether the phase is runtime: 2, and any number above it.
+pub fn at_runtime(phase: u32) -> bool
+    ensures { λ r. ⌜ r ≡ eqb (countedPhase phase) 2 ⌝ }
+{
+    2 <= phase
+}
+
+// The bytes kept back: R at runtime, at most 4,096, else none.
+pub fn reserved(phase: u32, reserve: u32) -> u32
+    ensures { λ r. ⌜ (r ≡ cond (eqb (countedPhase phase) 2) (countedReserve reserve) 0) × (r ≤ 4096) ⌝ }
+{
+    if phase < 2 {
+        return 0;
+    }
+    if 4096 < reserve {
+        return 4096;
+    }
+    reserve
+}
+
+// Whether a place of the lock list holds a name: well formed, and the same name and GUID. A listed name that is not well formed locks nothing.
+fn is_place(locks: &[u8], place: usize, size: usize, name: &[u8], vendor: &[u8]) -> bool
+    requires { ⌜ place < 16 ⌝ }
+    ensures { λ r. ⌜ r ≡ holds (now (locks .entry)) place size (record { name = now (name .entry); vendor = now (vendor .entry) }) ⌝ }
+{
+    let at = 144 * place;
+    let listed = slices::cut(locks, at, size);
+    if !slices::is_named(listed) {
+        return false;
+    }
+    if !slices::equal(listed, name) {
+        return false;
+    }
+    let guid = slices::cut(locks, at + 128, 16);
+    slices::equal(guid, vendor)
+}
+
+// Whether a name is locked: one of the places in use holds it. A count above 16 is 16.
+pub fn is_locked(s: Session, name: &[u8], vendor: &[u8; 16]) -> bool
+    ensures { λ r. ⌜ r ≡ locked s (record { name = now (name .entry); vendor = now (vendor .entry) }) ⌝ }
+{
+    let sizes = s.sizes;
+    let locks = s.locks;
+    let count = s.count as usize;
+    let mut i = 0;
+    while i < 16 {
+        if count <= i {
+            return false;
+        }
+        if is_place(&locks, i, sizes[i] as usize, name, vendor) {
+            return true;
+        }
+        i += 1;
+    }
+    false
+}
+
+// The lock call: rules 3, 15 and 16 in this order; a name already listed is accepted unchanged.
+pub fn lock(s: Session, name: &[u8], vendor: &[u8; 16]) -> Listed
+    ensures { λ r.
+        ⌜ (answerOf (r .answer) ≡ lockOutcome s (record { name = now (name .entry); vendor = now (vendor .entry) }))
+        × (r .session ≡ lockSession s (record { name = now (name .entry); vendor = now (vendor .entry) })) ⌝ }
+{
+    let named = slices::is_named(name);
+    let boot = in_boot(s.phase);
+    if !named {
+        return Listed {
+            answer: Answer::Refused(Rule::Name),
+            session: s,
+        };
+    }
+    if !boot {
+        return Listed {
+            answer: Answer::Refused(Rule::LockPhase),
+            session: s,
+        };
+    }
+    if is_locked(s, name, vendor) {
+        return Listed {
+            answer: Answer::Done(0),
+            session: s,
+        };
+    }
+    if 16 <= s.count {
+        return Listed {
+            answer: Answer::Refused(Rule::LockSpace),
+            session: s,
+        };
+    }
+    let session = s.with_lock(name, vendor);
+    Listed {
+        answer: Answer::Done(0),
+        session,
+    }
+}
