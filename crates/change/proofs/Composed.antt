@@ -1,0 +1,61 @@
+-- A compaction with a put: the values without the changed one's name and then its entry are the values after the change, joined; they are written at the
+-- front of a buffer that holds them, and with FF bytes behind them they are the region to store.
+-- Assumes nothing.
+use Prim.Native.Nat.{ℕ, _+_, _^_, _≤_, _<_}
+use native.Mathlib.Nat.{zero-add}
+use native.Mathlib.Omega.{arith}
+use mathlib.Core.Path.{_≡_, sym, ap, _∙_}
+use mathlib.Core.List.{List, [], _∷_, _++_, append-assoc}
+use lib.ListN.{length, take, drop, length-append}
+use lib.Seq.{take-at, sets-eq}
+use Rattle.model.specs.Lists.{part}
+use Rattle.model.specs.Image.{regionHeader}
+use Rattle.model.specs.Entry.{Value, keyOf, entrySize, entryBytes}
+use Rattle.model.specs.Change.{without, put, step, entrySizes, spaceOf}
+use Rattle.model.specs.Compact.{joined}
+use Rattle.text.specs.Text.{Wrote}
+use Rattle.text.proofs.Writing.{wrote-append, wrote-as}
+use Rattle.compose.proofs.Encoded.{joined-put}
+
+module _ (n : ℕ) (v : Value) (vs : List Value) where
+  others : List ℕ
+  others = regionHeader n ++ joined (without (keyOf v) vs)
+
+  with-put : others ++ entryBytes 0x3F v ≡ regionHeader n ++ joined (step (put v) vs)
+  unfolding others
+  with-put =
+      append-assoc (regionHeader n) (joined (without (keyOf v) vs)) (entryBytes 0x3F v)
+      ∙ ap (λ (l : List ℕ). regionHeader n ++ l) (joined-put v vs)
+
+  pub put-wrote : {n₁ n₂ : ℕ} {l l₁ l₂ : List ℕ} → Wrote (regionHeader n ++ joined (without (keyOf v) vs)) 0 l l₁ n₁
+      → Wrote (entryBytes 0x3F v) n₁ l₁ l₂ n₂ → Wrote (regionHeader n ++ joined (step (put v) vs)) 0 l l₂ n₂
+  unfolding others
+  put-wrote a b = wrote-as with-put (wrote-append a b)
+
+  -- what the entry's writing asks: a place and a stamp and GUID that are short
+  pub put-asked : {n₁ : ℕ} {l l₁ : List ℕ} → Wrote (regionHeader n ++ joined (without (keyOf v) vs)) 0 l l₁ n₁
+      → (length (v .name) < 2 ^ 32) × (length (v .bytes) < 2 ^ 32) × (length (regionHeader n ++ joined (step (put v) vs)) ≤ 28672)
+      → length (v .stamp) ≡ 16 → length (v .vendor) ≡ 16
+      → (n₁ < 2 ^ 62) × (length (v .stamp) < 2 ^ 32) × (length (v .name) < 2 ^ 32) × (length (v .vendor) < 2 ^ 32) × (length (v .bytes) < 2 ^ 32)
+  unfolding others
+  put-asked w h st ve =
+      let place = w .place in
+      let all = ap length with-put in
+      let both = length-append others (entryBytes 0x3F v) in
+      (omega (arith, h .2), omega arith, h .0, omega arith, h .1)
+
+-- the front of a buffer that holds what was written
+pub wrote-front : {text before after : List ℕ} {next : ℕ} → Wrote text 0 before after next → length text ≤ length before → part 0 next after ≡ text
+wrote-front {text} {before} {after} {next} w h =
+    ap (λ (l : List ℕ). take next l) (w .buffer ∙ sets-eq text before 0 (omega arith))
+    ∙ take-at text (drop (0 + length text) before) next (sym (w .place ∙ zero-add (length text)))
+
+-- the changed one's own space
+last-space : (v : Value) (ws : List Value) → entrySize v ≤ entrySizes (ws ++ (v ∷ []))
+unfolding entrySizes
+last-space v [] = omega arith
+last-space v (w ∷ ws) = let h = last-space v ws in omega arith
+
+pub put-space : (v : Value) (vs : List Value) → entrySize v ≤ spaceOf (step (put v) vs)
+unfolding step spaceOf
+put-space v vs = let h = last-space v (without (keyOf v) vs) in omega arith

@@ -1,0 +1,69 @@
+-- What stands ready before a put. The checks leave an image of a right length with a clean region and an idle work block; and a value that has room in the region
+-- is no longer than the largest one.
+-- Assumes nothing.
+use Prim.Native.Nat.{ℕ, _*_, _+_, _≤_}
+use native.Mathlib.Omega.{arith}
+use mathlib.Core.Path.{_≡_, sym, ap, _∙_, subst}
+use mathlib.Core.Bool.{true, _&&_}
+use mathlib.Core.List.{List}
+use lib.ListN.{length}
+use lib.Dec.{eqb, leb}
+use borrow.Author.Tests.{leb-true, eqb-true}
+use Rattle.model.specs.Lists.{part, allFF}
+use Rattle.model.specs.Image.{block, blocks, rightLength, regionSize, region, work, spare}
+use Rattle.model.specs.Entry.{Value, plainSize}
+use Rattle.model.specs.Region.{clean, valuesOf}
+use Rattle.model.specs.Work.{idle, readyForCall}
+use Rattle.model.specs.Change.{put, step, spaceOf}
+use Rattle.model.specs.Answers.{storesOf}
+use Rattle.model.specs.Set.{putPlan}
+use Rattle.model.proofs.Tests.{and-split}
+use Rattle.values.specs.declared.Places.{Places}
+use Rattle.image.proofs.Ready.{IsReady}
+use Rattle.flash.specs.declared.Progress.{Progress}
+use Rattle.flash.specs.Made.{Made}
+use Rattle.flash.proofs.Made.{made-as}
+use Rattle.change.specs.Asked.{Asked, Folds}
+use Rattle.change.proofs.Composed.{put-space}
+
+-- the length of an image of b blocks
+pub image-long : (img : List ℕ) (b : ℕ) → rightLength img ≡ true → blocks img ≡ b → (1 ≤ b) × (length img ≡ block * (2 * b + 1))
+unfolding rightLength block
+image-long img b h e =
+    let n = blocks img in
+    let t = and-split (leb 1 n && leb n 7) (eqb (length img) (4096 * (2 * n + 1))) h in
+    let low = leb-true 1 n (and-split (leb 1 n) (leb n 7) (t .0) .0) in
+    let long : length img ≡ 4096 * (2 * n + 1) = eqb-true (length img) (4096 * (2 * n + 1)) (t .1) in
+    (omega arith, omega arith)
+
+pub region-size : (img : List ℕ) (b : ℕ) → blocks img ≡ b → regionSize img ≡ 4096 * b
+unfolding regionSize block
+region-size img b e = ap (λ (k : ℕ). 4096 * k) e
+
+-- rule 2: the region is clean, the work block idle
+pub ready-clean : (img : List ℕ) → readyForCall img ≡ true → clean (region img) ≡ true
+unfolding readyForCall
+ready-clean img h =
+    and-split (clean (region img)) (allFF (spare img)) (and-split (clean (region img) && allFF (spare img)) (idle (work img)) h .0) .0
+
+pub ready-idle : (img : List ℕ) (b : ℕ) → readyForCall img ≡ true → blocks img ≡ b → idle (part (block * b) block img) ≡ true
+unfolding readyForCall work regionSize
+ready-idle img b h e =
+    ap (λ (k : ℕ). idle (part (block * k) block img)) (sym e)
+    ∙ and-split (clean (region img) && allFF (spare img)) (idle (work img)) h .1
+
+-- a value that has room is no longer than the largest region
+pub value-short : {img : List ℕ} {b t : ℕ} (v : Value) → IsReady img b t → spaceOf (step (put v) (valuesOf img)) ≤ regionSize img → plainSize v ≤ 28672
+value-short {img} {b} v r h = omega (arith, put-space v (valuesOf img), r .few, region-size img b (r .number))
+
+-- what is asked of a compaction with the value folded in
+pub asked-folds : {img : List ℕ} {b at : ℕ} {places : Places} {v : Value} {p : Progress} → Asked img b at places v p → length (v .vendor) ≡ 16 → Folds img b v p
+asked-folds {img} {b} a g =
+    record { ready = subst (λ (t : ℕ). IsReady img b t) (sym (a .ready .tail-at)) (a .ready); valid = a .valid g; room = a .room; early = a .early }
+
+-- the same value by other names
+pub asked-as : {img : List ℕ} {b at : ℕ} {places : Places} {v w : Value} {p : Progress} → v ≡ w → Asked img b at places w p → Asked img b at places v p
+asked-as {img} {b} {at} {places} {p = p} e a = subst (λ (x : Value). Asked img b at places x p) (sym e) a
+
+pub stored-as : {img j : List ℕ} {v w : Value} {p q : Progress} → v ≡ w → Made (storesOf (putPlan img v)) p img j q → Made (storesOf (putPlan img w)) p img j q
+stored-as {img} e m = made-as (ap (λ (x : Value). storesOf (putPlan img x)) e) m

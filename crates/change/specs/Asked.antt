@@ -1,0 +1,54 @@
+-- The value that a put stores, and what the checks of the call leave to it.
+use Prim.Native.Nat.{ℕ, _^_, _≤_, _<_}
+use mathlib.Core.Path.{_≡_}
+use mathlib.Core.List.{List, [], _++_}
+use lib.ListN.{length}
+use Rattle.model.specs.Lists.{onSome}
+use Rattle.model.specs.Image.{regionSize, region}
+use Rattle.model.specs.Entry.{Value, keyOf}
+use Rattle.model.specs.Region.{maxData, entries, tailAt, valuesOf, added, replacing, find}
+use Rattle.model.specs.Request.{Request}
+use Rattle.model.specs.Change.{put, newValue, step, spaceOf}
+use Rattle.model.proofs.Encode.{Valid}
+use Rattle.region.specs.Walk.{keyed}
+use Rattle.values.specs.Found.{foundOf}
+use Rattle.values.specs.declared.Places.{Places}
+use Rattle.image.proofs.Ready.{IsReady}
+use Rattle.flash.specs.declared.Progress.{Progress}
+
+-- a value by its fields
+abbrev pub valued : List ℕ → List ℕ → ℕ → List ℕ → List ℕ → Value
+valued name vendor attributes stamp bytes =
+    record { name = name; vendor = vendor; attributes = attributes; stamp = stamp; bytes = bytes }
+
+-- a set's arguments; presence and verdict say nothing of the value to put
+abbrev pub requested : List ℕ → List ℕ → ℕ → List ℕ → Request
+requested name vendor attributes bytes =
+    record { name = name; vendor = vendor; attributes = attributes; bytes = bytes; presence = 0; verdict = 0 }
+
+-- the value that a set puts over those of an image
+unfoldable pub valueToPut : List ℕ → List ℕ → List ℕ → ℕ → List ℕ → Value
+valueToPut img name vendor attributes bytes =
+    newValue (requested name vendor attributes bytes) (find (keyed name vendor) (valuesOf img))
+
+-- "Append joins the data": those of the name's value, then those given
+unfoldable pub appended : List ℕ → List ℕ → List ℕ → List ℕ → List ℕ
+appended img name vendor own = onSome (find (keyed name vendor) (valuesOf img)) (λ v. v .bytes) [] ++ own
+
+-- before a value is put: the image is ready, of b blocks and with its tail at an offset, the places are those of the name's entries, and the value is one that a
+-- region can hold (a GUID is 16 bytes by its type) and has room beside the others
+pub record Asked (img : List ℕ) (b tail : ℕ) (places : Places) (v : Value) (p : Progress) : Type 0 where
+  pub ready : IsReady img b tail
+  pub added : places .added ≡ foundOf (added (keyOf v) (entries (region img)))
+  pub replacing : places .replacing ≡ foundOf (replacing (keyOf v) (entries (region img)))
+  pub valid : length (v .vendor) ≡ 16 → Valid v
+  pub few : length (v .bytes) ≤ maxData
+  pub room : spaceOf (step (put v) (valuesOf img)) ≤ regionSize img
+  pub early : p .made < 2 ^ 60
+
+-- the same for a value that is folded into a compaction, whatever stands of its name
+pub record Folds (img : List ℕ) (b : ℕ) (v : Value) (p : Progress) : Type 0 where
+  pub ready : IsReady img b (tailAt (region img))
+  pub valid : Valid v
+  pub room : spaceOf (step (put v) (valuesOf img)) ≤ regionSize img
+  pub early : p .made < 2 ^ 60

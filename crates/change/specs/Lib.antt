@@ -1,0 +1,2 @@
+-- What a put asks for, and what it finds.
+pub mod Asked

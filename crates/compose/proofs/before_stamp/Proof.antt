@@ -1,0 +1,31 @@
+-- `compose::before_stamp` meets its contract: the bytes of the definition, written out.
+-- Assumes nothing.
+use Rattle.model.specs.Entry.{headerFront}
+use Rattle.compose.specs.Compose.{beforeStamp}
+use borrow.Author.Needs.{needs}
+use Rattle.compose.proofs.before_stamp.Statement.{statement}
+use Rattle.compose.proofs.before_stamp.Tie as tie
+
+bytes32-requires : tie.Need-bytes32-requires
+bytes32-requires c κs = search needs
+
+array-read-t8 : tie.Need-array-read-t8
+array-read-t8 c = search needs
+
+array-read-t11 : tie.Need-array-read-t11
+array-read-t11 c = search needs
+
+array-read-t14 : tie.Need-array-read-t14
+array-read-t14 c = search needs
+
+array-read-t17 : tie.Need-array-read-t17
+array-read-t17 c = search needs
+
+returns : tie.Need-returns
+unfolding beforeStamp headerFront
+returns c = rw (c .bytes32 .ensures)
+
+pub before-stamp-spec : {M : Type 1} → statement M
+before-stamp-spec =
+    tie.close
+    (tie.spec bytes32-requires array-read-t8 array-read-t11 array-read-t14 array-read-t17 returns)

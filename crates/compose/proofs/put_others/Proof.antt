@@ -1,0 +1,100 @@
+-- `compose::put_others` meets its contract. The loop's invariant: the values before this offset are written, in no more bytes than were passed. What is left of
+-- the region falls.
+-- Assumes nothing.
+use Prim.Native.Nat.{_+_, _-_, _≤_}
+use native.Mathlib.Omega.{arith}
+use mathlib.Core.Path.{_≡_, refl, sym, _∙_}
+use lib.ListN.{length}
+use denote.Ref.{now}
+use Rattle.region.specs.Walk.{keyed}
+use Rattle.values.proofs.Stands.{listed-nothing}
+use Rattle.values.proofs.Next.{next-value}
+use Rattle.compose.proofs.Carried.{Carried, carried-none, carried-next, carried-all}
+use borrow.Author.Needs.{needs}
+use Rattle.compose.proofs.put_others.Statement.{statement}
+use Rattle.compose.proofs.put_others.Tie as tie
+
+abbrev Inv-loop : tie.InvT-loop
+Inv-loop out₀ at region name vendor next₀ here₀ out next here =
+    (next ≤ at + here) × (length out ≡ length out₀) × Carried region (keyed name vendor) at out₀ out next here
+
+abbrev μ-loop : tie.MeasureT-loop
+μ-loop out₀ at region name vendor next₀ here₀ out next here = length region - here
+
+loop-holds : tie.Need-loop-holds Inv-loop μ-loop
+loop-holds c = (omega arith, refl, carried-none _ _ _ _)
+
+next-value-requires : tie.Need-next-value-requires Inv-loop μ-loop
+next-value-requires c κs = search needs
+
+enum-known-f : tie.Need-enum-known-f Inv-loop μ-loop
+enum-known-f c = search needs
+
+enum-told : tie.Need-enum-told Inv-loop μ-loop
+enum-told c = search needs
+
+same-length : tie.Need-same-length Inv-loop μ-loop
+same-length c = search needs
+
+returns : tie.Need-returns Inv-loop μ-loop
+returns c =
+    let l = c .before .before .before in
+    let r = now (c .before .before .before .before .before .before .before .before .args .region) in
+    carried-all (l .loop .inv .2) (listed-nothing r (l .loop .here) (sym (c .before .before .next-value .ensures) ∙ c .enum-told .given .1))
+
+put-other-requires : tie.Need-put-other-requires Inv-loop μ-loop
+put-other-requires c κs =
+    let l = c .before .before .before .before .before in
+    let a = c .before .before .before .before .before .before .before .before .before .before .args in
+    let r = now (a .region) in
+    let t = c .before .before .f .given in
+    let x = next-value r (l .loop .here) (t .0 .0) (t .0 .1 .0) (sym (c .before .before .before .before .next-value .ensures) ∙ t .1) in
+    (omega (arith, l .loop .inv .0, x .from-here, x .fits), omega arith)
+
+behind-requires : tie.Need-behind-requires Inv-loop μ-loop
+behind-requires c κs =
+    let l = c .before .before .before .before .before .before .before .before in
+    let a = c .before .before .before .before .before .before .before .before .before .before .before .before .before .args in
+    let r = now (a .region) in
+    let t = c .before .before .before .before .before .f .given in
+    let x = next-value r (l .loop .here) (t .0 .0) (t .0 .1 .0) (sym (c .before .before .before .before .before .before .before .next-value .ensures) ∙ t .1) in
+    omega (arith, x .fits)
+
+loop-less : tie.Need-loop-less Inv-loop μ-loop
+loop-less c =
+    let l = c .before .before .before .before .before .before .before .before .before in
+    let a = c .before .before .before .before .before .before .before .before .before .before .before .before .before .before .args in
+    let r = now (a .region) in
+    let t = c .before .before .before .before .before .before .f .given in
+    let x = next-value r (l .loop .here) (t .0 .0) (t .0 .1 .0) (sym (c .before .before .before .before .before .before .before .before .next-value .ensures) ∙ t .1) in
+    omega (arith, c .behind .ensures, x .from-here, x .fits)
+
+loop-again : tie.Need-loop-again Inv-loop μ-loop
+loop-again c =
+    let l = c .before .before .before .before .before .before .before .before .before in
+    let a = c .before .before .before .before .before .before .before .before .before .before .before .before .before .before .args in
+    let r = now (a .region) in
+    let t = c .before .before .before .before .before .before .f .given in
+    let x = next-value r (l .loop .here) (t .0 .0) (t .0 .1 .0) (sym (c .before .before .before .before .before .before .before .before .next-value .ensures) ∙ t .1) in
+    let w = c .before .before .before .put-other in (
+      omega (arith, l .loop .inv .0, w .ensures .1, c .behind .ensures, x .from-here, x .size),
+      w .kept .0 ∙ l .loop .inv .1,
+      rw (c .behind .ensures) (carried-next (l .loop .inv .2) x (w .ensures .0)),
+    )
+
+pub put-others-spec : {M : Type 1} → statement M
+put-others-spec =
+    tie.close
+    (tie.spec
+    Inv-loop
+    μ-loop
+    loop-holds
+    next-value-requires
+    enum-known-f
+    enum-told
+    same-length
+    returns
+    put-other-requires
+    behind-requires
+    loop-less
+    loop-again)

@@ -1,0 +1,57 @@
+-- `compose::put_padding` meets its contract: up to three bytes are wanted, and all are FF.
+-- Assumes nothing.
+use Prim.Native.Nat.{ℕ, _-_}
+use native.Mathlib.Omega.{arith}
+use mathlib.Core.Path.{sym}
+use mathlib.Core.List.{[], _∷_}
+use lib.Seq.{length-take-le}
+use Rattle.model.specs.Entry.{rounded}
+use Rattle.text.proofs.Writing.{wrote-as}
+use Rattle.compose.proofs.Headers.{padding}
+use borrow.Author.Needs.{needs}
+use Rattle.compose.proofs.put_padding.Statement.{statement}
+use Rattle.compose.proofs.put_padding.Tie as tie
+
+add-n : tie.Need-add-n
+add-n c = search needs
+
+mul-n : tie.Need-mul-n
+mul-n c = search needs
+
+sub-n : tie.Need-sub-n
+sub-n c = search needs
+
+array-share-prefix-blank : tie.Need-array-share-prefix-blank
+array-share-prefix-blank c = search needs
+
+slice-aggregate-put-bytes : tie.Need-slice-aggregate-put-bytes
+slice-aggregate-put-bytes c =
+    let size = c .before .before .before .before .before .args .size in
+    sym (length-take-le {A = ℕ} (rounded size - size) (0xFF ∷ 0xFF ∷ 0xFF ∷ []) (omega arith))
+
+put-bytes-requires : tie.Need-put-bytes-requires
+put-bytes-requires c κs =
+    let a = c .before .before .before .before .before .args in
+    let l = length-take-le {A = ℕ} (rounded (a .size) - a .size) (0xFF ∷ 0xFF ∷ 0xFF ∷ []) (omega arith) in
+    omega arith
+
+same-length : tie.Need-same-length
+same-length c = search needs
+
+returns : tie.Need-returns
+returns c =
+    let size = c .before .before .before .before .before .before .before .before .args .size in
+    wrote-as (padding (rounded size - size) (omega arith)) (c .before .before .put-bytes .ensures)
+
+pub put-padding-spec : {M : Type 1} → statement M
+put-padding-spec =
+    tie.close
+    (tie.spec
+    add-n
+    mul-n
+    sub-n
+    array-share-prefix-blank
+    slice-aggregate-put-bytes
+    put-bytes-requires
+    same-length
+    returns)

@@ -1,0 +1,49 @@
+-- `compose::put_value` meets its contract: what is read of the entry makes up its value, and none of it is longer than the region.
+-- Assumes nothing.
+use native.Mathlib.Omega.{arith}
+use denote.Ref.{now}
+use Rattle.text.proofs.Writing.{wrote-as}
+use Rattle.compose.proofs.Carried.{entry-value, short}
+use borrow.Author.Needs.{needs}
+use Rattle.compose.proofs.put_value.Statement.{statement}
+use Rattle.compose.proofs.put_value.Tie as tie
+
+stamp-of-requires : tie.Need-stamp-of-requires
+stamp-of-requires c κs = search needs
+
+name-of-requires : tie.Need-name-of-requires
+name-of-requires c κs = search needs
+
+vendor-of-requires : tie.Need-vendor-of-requires
+vendor-of-requires c κs = search needs
+
+data-of-requires : tie.Need-data-of-requires
+data-of-requires c κs = search needs
+
+put-entry-requires : tie.Need-put-entry-requires
+put-entry-requires c κs =
+    let a = c .before .before .before .before .before .before .before .args in
+    let s = short (now (a .region)) (a .place) (a .e) (c .before .before .before .before .stamp-of .ensures) (c .before .before .before .name-of .ensures) (c .before .before .vendor-of .ensures) (c .before .data-of .ensures) in
+    (omega arith, omega (arith, s .stamp-short), omega (arith, s .name-short), omega (arith, s .vendor-short), omega (arith, s .bytes-short))
+
+same-length : tie.Need-same-length
+same-length c = search needs
+
+returns : tie.Need-returns
+returns c =
+    let a = c .before .before .before .before .before .before .before .before .before .before .args in
+    let s = short (now (a .region)) (a .place) (a .e) (c .before .before .before .before .before .before .before .stamp-of .ensures) (c .before .before .before .before .before .before .name-of .ensures) (c .before .before .before .before .before .vendor-of .ensures) (c .before .before .before .before .data-of .ensures) in
+    let w = c .before .before .put-entry .ensures in
+    (wrote-as (entry-value (now (a .region)) (a .place) (a .e) (c .before .before .before .before .before .before .before .stamp-of .ensures) (c .before .before .before .before .before .before .name-of .ensures) (c .before .before .before .before .before .vendor-of .ensures) (c .before .before .before .before .data-of .ensures)) w, omega (arith, w .place, s .entry-short))
+
+pub put-value-spec : {M : Type 1} → statement M
+put-value-spec =
+    tie.close
+    (tie.spec
+    stamp-of-requires
+    name-of-requires
+    vendor-of-requires
+    data-of-requires
+    put-entry-requires
+    same-length
+    returns)

@@ -1,0 +1,225 @@
+// Bytes of entries, and of a region that holds values, composed in a lent buffer. As in `text`, a function is given the place of its first byte and gives
+// back the place behind its last one, and bytes past the buffer's end are counted and not stored.
+ghost use mathlib.Core.Path.{_≡_};
+ghost use Prim.Native.Nat.{_+_, _-_, _^_, _<_, _≤_};
+ghost use mathlib.Core.List.{[], _∷_, _++_};
+ghost use lib.ListN.{length, replicate, drop};
+ghost use Rattle.model.specs.Lists.{bytes32};
+ghost use Rattle.model.specs.Image.{regionHeader};
+ghost use Rattle.model.specs.Entry.{rounded, headerFields, entrySize, entryBytes};
+ghost use Rattle.model.specs.Walk.{entryValue};
+ghost use Rattle.model.specs.Region.{entries, values};
+ghost use Rattle.model.specs.Change.{without};
+ghost use Rattle.model.specs.Compact.{joined};
+ghost use Rattle.region.specs.Walk.{entryAt, keyed};
+ghost use Rattle.text.specs.Text.{Wrote};
+ghost use Rattle.compose.specs.Compose.{beforeStamp, behindStamp, headerBytes, oldData};
+use layout::Entry;
+use region::walk;
+use values::Found;
+use values::list;
+use values::lookup;
+
+// A number as four bytes, little-endian.
+fn bytes32(n: usize) -> [u8; 4]
+    ensures { λ r. ⌜ r ≡ bytes32 n ⌝ }
+{
+    [
+        (n % 256) as u8,
+        (n / 0x100 % 256) as u8,
+        (n / 0x10000 % 256) as u8,
+        (n / 0x1000000 % 256) as u8,
+    ]
+}
+
+// A header up to its stamp: start id, state, zero, attributes, monotonic count 0.
+fn before_stamp(state: u8, attributes: u32) -> [u8; 16]
+    ensures { λ r. ⌜ r ≡ beforeStamp state attributes ⌝ }
+{
+    let a = bytes32(attributes as usize);
+    [
+        0xAA,
+        0x55,
+        state,
+        0,
+        a[0],
+        a[1],
+        a[2],
+        a[3],
+        0,
+        0,
+        0,
+        0,
+        0,
+        0,
+        0,
+        0,
+    ]
+}
+
+// From behind the stamp up to the GUID: key index 0, name size, data size.
+fn behind_stamp(name: usize, size: usize) -> [u8; 12]
+    ensures { λ r. ⌜ r ≡ behindStamp name size ⌝ }
+{
+    let n = bytes32(name);
+    let d = bytes32(size);
+    [0, 0, 0, 0, n[0], n[1], n[2], n[3], d[0], d[1], d[2], d[3]]
+}
+
+// An entry's header.
+fn put_header(
+    out: &mut [u8],
+    at: usize,
+    state: u8,
+    attributes: u32,
+    stamp: &[u8],
+    name: usize,
+    size: usize,
+    vendor: &[u8],
+) -> usize
+    requires { ⌜ (at < 2 ^ 62) × (length (now stamp) < 2 ^ 32) × (length (now vendor) < 2 ^ 32) ⌝ }
+    ensures { λ r. ⌜ Wrote (headerBytes state attributes (now (stamp .entry)) name size (now (vendor .entry))) at (now (out .entry)) (now (out .exit)) r × (r ≡ at + 28 + length (now (stamp .entry)) + length (now (vendor .entry))) ⌝ }
+{
+    let front = before_stamp(state, attributes);
+    let next = text::put_bytes(out, at, &front);
+    let next = text::put_bytes(out, next, stamp);
+    let sizes = behind_stamp(name, size);
+    let next = text::put_bytes(out, next, &sizes);
+    text::put_bytes(out, next, vendor)
+}
+
+// An entry's header by itself.
+pub fn header(
+    state: u8,
+    attributes: u32,
+    stamp: &[u8; 16],
+    name: usize,
+    size: usize,
+    vendor: &[u8; 16],
+) -> [u8; 60]
+    ensures { λ r. ⌜ r ≡ headerBytes state attributes (now (stamp .entry)) name size (now (vendor .entry)) ⌝ }
+{
+    let mut bytes = [0u8; 60];
+    put_header(&mut bytes, 0, state, attributes, stamp, name, size, vendor);
+    bytes
+}
+
+// The FF bytes between an entry of `size` bytes and the next multiple of 4.
+fn put_padding(out: &mut [u8], at: usize, size: usize) -> usize
+    requires { ⌜ (at < 2 ^ 63) × (size < 2 ^ 62) ⌝ }
+    ensures { λ r. ⌜ Wrote (replicate (rounded size - size) 0xFF) at (now (out .entry)) (now (out .exit)) r ⌝ }
+{
+    let blank = *b"\xFF\xFF\xFF";
+    let n = (size + 3) / 4 * 4 - size;
+    text::put_bytes(out, at, &blank[..n])
+}
+
+// An entry in state 3F, whole: header, name, data, padding.
+pub fn put_entry(
+    out: &mut [u8],
+    at: usize,
+    attributes: u32,
+    stamp: &[u8],
+    name: &[u8],
+    vendor: &[u8],
+    bytes: &[u8],
+) -> usize
+    requires { ⌜ (at < 2 ^ 62) × (length (now stamp) < 2 ^ 32) × (length (now name) < 2 ^ 32) × (length (now vendor) < 2 ^ 32) × (length (now bytes) < 2 ^ 32) ⌝ }
+    ensures { λ r. ⌜ Wrote (entryBytes 0x3F (record { name = now (name .entry); vendor = now (vendor .entry); attributes = attributes; stamp = now (stamp .entry); bytes = now (bytes .entry) })) at (now (out .entry)) (now (out .exit)) r ⌝ }
+{
+    let next = put_header(
+        out,
+        at,
+        0x3F,
+        attributes,
+        stamp,
+        name.len(),
+        bytes.len(),
+        vendor,
+    );
+    let next = text::put_bytes(out, next, name);
+    let next = text::put_bytes(out, next, bytes);
+    put_padding(out, next, 60 + name.len() + bytes.len())
+}
+
+// The time stamp of the entry at an offset.
+fn stamp_of(region: &[u8], at: usize) -> &[u8]
+    ensures { λ r. ⌜ now r ≡ headerFields (drop at (now (region .entry))) .stamp ⌝ }
+{
+    if region.len() < at {
+        return &region[..0];
+    }
+    slices::cut(region, at + 16, 16)
+}
+
+// The entry of a value that is carried over: its stamp is kept.
+fn put_value(out: &mut [u8], at: usize, region: &[u8], place: usize, e: Entry) -> usize
+    requires { ⌜ (at < 2 ^ 62) × (length (now region) ≤ 28672) ⌝ }
+    ensures { λ r. ⌜ Wrote (entryBytes 0x3F (entryValue (entryAt (now (region .entry)) place e))) at (now (out .entry)) (now (out .exit)) r × (r ≤ at + entrySize (entryValue (entryAt (now (region .entry)) place e))) ⌝ }
+{
+    let stamp = stamp_of(region, place);
+    let name = walk::name_of(region, place, e);
+    let vendor = walk::vendor_of(region, place);
+    let data = lookup::data_of(region, place, e);
+    put_entry(out, at, e.attributes, stamp, name, vendor, data)
+}
+
+// A value carried over unless it has this name and GUID.
+fn put_other(
+    out: &mut [u8],
+    at: usize,
+    region: &[u8],
+    place: usize,
+    e: Entry,
+    name: &[u8],
+    vendor: &[u8],
+) -> usize
+    requires { ⌜ (at < 2 ^ 62) × (length (now region) ≤ 28672) ⌝ }
+    ensures { λ r. ⌜ Wrote (joined (without (keyed (now (name .entry)) (now (vendor .entry))) (entryValue (entryAt (now (region .entry)) place e) ∷ []))) at (now (out .entry)) (now (out .exit)) r × (r ≤ at + entrySize (entryValue (entryAt (now (region .entry)) place e))) ⌝ }
+{
+    if walk::is_entry(region, place, e, e.state, name, vendor) {
+        return at;
+    }
+    put_value(out, at, region, place, e)
+}
+
+// The values in flash order, but for one name and GUID.
+fn put_others(out: &mut [u8], at: usize, region: &[u8], name: &[u8], vendor: &[u8]) -> usize
+    requires { ⌜ (at < 2 ^ 32) × (length (now region) ≤ 28672) ⌝ }
+    ensures { λ r. ⌜ Wrote (joined (without (keyed (now (name .entry)) (now (vendor .entry))) (values (entries (now (region .entry)))))) at (now (out .entry)) (now (out .exit)) r ⌝ }
+{
+    let mut next = at;
+    let mut here: usize = 28;
+    loop {
+        let f = list::next_value(region, here);
+        let Found::At(place, e) = f else {
+            return next;
+        };
+        next = put_other(out, next, region, place, e, name, vendor);
+        here = list::behind(place, e);
+    }
+}
+
+// The front of a compacted region: its header, and the values without the one that is changed. Under the empty name no value of a sound region is left out.
+pub fn put_values(out: &mut [u8], region: &[u8], name: &[u8], vendor: &[u8]) -> usize
+    requires { ⌜ length (now region) ≤ 28672 ⌝ }
+    ensures { λ r. ⌜ Wrote (regionHeader (length (now (region .entry))) ++ joined (without (keyed (now (name .entry)) (now (vendor .entry))) (values (entries (now (region .entry)))))) 0 (now (out .entry)) (now (out .exit)) r ⌝ }
+{
+    let header = layout::fixed::region_header(region.len());
+    let next = text::put_bytes(out, 0, &header);
+    put_others(out, next, region, name, vendor)
+}
+
+// The data after an append: that of the standing entry, then the data given.
+pub fn new_data(out: &mut [u8], region: &[u8], standing: Found, bytes: &[u8]) -> usize
+    ensures { λ r. ⌜ Wrote (oldData (now (region .entry)) standing ++ now (bytes .entry)) 0 (now (out .entry)) (now (out .exit)) r ⌝ }
+{
+    match standing {
+        Found::At(at, e) => {
+            let old = lookup::data_of(region, at, e);
+            let next = text::put_bytes(out, 0, old);
+            text::put_bytes(out, next, bytes)
+        }
+        Found::Nothing => text::put_bytes(out, 0, bytes),
+    }
+}

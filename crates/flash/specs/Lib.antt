@@ -1,0 +1,2 @@
+-- What the functions that store promise.
+pub mod Made

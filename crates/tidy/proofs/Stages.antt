@@ -1,0 +1,138 @@
+-- The stages of a start-up by the parts of the image that the code cuts: these are the image's region, work block and spare, so what the code tells of them decides
+-- which list of stores a stage has. What is pending has FC in its last used record.
+-- Assumes nothing.
+use Prim.Native.Nat.{ℕ, _+_, _*_, _-_, _≤_, _<_}
+use native.Mathlib.Omega.{arith}
+use mathlib.Core.Path.{_≡_, sym, ap, _∙_}
+use mathlib.Core.Bool.{Bool, true, false, _&&_}
+use mathlib.Core.List.{List, [], _∷_, _++_}
+use lib.ListN.{length, drop, getD, length-drop}
+use lib.Seq.{length-take-le, take-all, getD-take, getD-drop}
+use Rattle.model.specs.Lists.{part, allFF}
+use Rattle.model.specs.Image.{block, blocks, regionSize, region, work, spare}
+use Rattle.model.specs.Region.{tail, tailAt, valuesOf, clean}
+use Rattle.model.specs.Work.{wellFormed, usedRecords, endsInFC, idle, pending}
+use Rattle.model.specs.Stores.{erase, erases}
+use Rattle.model.specs.Compact.{finish, compactTo, compactOn}
+use Rattle.model.specs.StartUp.{resume, tidySpare, tidyWork, tidyTail}
+use Rattle.model.proofs.Tests.{and-split}
+use Rattle.model.proofs.WorkBlock.{Last, work-last}
+use Rattle.records.specs.Look.{lookAt, restsAt}
+use Rattle.records.specs.declared.Look.{Look}
+use Rattle.image.proofs.Cut.{Parted, blocks-right, parted}
+use Rattle.image.proofs.Look.{told-idle}
+
+module _ (img : List ℕ) (b : ℕ) (low : 1 ≤ b) (high : b ≤ 7) (long : length img ≡ block * (2 * b + 1)) where
+  -- the parts that the code cuts
+  whole : Parted img b
+  unfolding block
+  whole =
+      let n : length img ≡ 8192 * b + 4096 = omega arith in
+      parted img b (sym (blocks-right img b low high n)) (λ e. omega arith)
+
+  pub its-blocks : blocks img ≡ b
+  its-blocks = whole .same
+
+  pub its-size : regionSize img ≡ block * b
+  unfolding regionSize
+  its-size = ap (λ (n : ℕ). block * n) its-blocks
+
+  pub its-region : part 0 (block * b) img ≡ region img
+  unfolding block
+  its-region = whole .its-region
+
+  pub its-work : part (block * b) block img ≡ work img
+  unfolding block
+  its-work = whole .its-work
+
+  pub its-spare : part (block * b + block) (block * b) img ≡ spare img
+  unfolding block
+  its-spare = whole .its-spare
+
+  pub region-long : length (region img) ≡ block * b
+  unfolding block
+  region-long = ap length (sym its-region) ∙ length-take-le (4096 * b) (drop 0 img) (rw (length-drop 0 img) (omega arith))
+
+  work-long : length (work img) ≡ block
+  unfolding block
+  work-long = ap length (sym its-work) ∙ length-take-le 4096 (drop (4096 * b) img) (rw (length-drop (4096 * b) img) (omega arith))
+
+  -- ---- what a look at the work block tells
+
+  module _ {l : Look} (looked : l ≡ lookAt (part (block * b) block img)) where
+    used-told : l .used ≡ usedRecords (work img)
+    unfolding lookAt
+    used-told = ap (λ (x : Look). x .used) (looked ∙ ap lookAt its-work)
+
+    pub idle-told : {t : Bool} → t ≡ restsAt l → idle (work img) ≡ t
+    idle-told e = told-idle its-work looked e
+
+    -- a compaction is pending: the last used record
+    module _ (waits : pending img ≡ true) where
+      last : Last (work img)
+      unfolding pending
+      last =
+          let a = and-split (wellFormed (work img) && endsInFC (work img)) (clean (spare img)) waits in
+          let f = and-split (wellFormed (work img)) (endsInFC (work img)) (a .0) in
+          work-last (work img) work-long (f .0) (f .1)
+
+      pub some-used : 1 ≤ l .used
+      some-used = rw used-told (last .some-used)
+
+      pub last-within : l .used - 1 < 64
+      last-within = let h = some-used in omega (arith, used-told, last .within)
+
+      pub last-complete : getD img (block * b + (l .used - 1)) 0 ≡ 0xFC
+      unfolding block
+      last-complete =
+          let h = last-within in
+          sym (getD-take 4096 (drop (4096 * b) img) (l .used - 1) 0 (omega arith) ∙ getD-drop (4096 * b) img (l .used - 1) 0)
+          ∙ ap (λ (w : List ℕ). getD w (l .used - 1) 0) its-work
+          ∙ ap (λ (n : ℕ). getD (work img) (n - 1) 0) used-told
+          ∙ last .complete
+
+      pub resume-list : finish b (l .used - 1) (part (block * b + block) (block * b) img) ≡ resume img
+      unfolding resume
+      resume-list = rw (waits, its-blocks, used-told, its-spare)
+
+  -- ---- which stores the other stages have
+
+  module _ {s : List ℕ} (same : s ≡ part (block * b + block) (block * b) img) {t : Bool} (told : t ≡ allFF s) where
+    blank-told : allFF (spare img) ≡ t
+    blank-told = ap allFF (sym (same ∙ its-spare)) ∙ sym told
+
+    pub spare-blank : t ≡ true → [] ≡ tidySpare img
+    unfolding tidySpare
+    spare-blank e = rw (blank-told ∙ e)
+
+    pub spare-dirty : t ≡ false → erases (b + 1) b ≡ tidySpare img
+    unfolding tidySpare
+    spare-dirty e = rw (blank-told ∙ e, its-blocks)
+
+  pub work-idle : idle (work img) ≡ true → [] ≡ tidyWork img
+  unfolding tidyWork
+  work-idle e = rw e
+
+  pub work-busy : idle (work img) ≡ false → erase b ∷ [] ≡ tidyWork img
+  unfolding tidyWork
+  work-busy e = rw (e, its-blocks)
+
+  -- the tail as it is cut
+  pub tail-cut : {s t : List ℕ} {n : ℕ} → s ≡ part 0 (block * b) img → n ≡ tailAt s → t ≡ part n (block * b) s → allFF t ≡ allFF (tail (region img))
+  unfolding tail
+  tail-cut {s} {t} {n} e f g =
+      let r : s ≡ region img = e ∙ its-region in
+      let short : length s ≡ block * b = ap length r ∙ region-long in
+      ap allFF
+      (g
+      ∙ take-all (block * b) (drop n s) (rw length-drop (omega arith))
+      ∙ ap (λ (k : ℕ). drop k s) f
+      ∙ ap (λ (x : List ℕ). drop (tailAt x) x) r)
+
+  pub tail-blank : allFF (tail (region img)) ≡ true → [] ≡ tidyTail img
+  unfolding tidyTail
+  tail-blank e = rw e
+
+  pub tail-dirty : allFF (tail (region img)) ≡ false → compactTo img (valuesOf img) ++ compactOn img (valuesOf img) ≡ tidyTail img
+  unfolding tidyTail
+  tail-dirty e = rw e
