@@ -1,0 +1,2 @@
+-- An answer and a check, told in numbers
+pub mod Told

@@ -1,0 +1,46 @@
+-- An answer and a check, told in numbers: by the case of the answer, and by what the check found.
+-- Assumes nothing.
+use Prim.Native.Nat.{ℕ}
+use mathlib.Core.Path.{_≡_, refl, sym, ap, _∙_}
+use mathlib.Core.List.{List}
+use mathlib.Core.Option.{Option, some, none}
+use Rattle.model.specs.declared.Rule.{Rule}
+use Rattle.model.specs.declared.Answer.{Answer}
+use Rattle.model.specs.declared.Answer.the-variants.{Done, Stopped, Refused}
+use Rattle.model.specs.Image.{blocks, region}
+use Rattle.model.specs.Region.{tailAt}
+use Rattle.model.specs.Rules.{firstBroken, imageRules}
+use Rattle.model.specs.Answers.{answerOf, ruleNumber, done, refused}
+use Rattle.image.specs.Check.{callOf}
+use Rattle.image.specs.declared.Check.the-variants as call
+use Rattle.image.proofs.Ready.{refused-rule, is-ready}
+use Rattle.capi.specs.declared.Answered.{Answered}
+use Rattle.capi.specs.declared.Checked.{Checked}
+use Rattle.capi.specs.Numbers.{numbersOf, checkedOf}
+
+pub done-told : (a : Answer) (n : ℕ) → a ≡ Done n → _≡_ {A = Answered} (record { kind = 0; rule = 0; stores = n }) (numbersOf (answerOf a))
+unfolding numbersOf
+done-told a n e = rw e refl
+
+pub stopped-told : (a : Answer) → a ≡ Stopped → _≡_ {A = Answered} (record { kind = 1; rule = 0; stores = 0 }) (numbersOf (answerOf a))
+unfolding numbersOf
+stopped-told a e = rw e refl
+
+pub refused-told : (a : Answer) (rule : Rule) (n : ℕ) → a ≡ Refused rule → n ≡ ruleNumber rule
+    → _≡_ {A = Answered} (record { kind = 2; rule = n; stores = 0 }) (numbersOf (answerOf a))
+unfolding numbersOf
+refused-told a rule n e f = rw (e, f) refl
+
+-- rules 1 and 2 are kept
+pub ready-told : (img : List ℕ) (b t : ℕ) (x : Answered) → callOf img ≡ call.Ready b t → x ≡ numbersOf (answerOf (Done 0))
+    → _≡_ {A = Checked} (record { answer = x; blocks = b; tail = t }) (checkedOf img)
+unfolding checkedOf
+ready-told img b t x e f =
+    let i = is-ready img b t e in
+    rw (i .unbroken, i .number, i .tail-at, f) refl
+
+-- the first that is broken
+pub broken-told : (img : List ℕ) (rule : Rule) (x : Answered) → callOf img ≡ call.Refused rule → x ≡ numbersOf (answerOf (Refused rule))
+    → _≡_ {A = Checked} (record { answer = x; blocks = 0; tail = 0 }) (checkedOf img)
+unfolding checkedOf
+broken-told img rule x e f = rw (refused-rule img rule e, f) refl

@@ -1,0 +1,61 @@
+-- `capi::vs_check` meets its contract: what the check of rules 1 and 2 found, in numbers; b and the tail's offset are small.
+-- Assumes nothing.
+use native.Mathlib.Omega.{arith}
+use mathlib.Core.Path.{sym, _∙_}
+use denote.Ref.{now}
+use Rattle.image.proofs.Ready.{is-ready}
+use Rattle.capi.proofs.Told.{ready-told, broken-told}
+use borrow.Author.Needs.{needs}
+use Rattle.capi.proofs.vs_check.Statement.{statement}
+use Rattle.capi.proofs.vs_check.Tie as tie
+
+check-call-requires : tie.Need-check-call-requires
+check-call-requires c κs = search needs
+
+enum-known-c : tie.Need-enum-known-c
+enum-known-c c = search needs
+
+numbers-requires : tie.Need-numbers-requires
+numbers-requires c κs = search needs
+
+cast-t9 : tie.Need-cast-t9
+cast-t9 c =
+    let t = c .before .before .c .given in
+    let x = is-ready (now (c .before .before .before .before .before .before .args .image)) (t .0 .0) (t .0 .1 .0) (sym (c .before .before .before .before .check-call .ensures) ∙ t .1) in
+    record { fits = omega (arith, x .few) }
+
+cast-t10 : tie.Need-cast-t10
+cast-t10 c =
+    let t = c .before .before .c .given in
+    let x = is-ready (now (c .before .before .before .before .before .before .args .image)) (t .0 .0) (t .0 .1 .0) (sym (c .before .before .before .before .check-call .ensures) ∙ t .1) in
+    record { fits = omega (arith, x .few, x .long, x .tail-within) }
+
+enum-known-c-2 : tie.Need-enum-known-c-2
+enum-known-c-2 c = search needs
+
+numbers-requires-2 : tie.Need-numbers-requires-2
+numbers-requires-2 c κs = search needs
+
+returns : tie.Need-returns
+returns c =
+    let t = c .before .before .c .given in
+    ready-told (now (c .before .before .before .before .before .before .args .image)) (t .0 .0) (t .0 .1 .0) (c .numbers .result) (sym (c .before .before .before .before .check-call .ensures) ∙ t .1) (c .numbers .ensures)
+
+returns-2 : tie.Need-returns-2
+returns-2 c =
+    let t = c .before .before .c2 .given in
+    broken-told (now (c .before .before .before .before .before .before .args .image)) (t .0 .0) (c .numbers2 .result) (sym (c .before .before .before .before .check-call .ensures) ∙ t .1) (c .numbers2 .ensures)
+
+pub vs-check-spec : {M : Type 1} → statement M
+vs-check-spec =
+    tie.close
+    (tie.spec
+    check-call-requires
+    enum-known-c
+    numbers-requires
+    cast-t9
+    cast-t10
+    enum-known-c-2
+    numbers-requires-2
+    returns
+    returns-2)

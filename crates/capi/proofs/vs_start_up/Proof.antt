@@ -1,0 +1,22 @@
+-- `capi::vs_start_up` meets its contract: it is the engine's, with the answer in numbers.
+-- Assumes nothing.
+use mathlib.Core.Path.{ap, _∙_}
+use Rattle.capi.specs.Numbers.{numbersOf}
+use borrow.Author.Needs.{needs}
+use Rattle.capi.proofs.vs_start_up.Statement.{statement}
+use Rattle.capi.proofs.vs_start_up.Tie as tie
+
+start-up-requires : tie.Need-start-up-requires
+start-up-requires c κs = search needs
+
+numbers-requires : tie.Need-numbers-requires
+numbers-requires c κs = search needs
+
+same-length : tie.Need-same-length
+same-length c = search needs
+
+returns : tie.Need-returns
+returns c = let e = c .before .before .before .before .start-up .ensures in (c .numbers .ensures ∙ ap numbersOf (e .0), e .1, e .2)
+
+pub vs-start-up-spec : {M : Type 1} → statement M
+vs-start-up-spec = tie.close (tie.spec start-up-requires numbers-requires same-length returns)

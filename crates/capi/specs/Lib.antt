@@ -1,0 +1,2 @@
+-- Answers in numbers, as they cross to C
+pub mod Numbers

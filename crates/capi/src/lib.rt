@@ -1,0 +1,228 @@
+// The C interface: every exported function, thin over the engine. Numbers and structs of numbers cross, no enum; c/varstore.h documents them.
+ghost use mathlib.Core.Path.{_≡_};
+ghost use Rattle.model.specs.Session.{freshSession, movedTo};
+ghost use Rattle.model.specs.Set.{setPlan};
+ghost use Rattle.model.specs.StartUp.{startUpPlan, formatPlan};
+ghost use Rattle.model.specs.Answers.{answerOf, outcome, imageAfter, getPlan, nextPlan, getReply, nextReply, lockOutcome, lockSession};
+ghost use Rattle.decision.specs.Decision.{requestOf};
+ghost use Rattle.capi.specs.Numbers.{numbersOf, checkedOf};
+use image::Check;
+use model::Answer;
+use model::Context;
+use model::Session;
+
+// An answer in numbers: 0 done, 1 stopped, 2 refused; the rule if refused, else 0; the number of stores if done, else 0.
+#[repr(C)]
+pub struct Answered {
+    pub kind: u32,
+    pub rule: u32,
+    pub stores: u64,
+}
+
+// What a check tells: b and the offset of the tail, 0 if refused.
+#[repr(C)]
+pub struct Checked {
+    pub answer: Answered,
+    pub blocks: u32,
+    pub tail: u32,
+}
+
+// What a get or next-name gives back; next-name has no attributes.
+#[repr(C)]
+pub struct Reply {
+    pub answer: Answered,
+    pub size: u32,
+    pub attributes: u32,
+    pub needed: u32,
+}
+
+// What a lock gives back.
+#[repr(C)]
+pub struct Listed {
+    pub answer: Answered,
+    pub session: Session,
+}
+
+// What a start-up gives back: the session is fresh, also where it is refused or stopped.
+#[repr(C)]
+pub struct Started {
+    pub answer: Answered,
+    pub session: Session,
+}
+
+fn numbers(a: Answer) -> Answered
+    ensures { λ r. ⌜ r ≡ numbersOf (answerOf a) ⌝ }
+{
+    match a {
+        Answer::Done(stores) => Answered {
+            kind: 0,
+            rule: 0,
+            stores,
+        },
+        Answer::Stopped => Answered {
+            kind: 1,
+            rule: 0,
+            stores: 0,
+        },
+        Answer::Refused(rule) => Answered {
+            kind: 2,
+            rule: model::number(rule),
+            stores: 0,
+        },
+    }
+}
+
+#[no_mangle]
+pub extern "C" fn vs_check(image: &[u8]) -> Checked
+    ensures { λ r. ⌜ r ≡ checkedOf (now (image .entry)) ⌝ }
+{
+    let c = image::check_call(image);
+    match c {
+        Check::Ready(b, tail) => Checked {
+            answer: numbers(Answer::Done(0)),
+            blocks: b as u32,
+            tail: tail as u32,
+        },
+        Check::Refused(rule) => Checked {
+            answer: numbers(Answer::Refused(rule)),
+            blocks: 0,
+            tail: 0,
+        },
+    }
+}
+
+#[no_mangle]
+pub extern "C" fn vs_session_new(custom: u32, reserve: u32) -> Session
+    ensures { λ r. ⌜ r ≡ freshSession custom reserve ⌝ }
+{
+    Session::fresh(custom, reserve)
+}
+
+#[no_mangle]
+pub extern "C" fn vs_phase(session: Session, phase: u32) -> Session
+    ensures { λ r. ⌜ r ≡ movedTo session phase ⌝ }
+{
+    session.moved_to(phase)
+}
+
+#[no_mangle]
+pub extern "C" fn vs_lock(session: Session, name: &[u8], vendor: &[u8; 16]) -> Listed
+    ensures { λ r. ⌜ (r .answer ≡ numbersOf (lockOutcome session (record { name = now (name .entry); vendor = now (vendor .entry) })))
+        × (r .session ≡ lockSession session (record { name = now (name .entry); vendor = now (vendor .entry) })) ⌝ }
+{
+    let l = session::lock(session, name, vendor);
+    let answer = l.answer;
+    let session = l.session;
+    Listed {
+        answer: numbers(answer),
+        session,
+    }
+}
+
+#[no_mangle]
+pub extern "C" fn vs_get(
+    context: Context,
+    session: Session,
+    image: &[u8],
+    name: &[u8],
+    vendor: &[u8; 16],
+    buffer: &mut [u8],
+) -> Reply
+    ensures { λ r. ⌜ (r .answer ≡ numbersOf (outcome (context .limit) (getPlan session (record { name = now (name .entry); vendor = now (vendor .entry) }) (now (buffer .entry)) (now (image .entry)))))
+        × (r .size ≡ getReply session (record { name = now (name .entry); vendor = now (vendor .entry) }) (now (buffer .entry)) (now (image .entry)) .size)
+        × (r .attributes ≡ getReply session (record { name = now (name .entry); vendor = now (vendor .entry) }) (now (buffer .entry)) (now (image .entry)) .attributes)
+        × (r .needed ≡ getReply session (record { name = now (name .entry); vendor = now (vendor .entry) }) (now (buffer .entry)) (now (image .entry)) .needed)
+        × (now (buffer .exit) ≡ getReply session (record { name = now (name .entry); vendor = now (vendor .entry) }) (now (buffer .entry)) (now (image .entry)) .buffer) ⌝ }
+{
+    let g = engine::read::get(context, session, image, name, vendor, buffer);
+    let answer = g.answer;
+    Reply {
+        answer: numbers(answer),
+        size: g.size,
+        attributes: g.attributes,
+        needed: g.needed,
+    }
+}
+
+#[no_mangle]
+pub extern "C" fn vs_next_name(
+    context: Context,
+    session: Session,
+    image: &[u8],
+    name: &[u8],
+    vendor: &[u8; 16],
+    buffer: &mut [u8],
+) -> Reply
+    ensures { λ r. ⌜ (r .answer ≡ numbersOf (outcome (context .limit) (nextPlan session (record { name = now (name .entry); vendor = now (vendor .entry) }) (now (buffer .entry)) (now (image .entry)))))
+        × (r .size ≡ nextReply session (record { name = now (name .entry); vendor = now (vendor .entry) }) (now (buffer .entry)) (now (image .entry)) .size)
+        × (r .attributes ≡ 0)
+        × (r .needed ≡ nextReply session (record { name = now (name .entry); vendor = now (vendor .entry) }) (now (buffer .entry)) (now (image .entry)) .needed)
+        × (now (buffer .exit) ≡ nextReply session (record { name = now (name .entry); vendor = now (vendor .entry) }) (now (buffer .entry)) (now (image .entry)) .buffer) ⌝ }
+{
+    let g = engine::read::next_name(context, session, image, name, vendor, buffer);
+    let answer = g.answer;
+    Reply {
+        answer: numbers(answer),
+        size: g.size,
+        attributes: 0,
+        needed: g.needed,
+    }
+}
+
+#[no_mangle]
+pub extern "C" fn vs_set(
+    context: Context,
+    session: Session,
+    image: &mut [u8],
+    name: &[u8],
+    vendor: &[u8; 16],
+    attributes: u32,
+    bytes: &[u8],
+    presence: u32,
+    verdict: u32,
+) -> Answered
+    ensures { λ r. ⌜ (r ≡ numbersOf (outcome (context .limit) (setPlan session (requestOf (now (name .entry)) (now (vendor .entry)) attributes (now (bytes .entry)) presence verdict) (now (image .entry)))))
+        × (now (image .exit) ≡ imageAfter (context .limit) (setPlan session (requestOf (now (name .entry)) (now (vendor .entry)) attributes (now (bytes .entry)) presence verdict) (now (image .entry))) (now (image .entry))) ⌝ }
+{
+    let answer = engine::write::set(
+        context,
+        session,
+        image,
+        name,
+        vendor,
+        attributes,
+        bytes,
+        presence,
+        verdict,
+    );
+    numbers(answer)
+}
+
+#[no_mangle]
+pub extern "C" fn vs_format(context: Context, image: &mut [u8]) -> Answered
+    ensures { λ r. ⌜ (r ≡ numbersOf (outcome (context .limit) (formatPlan (now (image .entry)))))
+        × (now (image .exit) ≡ imageAfter (context .limit) (formatPlan (now (image .entry))) (now (image .entry))) ⌝ }
+{
+    let answer = engine::write::format(context, image);
+    numbers(answer)
+}
+
+#[no_mangle]
+pub extern "C" fn vs_start_up(
+    context: Context,
+    image: &mut [u8],
+    custom: u32,
+    reserve: u32,
+) -> Started
+    ensures { λ r. ⌜ (r .answer ≡ numbersOf (outcome (context .limit) (startUpPlan (now (image .entry)))))
+        × (r .session ≡ freshSession custom reserve)
+        × (now (image .exit) ≡ imageAfter (context .limit) (startUpPlan (now (image .entry))) (now (image .entry))) ⌝ }
+{
+    let started = engine::start::start_up(context, image, custom, reserve);
+    let answer = started.answer;
+    let session = started.session;
+    Started {
+        answer: numbers(answer),
+        session,
+    }
+}

@@ -1,0 +1,15 @@
+-- Laws that the proofs of this crate share.
+-- The first rule broken of two lists, and what the rules of a call that reads tell in stages
+pub mod Opened
+-- What a call that reads answers, of the value found
+pub mod Reading
+-- Bytes copied to the front of a buffer
+pub mod Copying
+-- How a call that stores ends
+pub mod Ended
+-- A set, by what was decided
+pub mod Setting
+-- A format
+pub mod Formatting
+-- A start-up, by what the image was found to be
+pub mod Starting

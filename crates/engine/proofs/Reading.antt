@@ -1,0 +1,168 @@
+-- What a call that reads answers: refused by the rule broken with the buffer as it was, or done with the bytes at the buffer's front. A get and a next-name differ
+-- only in the value found and in what they write of it.
+-- Assumes nothing.
+use Prim.Native.Nat.{ℕ, _+_, _≤_}
+use native.Mathlib.Nat.{min-le-left}
+use native.Mathlib.Omega.{arith}
+use mathlib.Core.Path.{_≡_, refl, sym, ap, ap₂, subst, _∙_}
+use mathlib.Core.Bool.{Bool, true, false}
+use mathlib.Core.List.{List, [], _∷_}
+use mathlib.Core.Option.{Option, none, some}
+use lib.ListN.{length, drop, length-take}
+use lib.Dec.{eqb, ltb, leb·zero}
+use Rattle.model.specs.Lists.{onSome, overlay}
+use Rattle.model.specs.Image.{region}
+use Rattle.model.specs.Name.{Key, wellNamed}
+use Rattle.model.specs.Entry.{Value}
+use Rattle.model.specs.Walk.{Entry, entryValue, placed}
+use Rattle.model.specs.Region.{entries, values, valuesOf}
+use Rattle.model.specs.Session.{countedPhase, atRuntime}
+use Rattle.model.specs.Rules.{firstBroken, rule3, rule3Next, rule11Read, rule14, seen, valueToGet, valueToName, gotBytes, getBroken, nextBroken}
+use Rattle.model.specs.Answers.{ruleNumber, refusal, written, answerOf, done, refused, outcome, getReply, nextReply, getPlan, nextPlan}
+use Rattle.model.specs.Set.{refuse, make}
+use Rattle.model.specs.declared.Session.{Session}
+use Rattle.model.specs.declared.Rule.{Rule}
+use Rattle.model.specs.declared.Rule.the-variants.{Absent, Buffer}
+use Rattle.model.specs.declared.Answer.the-variants.{Done}
+use Rattle.model.specs.declared.Got.{Got}
+use Rattle.layout.specs.declared.Entry as numbers
+use Rattle.region.specs.Walk.{entryAt, vendorAt}
+use Rattle.region.proofs.Entries.{vendor}
+use Rattle.values.specs.declared.Found.{Found}
+use Rattle.values.specs.declared.Found.the-variants.{At, Nothing}
+use Rattle.values.proofs.Sizes.{lengths}
+use Rattle.query.specs.Query.{entryIn, seenAt, getAt, nameAt}
+use Rattle.query.proofs.Held.{valueIn, session-get}
+use Rattle.engine.specs.Read.{foundBroken, readBroken, replyOf, foundReply, shortOf, replyTo, refusedGot, Answered, nextAt, nextBrokenAt, nextReplyAt}
+use Rattle.engine.proofs.Opened.{Opens, Refuses}
+
+-- no stores: done with 0, whatever n is
+pub no-stores : (n : ℕ) (broken : Option Rule) → outcome n (onSome broken refuse (make [] [])) ≡ onSome broken (λ rule. refused (ruleNumber rule)) (done 0)
+unfolding outcome
+no-stores n none = rw (leb·zero n)
+no-stores n (some rule) = refl
+
+-- a rule before 14 is broken
+pub answered-refused : (rule : Rule) → eqb (ruleNumber rule) 14 ≡ false → (broken : Option Rule) → broken ≡ some rule
+    → (found : Option Value) (bytes : Value → List ℕ) (attributes : Value → ℕ) (buffer : List ℕ)
+    → Answered broken (replyOf broken found bytes attributes buffer) (refusedGot rule 0) buffer
+unfolding replyOf refusal
+answered-refused rule n broken b found bytes attributes buffer =
+    rw b (record { answer = refl; size = refl; attributes = refl; needed = rw n; buffer = refl })
+
+-- nothing is found
+pub answered-absent : (found : Option Value) → found ≡ none → (bytes : Value → List ℕ) (attributes : Value → ℕ) (buffer : List ℕ)
+    → Answered (foundBroken found bytes buffer) (foundReply found bytes attributes buffer) (refusedGot Absent 0) buffer
+unfolding foundBroken firstBroken rule11Read
+answered-absent found f bytes attributes buffer =
+    answered-refused Absent refl (foundBroken found bytes buffer) (rw f) found bytes attributes buffer
+
+-- a value is found, and its bytes are handed out
+pub answered-found : (v : Value) (found : Option Value) → found ≡ some v → (bytes : Value → List ℕ) (attributes : Value → ℕ) (buffer : List ℕ)
+    → (given : List ℕ) → given ≡ bytes v → (bits : ℕ) → bits ≡ attributes v → {got : Got} {after : List ℕ}
+    → Answered (shortOf given buffer) (replyTo given bits buffer) got after
+    → Answered (foundBroken found bytes buffer) (foundReply found bytes attributes buffer) got after
+unfolding foundBroken firstBroken rule11Read rule14 replyOf shortOf replyTo
+answered-found v found f bytes attributes buffer given g bits a {got} {after} h =
+    let h′ : Answered (shortOf (bytes v) buffer) (replyTo (bytes v) (attributes v) buffer) got after = rw (g, a) at h in
+    rw f h′
+
+-- if they fit
+module _ (bytes : List ℕ) (attributes : ℕ) (buffer : List ℕ) where
+  pub short-buffer : (size : ℕ) → size ≡ length bytes → ltb (length buffer) (length bytes) ≡ true
+      → Answered (shortOf bytes buffer) (replyTo bytes attributes buffer) (refusedGot Buffer size) buffer
+  unfolding shortOf replyTo refusal
+  short-buffer size s h = rw h (record { answer = refl; size = refl; attributes = refl; needed = s; buffer = refl })
+
+  pub long-buffer : (size : ℕ) → size ≡ length bytes → ltb (length buffer) (length bytes) ≡ false → {after : List ℕ} → after ≡ overlay 0 bytes buffer
+      → Answered (shortOf bytes buffer) (replyTo bytes attributes buffer) (record { answer = Done 0; size = size; attributes = attributes; needed = 0 }) after
+  unfolding shortOf replyTo written
+  long-buffer size s h e = rw h (record { answer = refl; size = s; attributes = refl; needed = refl; buffer = e })
+
+-- ---- the value of the entry found
+
+module _ (r : List ℕ) (f : Found) (o : Option Entry) (q : entryIn r f ≡ o) (value : Option Value) (held : valueIn o ≡ value) where
+  pub value-found : (at : ℕ) (e : numbers.Entry) → f ≡ At at e → value ≡ some (entryValue (entryAt r at e))
+  value-found at e p = sym held ∙ ap valueIn (sym q) ∙ ap (λ (x : Found). valueIn (entryIn r x)) p
+
+  pub value-none : f ≡ Nothing → value ≡ none
+  value-none p = sym held ∙ ap valueIn (sym q) ∙ ap (λ (x : Found). valueIn (entryIn r x)) p
+
+pub entry-attributes : (r : List ℕ) (at : ℕ) (e : numbers.Entry) → e .attributes ≡ entryAt r at e .header .attributes
+unfolding entryAt placed
+entry-attributes r at e = refl
+
+pub entry-vendor : (r : List ℕ) (at : ℕ) (e : numbers.Entry) → vendorAt r at ≡ entryAt r at e .header .vendor
+unfolding entryAt placed vendorAt
+entry-vendor r at e = refl
+
+-- none of it is longer than the region
+pub short-data : (r : List ℕ) (at : ℕ) (e : numbers.Entry) → length (entryAt r at e .bytes) ≤ length r
+short-data r at e = let l = lengths r at e in omega (arith, l .whole)
+
+pub short-name : (r : List ℕ) (at : ℕ) (e : numbers.Entry) → length (entryAt r at e .name) ≤ length r
+short-name r at e = let l = lengths r at e in omega (arith, l .whole)
+
+pub short-vendor : (r : List ℕ) (at : ℕ) → length (vendorAt r at) ≤ 16
+short-vendor r at = rw (vendor r at, length-take 16 (drop (at + 44) r)) (min-le-left 16 (length (drop (at + 44) r)))
+
+-- ---- rules 1 to 3 before 11 and 14
+
+module _ (img : List ℕ) (found : Option Value) (bytes : Value → List ℕ) (attributes : Value → ℕ) (buffer : List ℕ) where
+  abbrev Read : Bool → Got → List ℕ → Type 0
+  Read named got after =
+      Answered (readBroken img named found bytes buffer) (replyOf (readBroken img named found bytes buffer) found bytes attributes buffer) got after
+
+  pub read-found : {b t : ℕ} {named : Bool} → Opens img b t named → {got : Got} {after : List ℕ}
+      → Answered (foundBroken found bytes buffer) (foundReply found bytes attributes buffer) got after → Read named got after
+  unfolding readBroken foundBroken
+  read-found {named = named} o {got} {after} h =
+      subst (λ (x : Option Rule). Answered x (replyOf x found bytes attributes buffer) got after)
+      (sym (o .later ((Absent, rule11Read found) ∷ (Buffer, rule14 found bytes buffer) ∷ []))) h
+
+  pub read-refused : {rule : Rule} {named : Bool} → Refuses img rule named → Read named (refusedGot rule 0) buffer
+  unfolding readBroken
+  read-refused {rule} {named} x =
+      answered-refused rule (x .before-14) (readBroken img named found bytes buffer)
+      (x .broken ((Absent, rule11Read found) ∷ (Buffer, rule14 found bytes buffer) ∷ [])) found bytes attributes buffer
+
+pub read-as : (img : List ℕ) (bytes : Value → List ℕ) (attributes : Value → ℕ) (buffer : List ℕ) {found found′ : Option Value} {named named′ : Bool} {got : Got} {after : List ℕ}
+    → found ≡ found′ → named ≡ named′ → Read img found bytes attributes buffer named got after → Read img found′ bytes attributes buffer named′ got after
+read-as img bytes attributes buffer {found} {found′} {named} {named′} {got} {after} f n h =
+    subst (λ (x : Option Value). Read img x bytes attributes buffer named′ got after) f
+    (subst (λ (x : Bool). Read img found bytes attributes buffer x got after) n h)
+
+-- the region that was cut
+pub region-get : (s : Session) (k : Key) (img r : List ℕ) (runtime : Bool) → r ≡ region img → runtime ≡ eqb (countedPhase (s .phase)) 2
+    → getAt runtime k (values (entries r)) ≡ valueToGet s k (valuesOf img)
+unfolding valuesOf atRuntime
+region-get s k img r runtime p q =
+    ap₂ (λ (t : Bool) (x : List ℕ). getAt t k (values (entries x))) q p ∙ session-get s k (valuesOf img)
+
+pub region-name : (phase : ℕ) (k : Key) (img r : List ℕ) (runtime : Bool) → r ≡ region img → runtime ≡ eqb (countedPhase phase) 2
+    → nameAt runtime k (values (entries r)) ≡ nextAt phase k img
+unfolding valuesOf
+region-name phase k img r runtime p q = ap₂ (λ (t : Bool) (x : List ℕ). nameAt t k (values (entries x))) q p
+
+-- ---- whole calls
+
+pub get-answered : (n : ℕ) (s : Session) (k : Key) (buffer img : List ℕ) {got : Got} {after : List ℕ}
+    → Read img (valueToGet s k (valuesOf img)) gotBytes (λ v. v .attributes) buffer (wellNamed (k .name)) got after
+    → (answerOf (got .answer) ≡ outcome n (getPlan s k buffer img))
+    × (got .size ≡ getReply s k buffer img .size)
+    × (got .attributes ≡ getReply s k buffer img .attributes)
+    × (got .needed ≡ getReply s k buffer img .needed)
+    × (after ≡ getReply s k buffer img .buffer)
+unfolding getPlan getReply getBroken rule3 readBroken replyOf
+get-answered n s k buffer img h =
+    (h .answer ∙ sym (no-stores n (getBroken s k buffer img)), h .size, h .attributes, h .needed, h .buffer)
+
+pub next-answered : (n : ℕ) (s : Session) (k : Key) (buffer img : List ℕ) {got : Got} {after : List ℕ}
+    → Answered (nextBrokenAt (s .phase) k buffer img) (nextReplyAt (s .phase) k buffer img) got after
+    → (answerOf (got .answer) ≡ outcome n (nextPlan s k buffer img))
+    × (got .size ≡ nextReply s k buffer img .size)
+    × (got .needed ≡ nextReply s k buffer img .needed)
+    × (after ≡ nextReply s k buffer img .buffer)
+unfolding nextPlan nextReply nextBroken rule3Next readBroken replyOf nameAt seenAt valueToName seen atRuntime
+next-answered n s k buffer img h =
+    (h .answer ∙ sym (no-stores n (nextBroken s k buffer img)), h .size, h .needed, h .buffer)

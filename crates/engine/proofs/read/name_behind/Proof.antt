@@ -1,0 +1,95 @@
+-- `engine::read::name_behind` meets its contract: rules 1 to 3 first, then what `name_from` answers of the region.
+-- Assumes nothing.
+use native.Mathlib.Omega.{arith}
+use mathlib.Core.Path.{sym, ap, refl, _∙_}
+use lib.ListN.{length}
+use denote.Ref.{now}
+use Rattle.model.specs.Region.{entries, values}
+use Rattle.model.specs.Rules.{namedBytes}
+use Rattle.region.specs.Walk.{keyed}
+use Rattle.query.specs.Query.{nameAt}
+use Rattle.engine.specs.Read.{nextAt}
+use Rattle.engine.proofs.Opened.{opens, refuses}
+use Rattle.engine.proofs.Reading.{read-found, read-refused, read-as, region-name}
+use borrow.Author.Needs.{needs}
+use Rattle.engine.proofs.read.name_behind.Statement.{statement}
+use Rattle.engine.proofs.read.name_behind.Tie as tie
+
+is-next-named-requires : tie.Need-is-next-named-requires
+is-next-named-requires c κs = search needs
+
+open-requires : tie.Need-open-requires
+open-requires c κs = search needs
+
+enum-known-opened : tie.Need-enum-known-opened
+enum-known-opened c = search needs
+
+mul-cut : tie.Need-mul-cut
+mul-cut c =
+    let img = now (c .before .before .before .before .before .before .before .before .args .image) in
+    let t = c .before .opened .given in
+    let o = opens img (t .0 .0) (t .0 .1 .0) (c .before .before .before .before .is-next-named .result) (sym (c .before .before .before .«open» .ensures) ∙ t .1) in
+    record { fits = omega (arith, o .ready .few) }
+
+cut-requires : tie.Need-cut-requires
+cut-requires c κs = search needs
+
+at-runtime-requires : tie.Need-at-runtime-requires
+at-runtime-requires c κs = search needs
+
+name-from-requires : tie.Need-name-from-requires
+name-from-requires c κs =
+    let img = now (c .before .before .before .before .before .before .before .before .before .before .before .args .image) in
+    let t = c .before .before .before .before .opened .given in
+    let o = opens img (t .0 .0) (t .0 .1 .0) (c .before .before .before .before .before .before .before .is-next-named .result) (sym (c .before .before .before .before .before .before .«open» .ensures) ∙ t .1) in
+    let n = ap length (c .before .before .cut .ensures ∙ o .ready .cut) in
+    omega (arith, o .ready .few, o .ready .long)
+
+enum-known-opened-2 : tie.Need-enum-known-opened-2
+enum-known-opened-2 c = search needs
+
+refused-requires : tie.Need-refused-requires
+refused-requires c κs = search needs
+
+same-length : tie.Need-same-length
+same-length c = search needs
+
+returns : tie.Need-returns
+returns c =
+    let a = c .before .before .before .before .before .before .before .before .before .before .before .before .before .before .args in
+    let img = now (a .image) in
+    let r = now (c .before .before .before .before .before .cut .result) in
+    let k = keyed (now (a .name)) (now (a .vendor)) in
+    let t = c .before .before .before .before .before .before .before .opened .given in
+    let o = opens img (t .0 .0) (t .0 .1 .0) (c .before .before .before .before .before .before .before .before .before .before .is-next-named .result) (sym (c .before .before .before .before .before .before .before .before .before .«open» .ensures) ∙ t .1) in
+    let found = nameAt (c .before .before .before .before .at-runtime .result) k (values (entries r)) in
+    let here = read-found img found namedBytes (λ v. 0) (now (a .buffer)) o (c .before .before .name-from .ensures) in
+    let value = region-name (a .phase) k img r (c .before .before .before .before .at-runtime .result) (c .before .before .before .before .before .cut .ensures ∙ o .ready .cut) (c .before .before .before .before .at-runtime .ensures) in
+    read-as img namedBytes (λ v. 0) (now (a .buffer)) value (c .before .before .before .before .before .before .before .before .before .before .is-next-named .ensures) here
+
+returns-2 : tie.Need-returns-2
+returns-2 c =
+    let a = c .before .before .before .before .before .before .before .before .before .args in
+    let img = now (a .image) in
+    let k = keyed (now (a .name)) (now (a .vendor)) in
+    let t = c .before .before .opened2 .given in
+    let x = refuses img (t .0 .0) (c .before .before .before .before .before .is-next-named .result) (sym (c .before .before .before .before .«open» .ensures) ∙ t .1) in
+    rw (c .refused .ensures)
+    (read-as img namedBytes (λ v. 0) (now (a .buffer)) refl (c .before .before .before .before .before .is-next-named .ensures) (read-refused img (nextAt (a .phase) k img) namedBytes (λ v. 0) (now (a .buffer)) x))
+
+pub name-behind-spec : {M : Type 1} → statement M
+name-behind-spec =
+    tie.close
+    (tie.spec
+    is-next-named-requires
+    open-requires
+    enum-known-opened
+    mul-cut
+    cut-requires
+    at-runtime-requires
+    name-from-requires
+    enum-known-opened-2
+    refused-requires
+    same-length
+    returns
+    returns-2)

@@ -1,0 +1,27 @@
+-- `engine::read::next_name` meets its contract: it hands on what `name_behind` answers.
+-- Assumes nothing.
+use denote.Ref.{now}
+use Rattle.region.specs.Walk.{keyed}
+use Rattle.engine.proofs.Reading.{next-answered}
+use borrow.Author.Needs.{needs}
+use Rattle.engine.proofs.read.next_name.Statement.{statement}
+use Rattle.engine.proofs.read.next_name.Tie as tie
+
+name-behind-requires : tie.Need-name-behind-requires
+name-behind-requires c κs = search needs
+
+same-length : tie.Need-same-length
+same-length c = search needs
+
+returns : tie.Need-returns
+returns c =
+    let a = c .before .before .before .before .before .before .before .args in
+    next-answered (a .c .limit) (a .s) (keyed (now (a .name)) (now (a .vendor))) (now (a .buffer)) (now (a .image)) (c .before .before .name-behind .ensures)
+
+pub next-name-spec : {M : Type 1} → statement M
+next-name-spec =
+    tie.close
+    (tie.spec
+    name-behind-requires
+    same-length
+    returns)

@@ -1,0 +1,82 @@
+-- What a call that reads answers, rule by rule as the code checks them: first 1, 2 and 3, then of the value found 11 and 14.
+use Prim.Native.Nat.{ℕ}
+use mathlib.Core.Path.{_≡_}
+use mathlib.Core.Bool.{Bool, not, cond, _||_}
+use mathlib.Core.List.{List, [], _∷_, _++_}
+use mathlib.Core.Option.{Option, none, some}
+use lib.ListN.{length}
+use lib.Dec.{eqb, ltb}
+use Rattle.model.specs.Lists.{same, onSome}
+use Rattle.model.specs.Image.{blocks, region}
+use Rattle.model.specs.Name.{Key, wellNamed, emptyName}
+use Rattle.model.specs.Entry.{Value}
+use Rattle.model.specs.Region.{tailAt, valuesOf}
+use Rattle.model.specs.Session.{countedPhase}
+use Rattle.model.specs.Rules.{firstBroken, imageRules, rule11Read, rule14, namedBytes}
+use Rattle.model.specs.Answers.{ruleNumber, Reply, refusal, written, answerOf, done, refused}
+use Rattle.model.specs.declared.Rule.{Rule}
+use Rattle.model.specs.declared.Rule.the-variants.{Name, Absent, Buffer}
+use Rattle.model.specs.declared.Answer.the-variants.{Refused}
+use Rattle.model.specs.declared.Got.{Got}
+use Rattle.image.specs.declared.Check.{Check}
+use Rattle.image.specs.declared.Check.the-variants as call
+use Rattle.query.specs.Query.{nameAt}
+
+-- rules 1, 2 and 3, of an image and of whether the name is one that the call takes
+unfoldable pub openOf : List ℕ → Bool → Check
+openOf img named =
+    onSome (firstBroken (imageRules img ++ ((Name, not named) ∷ []))) call.Refused (call.Ready (blocks img) (tailAt (region img)))
+
+-- rules 11 and 14, of the value found and of what the call writes of it
+unfoldable pub foundBroken : Option Value → (Value → List ℕ) → List ℕ → Option Rule
+foundBroken found bytes buffer = firstBroken ((Absent, rule11Read found) ∷ (Buffer, rule14 found bytes buffer) ∷ [])
+
+-- all five
+unfoldable pub readBroken : List ℕ → Bool → Option Value → (Value → List ℕ) → List ℕ → Option Rule
+readBroken img named found bytes buffer =
+    firstBroken (imageRules img ++ ((Name, not named) ∷ (Absent, rule11Read found) ∷ (Buffer, rule14 found bytes buffer) ∷ []))
+
+-- the reply, by the rule broken and the value found
+unfoldable pub replyOf : Option Rule → Option Value → (Value → List ℕ) → (Value → ℕ) → List ℕ → Reply
+replyOf broken found bytes attributes buffer =
+    onSome
+    broken
+    (λ rule. refusal rule (onSome found (λ v. length (bytes v)) 0) buffer)
+    (onSome found (λ v. written (bytes v) (attributes v) buffer) (written [] 0 buffer))
+
+abbrev pub foundReply : Option Value → (Value → List ℕ) → (Value → ℕ) → List ℕ → Reply
+foundReply found bytes attributes buffer = replyOf (foundBroken found bytes buffer) found bytes attributes buffer
+
+-- rule 14 alone, of the bytes to write, and the reply then
+unfoldable pub shortOf : List ℕ → List ℕ → Option Rule
+shortOf bytes buffer = cond (ltb (length buffer) (length bytes)) (some Buffer) none
+
+unfoldable pub replyTo : List ℕ → ℕ → List ℕ → Reply
+replyTo bytes attributes buffer =
+    onSome (shortOf bytes buffer) (λ rule. refusal rule (length bytes) buffer) (written bytes attributes buffer)
+
+-- of next-name, at a phase: the value found, the rule broken, the reply
+abbrev pub nextAt : ℕ → Key → List ℕ → Option Value
+nextAt phase k img = nameAt (eqb (countedPhase phase) 2) k (valuesOf img)
+
+abbrev pub nextNamed : Key → Bool
+nextNamed k = wellNamed (k .name) || same (k .name) emptyName
+
+abbrev pub nextBrokenAt : ℕ → Key → List ℕ → List ℕ → Option Rule
+nextBrokenAt phase k buffer img = readBroken img (nextNamed k) (nextAt phase k img) namedBytes buffer
+
+abbrev pub nextReplyAt : ℕ → Key → List ℕ → List ℕ → Reply
+nextReplyAt phase k buffer img =
+    replyOf (nextBrokenAt phase k buffer img) (nextAt phase k img) namedBytes (λ v. 0) buffer
+
+-- what is given back when a rule is broken
+abbrev pub refusedGot : Rule → ℕ → Got
+refusedGot rule needed = record { answer = Refused rule; size = 0; attributes = 0; needed = needed }
+
+-- a call that reads has answered so: refused by the rule broken, or done with no stores; and given and left in the buffer what the reply says
+pub record Answered (broken : Option Rule) (reply : Reply) (got : Got) (after : List ℕ) : Type 0 where
+  pub answer : answerOf (got .answer) ≡ onSome broken (λ rule. refused (ruleNumber rule)) (done 0)
+  pub size : got .size ≡ reply .size
+  pub attributes : got .attributes ≡ reply .attributes
+  pub needed : got .needed ≡ reply .needed
+  pub buffer : after ≡ reply .buffer

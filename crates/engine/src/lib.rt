@@ -1,0 +1,4 @@
+// The calls.
+pub mod read;
+pub mod start;
+pub mod write;

@@ -1,0 +1,216 @@
+// The calls that read: get and next-name. They make no stores, so n never stops them, and they write the front of the buffer and no more.
+ghost use mathlib.Core.Path.{_≡_};
+ghost use mathlib.Core.Bool.{_||_};
+ghost use mathlib.Core.List.{_++_};
+ghost use Prim.Native.Nat.{_≤_};
+ghost use lib.ListN.{length};
+ghost use Rattle.model.specs.Lists.{same, overlay};
+ghost use Rattle.model.specs.Name.{wellNamed, emptyName};
+ghost use Rattle.model.specs.Region.{entries, values};
+ghost use Rattle.model.specs.Rules.{gotBytes, namedBytes};
+ghost use Rattle.model.specs.Answers.{answerOf, outcome, getReply, nextReply, getPlan, nextPlan};
+ghost use Rattle.query.specs.Query.{getAt, nameAt};
+ghost use Rattle.engine.specs.Read.{openOf, refusedGot, Answered, shortOf, replyTo, foundBroken, foundReply, nextBrokenAt, nextReplyAt};
+use image::Check;
+use model::Answer;
+use model::Context;
+use model::Got;
+use model::Named;
+use model::Rule;
+use model::Session;
+use region::walk;
+use values::Found;
+use values::lookup;
+
+// Bytes copied to the front of a buffer.
+fn deliver(buffer: &mut [u8], bytes: &[u8])
+    requires { ⌜ length (now bytes) ≤ length (now buffer) ⌝ }
+    ensures { λ _. ⌜ now (buffer .exit) ≡ overlay 0 (now (bytes .entry)) (now (buffer .entry)) ⌝ }
+{
+    let mut i = 0;
+    while i < bytes.len() {
+        buffer[i] = bytes[i];
+        i += 1;
+    }
+}
+
+// Refused: nothing is written.
+fn refused(rule: Rule, needed: u32) -> Got
+    ensures { λ r. ⌜ r ≡ refusedGot rule needed ⌝ }
+{
+    Got {
+        answer: Answer::Refused(rule),
+        size: 0,
+        attributes: 0,
+        needed,
+    }
+}
+
+// Rules 1, 2 and 3, the last as the name was found: the number of blocks and the offset of the tail, or the rule broken.
+fn open(image: &[u8], named: bool) -> Check
+    ensures { λ r. ⌜ r ≡ openOf (now (image .entry)) named ⌝ }
+{
+    let check = image::check_call(image);
+    match check {
+        Check::Ready(_, _) => {
+            if named {
+                return check;
+            }
+            Check::Refused(Rule::Name)
+        }
+        Check::Refused(_) => check,
+    }
+}
+
+// Data handed out, if the buffer holds them.
+fn give(bytes: &[u8], attributes: u32, buffer: &mut [u8]) -> Got
+    requires { ⌜ length (now bytes) ≤ 28672 ⌝ }
+    ensures { λ r. ⌜ Answered (shortOf (now (bytes .entry)) (now (buffer .entry))) (replyTo (now (bytes .entry)) attributes (now (buffer .entry))) r (now (buffer .exit)) ⌝ }
+{
+    let size = bytes.len() as u32;
+    if buffer.len() < bytes.len() {
+        return refused(Rule::Buffer, size);
+    }
+    deliver(buffer, bytes);
+    Got {
+        answer: Answer::Done(0),
+        size,
+        attributes,
+        needed: 0,
+    }
+}
+
+// The GUID and behind it the name handed out, if the buffer holds them.
+fn give_name(vendor: &[u8], name: &[u8], buffer: &mut [u8]) -> Got
+    requires { ⌜ (length (now vendor) ≤ 28672) × (length (now name) ≤ 28672) ⌝ }
+    ensures { λ r. ⌜ Answered (shortOf (now (vendor .entry) ++ now (name .entry)) (now (buffer .entry))) (replyTo (now (vendor .entry) ++ now (name .entry)) 0 (now (buffer .entry))) r (now (buffer .exit)) ⌝ }
+{
+    let front = vendor.len();
+    let whole = (front + name.len()) as u32;
+    if buffer.len() < front + name.len() {
+        return refused(Rule::Buffer, whole);
+    }
+    deliver(buffer, vendor);
+    deliver(&mut buffer[front..], name);
+    Got {
+        answer: Answer::Done(0),
+        size: whole,
+        attributes: 0,
+        needed: 0,
+    }
+}
+
+// Rules 11 and 14 of a get, from a region.
+fn get_from(region: &[u8], runtime: bool, name: &[u8], vendor: &[u8; 16], buffer: &mut [u8]) -> Got
+    requires { ⌜ length (now region) ≤ 28672 ⌝ }
+    ensures { λ r. ⌜ Answered
+        (foundBroken (getAt runtime (record { name = now (name .entry); vendor = now (vendor .entry) }) (values (entries (now (region .entry))))) gotBytes (now (buffer .entry)))
+        (foundReply (getAt runtime (record { name = now (name .entry); vendor = now (vendor .entry) }) (values (entries (now (region .entry))))) gotBytes (λ v. v .attributes) (now (buffer .entry)))
+        r (now (buffer .exit)) ⌝ }
+{
+    let found = query::to_get(region, runtime, name, vendor);
+    let Found::At(at, e) = found else {
+        return refused(Rule::Absent, 0);
+    };
+    give(lookup::data_of(region, at, e), e.attributes, buffer)
+}
+
+// Rules 11 and 14 of a next-name, from a region.
+fn name_from(region: &[u8], runtime: bool, name: &[u8], vendor: &[u8; 16], buffer: &mut [u8]) -> Got
+    requires { ⌜ length (now region) ≤ 28672 ⌝ }
+    ensures { λ r. ⌜ Answered
+        (foundBroken (nameAt runtime (record { name = now (name .entry); vendor = now (vendor .entry) }) (values (entries (now (region .entry))))) namedBytes (now (buffer .entry)))
+        (foundReply (nameAt runtime (record { name = now (name .entry); vendor = now (vendor .entry) }) (values (entries (now (region .entry))))) namedBytes (λ v. 0) (now (buffer .entry)))
+        r (now (buffer .exit)) ⌝ }
+{
+    let found = query::to_name(region, runtime, name, vendor);
+    let Found::At(at, e) = found else {
+        return refused(Rule::Absent, 0);
+    };
+    give_name(
+        walk::vendor_of(region, at),
+        walk::name_of(region, at, e),
+        buffer,
+    )
+}
+
+// A get: the data of the value of a name and GUID. Rules 1, 2, 3, 11 and 14.
+pub fn get(
+    c: Context,
+    s: Session,
+    image: &[u8],
+    name: &[u8],
+    vendor: &[u8; 16],
+    buffer: &mut [u8],
+) -> Got
+    ensures { λ r. ⌜ (answerOf (r .answer) ≡ outcome (c .limit) (getPlan s (record { name = now (name .entry); vendor = now (vendor .entry) }) (now (buffer .entry)) (now (image .entry))))
+        × (r .size ≡ getReply s (record { name = now (name .entry); vendor = now (vendor .entry) }) (now (buffer .entry)) (now (image .entry)) .size)
+        × (r .attributes ≡ getReply s (record { name = now (name .entry); vendor = now (vendor .entry) }) (now (buffer .entry)) (now (image .entry)) .attributes)
+        × (r .needed ≡ getReply s (record { name = now (name .entry); vendor = now (vendor .entry) }) (now (buffer .entry)) (now (image .entry)) .needed)
+        × (now (buffer .exit) ≡ getReply s (record { name = now (name .entry); vendor = now (vendor .entry) }) (now (buffer .entry)) (now (image .entry)) .buffer) ⌝ }
+{
+    let opened = open(image, slices::is_named(name));
+    match opened {
+        Check::Ready(b, _) => get_from(
+            slices::cut(image, 0, 4096 * b),
+            session::at_runtime(s.phase),
+            name,
+            vendor,
+            buffer,
+        ),
+        Check::Refused(rule) => refused(rule, 0),
+    }
+}
+
+// Whether next-name takes a name: a well-formed one, or the empty one to begin.
+fn is_next_named(name: &[u8]) -> bool
+    ensures { λ r. ⌜ r ≡ (wellNamed (now (name .entry)) || same (now (name .entry)) emptyName) ⌝ }
+{
+    if slices::is_named(name) {
+        return true;
+    }
+    query::is_empty_name(name)
+}
+
+// What next-name answers, at a phase.
+fn name_behind(phase: u32, image: &[u8], name: &[u8], vendor: &[u8; 16], buffer: &mut [u8]) -> Got
+    ensures { λ r. ⌜ Answered
+        (nextBrokenAt phase (record { name = now (name .entry); vendor = now (vendor .entry) }) (now (buffer .entry)) (now (image .entry)))
+        (nextReplyAt phase (record { name = now (name .entry); vendor = now (vendor .entry) }) (now (buffer .entry)) (now (image .entry)))
+        r (now (buffer .exit)) ⌝ }
+{
+    let opened = open(image, is_next_named(name));
+    match opened {
+        Check::Ready(b, _) => name_from(
+            slices::cut(image, 0, 4096 * b),
+            session::at_runtime(phase),
+            name,
+            vendor,
+            buffer,
+        ),
+        Check::Refused(rule) => refused(rule, 0),
+    }
+}
+
+// A next-name: the GUID and name of the value behind a name and GUID. Rules 1, 2, 3, 11 and 14.
+pub fn next_name(
+    c: Context,
+    s: Session,
+    image: &[u8],
+    name: &[u8],
+    vendor: &[u8; 16],
+    buffer: &mut [u8],
+) -> Named
+    ensures { λ r. ⌜ (answerOf (r .answer) ≡ outcome (c .limit) (nextPlan s (record { name = now (name .entry); vendor = now (vendor .entry) }) (now (buffer .entry)) (now (image .entry))))
+        × (r .size ≡ nextReply s (record { name = now (name .entry); vendor = now (vendor .entry) }) (now (buffer .entry)) (now (image .entry)) .size)
+        × (r .needed ≡ nextReply s (record { name = now (name .entry); vendor = now (vendor .entry) }) (now (buffer .entry)) (now (image .entry)) .needed)
+        × (now (buffer .exit) ≡ nextReply s (record { name = now (name .entry); vendor = now (vendor .entry) }) (now (buffer .entry)) (now (image .entry)) .buffer) ⌝ }
+{
+    let got = name_behind(s.phase, image, name, vendor, buffer);
+    let answer = got.answer;
+    Named {
+        answer,
+        size: got.size,
+        needed: got.needed,
+    }
+}
