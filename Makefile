@@ -1,15 +1,50 @@
 # make test: the gate. Every step's output is printed; the last line is rt ci's own tally, and the exit status is non-zero if any step failed.
 .SILENT:
-.PHONY: demo test check fmt
+.PHONY: demo test check fmt lib host host-test rust-test soak bench
+
+CC = cc
+CFLAGS = -std=c11 -O2 -Wall -Wextra -Werror
+CARGO = CARGO_NET_OFFLINE=true CARGO_TARGET_DIR=$(CURDIR)/target/rust cargo
+LIB = target/staticlib/libcapi.a
 
 test:
 	sh tools/gate
 
-# prove varlist and what it rests on, and list a sample store
+# prove the library and varlist, list a sample store, and play power cuts in a compaction
 demo:
 	rt check varlist
+	rt staticlib capi
 	echo
 	target/bin/varlist <crates/varlist/stdin
+	echo
+	$(MAKE) -s host
+	target/host
+
+# the static library for C and Rust hosts: target/staticlib/libcapi.a, to be used with c/varstore.h
+lib:
+	rt staticlib capi
+
+# the host that a firmware engineer can start from
+host:
+	$(CC) $(CFLAGS) c/host.c $(LIB) -o target/host
+
+host-test: host
+	target/host crates/varlist/stdin >target/host.out
+	target/host >>target/host.out
+	cmp target/host.out c/host.expected
+
+# the second implementation, and its comparison with the engine
+rust-test:
+	$(CARGO) test --release --manifest-path rust/Cargo.toml
+
+# power cuts for ten minutes (SOAK=seconds for another time)
+soak:
+	SOAK=$${SOAK:-600} $(CARGO) test --release --manifest-path rust/Cargo.toml --test power_cuts -- --nocapture
+
+# the engine against the second implementation: time and instruction counts, as ratios
+bench:
+	$(CARGO) build --release --manifest-path rust/Cargo.toml
+	tools/bench
 
 # prove what has changed, and run the programs
 check:

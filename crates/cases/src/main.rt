@@ -1,10 +1,25 @@
-// cases: for each image that an argument names, its name and what varlist prints of it.
+// cases: for each file that an argument names, its name, and what varlist prints of it if it is an image, or the lines of its steps if it is a
+// script of calls.
+mod fields;
+mod play;
+mod print;
+
 use libc::STDOUT_FILENO;
 
-fn print_report(image: &[u8]) {
-    let mut out = io::large_buffer();
-    let length = report::report(image, &mut out);
-    io::write_all(STDOUT_FILENO, slices::cut(&out, 0, length));
+// Whether a path ends as a script's does.
+fn is_script(path: &[u8]) -> bool {
+    if path.len() < 6 {
+        return false;
+    }
+    slices::equal(&path[path.len() - 6..], b".calls")
+}
+
+fn run(path: &[u8], bytes: &[u8]) {
+    if is_script(path) {
+        play::play(bytes);
+        return;
+    }
+    play::varlist(bytes);
 }
 
 fn run_file(path: &[u8]) {
@@ -15,13 +30,13 @@ fn run_file(path: &[u8]) {
         os::fail(path);
         return;
     }
-    let mut image = io::large_buffer();
-    let n = io::read_full(fd, &mut image);
+    let mut bytes = io::large_buffer();
+    let n = io::read_full(fd, &mut bytes);
     libc::close(fd);
-    print_report(&image[..n]);
+    run(path, &bytes[..n]);
 }
 
-// Whether there is an argument i; its file is reported on.
+// Whether there is an argument i; its file is run.
 fn run_arg(i: usize) -> bool {
     let mut path = io::buffer();
     let n = os::arg(i, &mut path);

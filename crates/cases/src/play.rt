@@ -1,0 +1,252 @@
+// A script of calls played through the engine, with a line for each step. This is a test program: its functions are proved safe and ending, and
+// promise no more than their callers need; what they print is compared with lines worked out by hand.
+//
+// A script is binary: steps one behind another. A step is its kind (an ASCII letter), limit u32 (n; 0xFFFFFFFF never stops), then by kind
+//   F  format      b u8: the image becomes the first 4,096 * (2b + 1) bytes of the buffer, as they stand, and is formatted
+//   U  start-up    custom u8, reserve u32
+//   S  set         attributes u32, presence u8, verdict u8, vendor 16, name size u16, data size u32, name, data
+//   G  get         buffer size u16, vendor 16, name size u16, name
+//   N  next-name   the same
+//   L  lock        vendor 16, name size u16, name
+//   P  phase       u8
+//   B  bytes poked into the image, as nobody but a test does: offset u32, size u16, bytes
+//   D  bytes of the image shown: offset u32, size u16
+//   V  varlist's text
+// Numbers are little-endian; a field past the script's end counts as zeros or empty. Before the first format the image has no bytes.
+ghost use Prim.Native.Nat.{_<_, _^_};
+ghost use Rattle.io.specs.Counts.{Counts};
+use crate::fields;
+use crate::print;
+use model::Answer;
+use model::Context;
+use model::Got;
+use model::Named;
+use model::Session;
+
+fn context(step: &[u8]) -> Context {
+    let n = fields::long(step, 1);
+    if n == 0xFFFFFFFF {
+        return Context {
+            limit: 0xFFFFFFFFFFFFFFFF,
+        };
+    }
+    Context { limit: n as u64 }
+}
+
+// An answer alone on its line.
+fn print_answer(call: &[u8], a: Answer) {
+    print::answer(call, a);
+    print::end();
+}
+
+fn format(step: &[u8], image: &mut [u8]) {
+    print_answer(b"format", engine::write::format(context(step), image));
+}
+
+fn start_up(step: &[u8], image: &mut [u8]) -> Session {
+    let custom = fields::byte(step, 5) as u32;
+    let reserve = fields::long(step, 6) as u32;
+    let started = engine::start::start_up(context(step), image, custom, reserve);
+    let answer = started.answer;
+    print_answer(b"start-up", answer);
+    started.session
+}
+
+fn set(step: &[u8], image: &mut [u8], s: Session) {
+    let vendor = fields::vendor(step, 11);
+    let size = fields::short(step, 27);
+    let attributes = fields::long(step, 5) as u32;
+    let answer = engine::write::set(
+        context(step),
+        s,
+        image,
+        slices::cut(step, 33, size),
+        &vendor,
+        attributes,
+        slices::cut(step, 33 + size, fields::long(step, 29)),
+        fields::byte(step, 9) as u32,
+        fields::byte(step, 10) as u32,
+    );
+    print_answer(b"set", answer);
+}
+
+// A get's answer; of a done one size, attributes and data too.
+fn print_got(got: Got, buffer: &[u8]) {
+    let answer = got.answer;
+    if print::answer(b"get", answer) {
+        print::number(b" size ", got.size as u64);
+        print::hex(b" attributes ", &[(got.attributes % 256) as u8]);
+        print::hex(b" data ", slices::cut(buffer, 0, got.size as usize));
+    }
+    print::needed(got.needed);
+    print::end();
+}
+
+// The size of the buffer of a get or a next-name.
+fn buffer_size(step: &[u8], space: &[u8]) -> usize
+    ensures { λ r. ⌜ Counts r (now (space .entry)) ⌝ }
+{
+    fields::least(fields::short(step, 5), space)
+}
+
+fn got_into(step: &[u8], image: &[u8], s: Session, buffer: &mut [u8]) -> Got {
+    let vendor = fields::vendor(step, 7);
+    let name = slices::cut(step, 25, fields::short(step, 23));
+    engine::read::get(context(step), s, image, name, &vendor, buffer)
+}
+
+fn get(step: &[u8], image: &[u8], s: Session, space: &mut [u8]) {
+    let size = buffer_size(step, space);
+    let got = got_into(step, image, s, &mut space[..size]);
+    print_got(got, space);
+}
+
+// A next-name's answer; of a done one size and bytes too.
+fn print_named(named: Named, buffer: &[u8]) {
+    let answer = named.answer;
+    if print::answer(b"next-name", answer) {
+        print::number(b" size ", named.size as u64);
+        print::hex(b" bytes ", slices::cut(buffer, 0, named.size as usize));
+    }
+    print::needed(named.needed);
+    print::end();
+}
+
+fn named_into(step: &[u8], image: &[u8], s: Session, buffer: &mut [u8]) -> Named {
+    let vendor = fields::vendor(step, 7);
+    let name = slices::cut(step, 25, fields::short(step, 23));
+    engine::read::next_name(context(step), s, image, name, &vendor, buffer)
+}
+
+fn next_name(step: &[u8], image: &[u8], s: Session, space: &mut [u8]) {
+    let size = buffer_size(step, space);
+    let named = named_into(step, image, s, &mut space[..size]);
+    print_named(named, space);
+}
+
+// A get or a next-name, with room for its buffer.
+fn read(step: &[u8], image: &[u8], s: Session) {
+    let mut space = io::large_buffer();
+    if fields::byte(step, 0) == b'G' {
+        get(step, image, s, &mut space);
+        return;
+    }
+    next_name(step, image, s, &mut space);
+}
+
+fn lock(step: &[u8], s: Session) -> Session {
+    let vendor = fields::vendor(step, 5);
+    let name = slices::cut(step, 23, fields::short(step, 21));
+    let listed = session::lock(s, name, &vendor);
+    let answer = listed.answer;
+    let after = listed.session;
+    print::answer(b"lock", answer);
+    print::session(after);
+    print::end();
+    after
+}
+
+fn phase(step: &[u8], s: Session) -> Session {
+    let after = s.moved_to(fields::byte(step, 5) as u32);
+    print::word(b"moved");
+    print::session(after);
+    print::end();
+    after
+}
+
+fn poke(step: &[u8], image: &mut [u8]) {
+    let at = fields::long(step, 5);
+    let bytes = fields::bytes(step, 11, fields::short(step, 9));
+    text::put_bytes(image, at, bytes);
+    print::number(b"bytes at ", at as u64);
+    print::hex(b" are ", bytes);
+    print::end();
+}
+
+fn show(step: &[u8], image: &[u8]) {
+    let at = fields::long(step, 5);
+    print::number(b"at ", at as u64);
+    print::hex(b" ", slices::cut(image, at, fields::short(step, 9)));
+    print::end();
+}
+
+pub fn varlist(image: &[u8]) {
+    let mut out = io::large_buffer();
+    let n = report::report(image, &mut out);
+    print::word(slices::cut(&out, 0, n));
+}
+
+// A step that leaves the session as it is.
+fn call(step: &[u8], image: &mut [u8], s: Session) {
+    match fields::byte(step, 0) {
+        b'F' => format(step, image),
+        b'S' => set(step, image, s),
+        b'G' => read(step, image, s),
+        b'N' => read(step, image, s),
+        b'B' => poke(step, image),
+        b'D' => show(step, image),
+        b'V' => varlist(image),
+        _ => print::word(b"no such step\n"),
+    }
+}
+
+// A step played; the session after it.
+fn play_step(step: &[u8], image: &mut [u8], s: Session) -> Session {
+    let kind = fields::byte(step, 0);
+    if kind == b'U' {
+        return start_up(step, image);
+    }
+    if kind == b'L' {
+        return lock(step, s);
+    }
+    if kind == b'P' {
+        return phase(step, s);
+    }
+    call(step, image, s);
+    s
+}
+
+// The bytes that a step takes.
+fn step_size(step: &[u8]) -> usize
+    ensures { λ r. ⌜ (0 < r) × (r < 2 ^ 33) ⌝ }
+{
+    match fields::byte(step, 0) {
+        b'F' => 6,
+        b'U' => 10,
+        b'S' => 33 + fields::short(step, 27) + fields::long(step, 29),
+        b'G' => 25 + fields::short(step, 23),
+        b'N' => 25 + fields::short(step, 23),
+        b'L' => 23 + fields::short(step, 21),
+        b'P' => 6,
+        b'B' => 11 + fields::short(step, 9),
+        b'D' => 11,
+        _ => 5,
+    }
+}
+
+// The image's length at a step: a format names another one.
+fn asked_size(step: &[u8], size: usize) -> usize {
+    if fields::byte(step, 0) == b'F' {
+        let b = fields::byte(step, 5) as usize;
+        return 4096 * (2 * b + 1);
+    }
+    size
+}
+
+// The steps of a script, over a buffer for the image.
+fn play_steps(script: &[u8], buffer: &mut [u8]) {
+    let mut s = Session::fresh(0, 0);
+    let mut size: usize = 0;
+    let mut at: usize = 0;
+    while at < script.len() {
+        let step = slices::cut(script, at, 65536);
+        size = fields::least(asked_size(step, size), buffer);
+        s = play_step(step, &mut buffer[..size], s);
+        at += step_size(step);
+    }
+}
+
+pub fn play(script: &[u8]) {
+    let mut buffer = io::large_buffer();
+    play_steps(script, &mut buffer);
+}

@@ -1,0 +1,207 @@
+//! Benchmarks of the engine against the paper's implementation, the same work on both sides: every call with its own check of the image, on an image
+//! copied back and a buffer cleared before each turn, which is not measured.
+//!
+//!     bench                              wall time, the best of many alternating turns
+//!     bench names                        each case and its number of turns, for tools/bench
+//!     bench bench-one NAME SIDE COUNT    prepares all turns of a case and makes the first COUNT; what two counts differ by is the calls alone
+
+use std::env;
+use std::hint::black_box;
+use std::time::{Duration, Instant};
+
+use varstore::calls::{Calls, ENGINE, LINKED, PAPER};
+use varstore::interface::{Answer, Context, Guid, Key, Request, Rule, Session};
+use varstore::paper::entry::{self, Contents, GONE, STATE};
+use varstore::paper::region;
+
+const BLOCK: usize = 4096;
+const VENDOR: Guid = [1, 2, 3, 4, 5, 6, 7, 8, 9, 10, 11, 12, 13, 14, 15, 16];
+const BEGIN: Key = Key { name: &[0, 0], vendor: &VENDOR };
+
+/// What a turn works on.
+struct Desk {
+    session: Session,
+    image: Vec<u8>,
+    buffer: [u8; 2048],
+}
+
+struct Case {
+    name: &'static str,
+    image: Vec<u8>,
+    turns: usize,
+    turn: fn(&Calls, &mut Desk) -> Answer,
+    expected: Answer,
+}
+
+impl Case {
+    fn desk(&self) -> Desk {
+        Desk { session: (PAPER.session_new)(0, 0), image: self.image.clone(), buffer: [0; 2048] }
+    }
+
+    fn prepare(&self, desk: &mut Desk) {
+        desk.image.copy_from_slice(&self.image);
+        desk.buffer.fill(0);
+        black_box(desk);
+    }
+
+    /// Both sides give the expected answer, and leave the same image and buffer.
+    fn check(&self) {
+        let [engine, paper] = [ENGINE, PAPER].map(|calls| {
+            let mut desk = self.desk();
+            let answer = (self.turn)(&calls, &mut desk);
+            assert_eq!(answer, self.expected, "{} by {}", self.name, calls.who);
+            desk
+        });
+        assert!(engine.image == paper.image && engine.buffer == paper.buffer, "{} differs", self.name);
+    }
+
+    fn time(&self, calls: &Calls, desk: &mut Desk) -> Duration {
+        self.prepare(desk);
+        let begin = Instant::now();
+        black_box((self.turn)(black_box(calls), desk));
+        begin.elapsed()
+    }
+
+    /// The best time of each side in alternating turns.
+    fn best(&self) -> [Duration; 2] {
+        let (begin, mut desk) = (Instant::now(), self.desk());
+        let mut best = [Duration::MAX; 2];
+        let mut turns = 0;
+        while turns < 50 || begin.elapsed() < Duration::from_secs(1) {
+            for (calls, best) in [ENGINE, PAPER].iter().zip(&mut best) {
+                *best = self.time(calls, &mut desk).min(*best);
+            }
+            turns += 1;
+        }
+        best
+    }
+}
+
+/// A name of characters and a zero character.
+fn name(text: &str) -> Vec<u8> {
+    text.encode_utf16().chain([0]).flat_map(u16::to_le_bytes).collect()
+}
+
+fn numbered(index: usize) -> Vec<u8> {
+    name(&format!("V{index:03}"))
+}
+
+fn put(region: &mut Vec<u8>, name: &[u8], data: &[u8]) {
+    let contents = Contents { attributes: 0x07, stamp: &[0; 16], old: data, new: &[] };
+    entry::write(region, Key { name, vendor: &VENDOR }, &contents);
+}
+
+/// A region's bytes up to its tail, made an image: work block and spare are blank.
+fn image(mut region: Vec<u8>, blocks: usize) -> Vec<u8> {
+    region.resize(BLOCK * (2 * blocks + 1), 0xFF);
+    region
+}
+
+/// A region of b blocks with values of 50 bytes, 120 bytes an entry.
+fn region_of(blocks: usize, count: usize) -> Vec<u8> {
+    let mut region = region::header(BLOCK * blocks).to_vec();
+    (0..count).for_each(|index| put(&mut region, &numbered(index), &[index as u8; 50]));
+    region
+}
+
+/// Seven blocks full of the smallest entries, 68 bytes each.
+fn smallest() -> Vec<u8> {
+    let mut region = region_of(7, 0);
+    for character in 1.. {
+        if region.len() + 68 > 7 * BLOCK {
+            break;
+        }
+        put(&mut region, &name(char::from_u32(character).expect("a small number").encode_utf8(&mut [0; 4])), &[1]);
+    }
+    region
+}
+
+/// Seven blocks of 200 values, filled up with deleted entries.
+fn crowded() -> Vec<u8> {
+    let mut region = region_of(7, 200);
+    while region.len() + 120 <= 7 * BLOCK {
+        let at = region.len();
+        put(&mut region, &numbered(0), &[0; 50]);
+        region[at + STATE] = GONE;
+    }
+    region
+}
+
+fn get_last(calls: &Calls, desk: &mut Desk) -> Answer {
+    let last = Key { name: b"V\x001\x009\x009\0\0\0", vendor: &VENDOR };
+    (calls.get)(Context::NO_LIMIT, &desk.session, &desk.image, last, &mut desk.buffer).answer
+}
+
+fn check(calls: &Calls, desk: &mut Desk) -> Answer {
+    (calls.check)(&desk.image).answer
+}
+
+/// Replaces the first value by others of the same length.
+fn replace(calls: &Calls, desk: &mut Desk) -> Answer {
+    let first = Key { name: b"V\x000\x000\x000\0\0\0", vendor: &VENDOR };
+    let request = Request { key: first, attributes: 0x07, data: &[0x5A; 50], presence: 0, verdict: 0 };
+    (calls.set)(Context::NO_LIMIT, &desk.session, &mut desk.image, &request)
+}
+
+/// Next-name from the first to the end.
+fn names(calls: &Calls, desk: &mut Desk) -> Answer {
+    let (mut last, mut size) = ([0; 144], 0);
+    let Desk { session, image, buffer } = desk;
+    loop {
+        let key = if size == 0 { BEGIN } else { Key { name: &last[16..size], vendor: &VENDOR } };
+        let reply = (calls.next_name)(Context::NO_LIMIT, session, image, key, &mut buffer[..144]);
+        if reply.answer != Answer::Done(0) {
+            return reply.answer;
+        }
+        last.copy_from_slice(&buffer[..144]);
+        size = reply.size as usize;
+    }
+}
+
+fn cases() -> [Case; 5] {
+    let done = Answer::Done;
+    let end = Answer::Refused(Rule::Absent);
+    [
+        Case { name: "get the last of 200 values", image: image(region_of(7, 200), 7), turns: 20, turn: get_last, expected: done(0) },
+        Case { name: "check 421 smallest entries", image: image(smallest(), 7), turns: 5, turn: check, expected: done(0) },
+        Case { name: "replace in the tail", image: image(region_of(1, 20), 1), turns: 50, turn: replace, expected: done(123) },
+        Case { name: "compact seven blocks", image: image(crowded(), 7), turns: 5, turn: replace, expected: done(57361) },
+        Case { name: "next-name over 200 values", image: image(region_of(7, 200), 7), turns: 2, turn: names, expected: end },
+    ]
+}
+
+fn wall() {
+    println!("{:<30}{:>12}{:>12}{:>8}", "best wall time, µs", "engine", "paper", "ratio");
+    for case in cases() {
+        case.check();
+        let [engine, paper] = case.best().map(|time| time.as_secs_f64() * 1e6);
+        println!("{:<30}{engine:>12.2}{paper:>12.2}{:>8.2}", case.name, engine / paper);
+    }
+    if !LINKED {
+        println!("the engine is not linked: both sides are the paper's implementation");
+    }
+}
+
+fn one(wanted: &str, side: &str, count: usize) {
+    let case = cases().into_iter().find(|case| case.name == wanted).expect("a case's name");
+    let calls = [ENGINE, PAPER].into_iter().find(|calls| calls.who == side).expect("engine or paper");
+    assert!(count <= case.turns, "{wanted} has {} turns", case.turns);
+    let mut desk = case.desk();
+    for turn in 0..case.turns {
+        case.prepare(&mut desk);
+        if turn < count {
+            black_box((case.turn)(&calls, &mut desk));
+        }
+    }
+}
+
+fn main() {
+    let arguments: Vec<String> = env::args().skip(1).collect();
+    let words: Vec<&str> = arguments.iter().map(String::as_str).collect();
+    match words[..] {
+        [] => wall(),
+        ["names"] => cases().iter().for_each(|case| println!("{}\t{}", case.turns, case.name)),
+        ["bench-one", name, side, count] => one(name, side, count.parse().expect("a number of turns")),
+        _ => panic!("bench, bench names, or bench bench-one NAME SIDE COUNT"),
+    }
+}

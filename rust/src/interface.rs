@@ -1,0 +1,142 @@
+//! What goes into a call and comes out of it, in both implementations.
+
+pub type Guid = [u8; 16];
+
+/// Rules a call can break, in checking order.
+#[derive(Clone, Copy, PartialEq, Eq, PartialOrd, Ord, Debug)]
+#[repr(u32)]
+pub enum Rule {
+    Length = 1,
+    Unready,
+    Name,
+    Attributes,
+    KeyAttributes,
+    Locked,
+    Standing,
+    Descriptor,
+    Verdict,
+    Stamp,
+    Absent,
+    DataSize,
+    Room,
+    Buffer,
+    LockPhase,
+    LockSpace,
+}
+
+impl Rule {
+    pub const ALL: [Rule; 16] = [
+        Rule::Length,
+        Rule::Unready,
+        Rule::Name,
+        Rule::Attributes,
+        Rule::KeyAttributes,
+        Rule::Locked,
+        Rule::Standing,
+        Rule::Descriptor,
+        Rule::Verdict,
+        Rule::Stamp,
+        Rule::Absent,
+        Rule::DataSize,
+        Rule::Room,
+        Rule::Buffer,
+        Rule::LockPhase,
+        Rule::LockSpace,
+    ];
+
+    pub fn number(self) -> u32 {
+        self as u32
+    }
+
+    pub fn numbered(number: u32) -> Option<Rule> {
+        Rule::ALL.into_iter().find(|rule| rule.number() == number)
+    }
+}
+
+/// The answer is done with its number of stores, stopped, or refused holding its rule.
+#[derive(Clone, Copy, PartialEq, Eq, Debug)]
+pub enum Answer {
+    Done(u64),
+    Stopped,
+    Refused(Rule),
+}
+
+/// What every call and start-up takes: the number n of stores after which it is stopped.
+#[derive(Clone, Copy, PartialEq, Eq, Debug)]
+#[repr(C)]
+pub struct Context {
+    pub limit: u64,
+}
+
+impl Context {
+    pub const NO_LIMIT: Context = Context { limit: u64::MAX };
+}
+
+pub const BOOT: u32 = 0;
+pub const AFTER_END_OF_DXE: u32 = 1;
+pub const RUNTIME: u32 = 2;
+
+/// Places of the lock list, and the bytes of one.
+pub const PLACES: usize = 16;
+pub const PLACE: usize = 144;
+
+/// Phase, custom mode, run-time reserve R and the lock list. A place of the list holds the name, zeros up to 128 bytes, then the GUID.
+#[derive(Clone, Copy, PartialEq, Eq, Debug)]
+#[repr(C)]
+pub struct Session {
+    pub phase: u32,
+    pub custom: u32,
+    pub reserve: u32,
+    pub count: u32,
+    pub sizes: [u32; PLACES],
+    pub locks: [u8; PLACES * PLACE],
+}
+
+/// A name with its GUID.
+#[derive(Clone, Copy, PartialEq, Eq, Debug)]
+pub struct Key<'a> {
+    pub name: &'a [u8],
+    pub vendor: &'a Guid,
+}
+
+/// What a set is asked. A verdict is 0 none, 1 PK, 2 KEK, 3 the payload's own key, 4 the variable's creator.
+#[derive(Clone, Copy, PartialEq, Eq, Debug)]
+pub struct Request<'a> {
+    pub key: Key<'a>,
+    pub attributes: u32,
+    pub data: &'a [u8],
+    pub presence: u32,
+    pub verdict: u32,
+}
+
+/// What a get or next-name gives beside the buffer's front. Where it is refused, size and attributes are 0; `needed` is the buffer length
+/// that would do if it is refused for the buffer, else 0.
+#[derive(Clone, Copy, PartialEq, Eq, Debug)]
+pub struct Reply {
+    pub answer: Answer,
+    pub size: u32,
+    pub attributes: u32,
+    pub needed: u32,
+}
+
+/// What a lock gives: the session as it came where the answer is a refusal.
+#[derive(Clone, Copy, PartialEq, Eq, Debug)]
+pub struct Listed {
+    pub answer: Answer,
+    pub session: Session,
+}
+
+/// What a start-up gives: a fresh session, also when it is refused or stopped.
+#[derive(Clone, Copy, PartialEq, Eq, Debug)]
+pub struct Started {
+    pub answer: Answer,
+    pub session: Session,
+}
+
+/// Rules 1 and 2 on an image: b and the offset of the tail, both 0 if refused.
+#[derive(Clone, Copy, PartialEq, Eq, Debug)]
+pub struct Checked {
+    pub answer: Answer,
+    pub blocks: u32,
+    pub tail: u32,
+}

@@ -1,0 +1,136 @@
+//! The calls. Each that stores has two halves: its list of stores, or the rule broken; and the list made up to n.
+
+use super::entry::{well_formed, Entry, RT};
+use super::image::{blank, Parts};
+use super::region::{self, find, values};
+use super::request::{change, Change};
+use super::rules::{of_the_call, of_the_change, of_what_stands, ready};
+use super::session::{is_runtime, session_new};
+use super::stores::{clearing, compaction, deletion, formatting, in_tail, resumption, Stores, Wanting};
+use super::work;
+use crate::interface::{Answer, Checked, Context, Key, Reply, Request, Rule, Session, Started};
+
+/// Whether a call may use the image: rules 1 and 2.
+pub fn check(image: &[u8]) -> Checked {
+    match ready(image) {
+        Ok(ready) => Checked { answer: Answer::Done(0), blocks: ready.parts.blocks as u32, tail: ready.tail as u32 },
+        Err(rule) => Checked { answer: Answer::Refused(rule), blocks: 0, tail: 0 },
+    }
+}
+
+/// At runtime, values without RT are absent to get and next-name.
+fn is_seen(session: &Session, value: &Entry) -> bool {
+    !is_runtime(session) || value.attributes() & RT != 0
+}
+
+/// The value's data into the front of the buffer. Rules 1, 2, 3, 11 and 14. It makes no stores, so no n stops it.
+pub fn get(_: Context, session: &Session, image: &[u8], key: Key, buffer: &mut [u8]) -> Reply {
+    let found = || {
+        let ready = ready(image)?;
+        if !well_formed(key.name) {
+            return Err(Rule::Name);
+        }
+        find(ready.parts.region, key).value().filter(|value| is_seen(session, value)).ok_or(Rule::Absent)
+    };
+    match found() {
+        Ok(value) => reply(buffer, [value.data(), &[]], value.attributes()),
+        Err(rule) => refusal(rule, 0),
+    }
+}
+
+/// The GUID and name of the value after the named one into the front of the buffer. Rules 1, 2, 3, 11 and 14.
+pub fn next_name(_: Context, session: &Session, image: &[u8], key: Key, buffer: &mut [u8]) -> Reply {
+    let found = || {
+        let ready = ready(image)?;
+        let begins = key.name == [0, 0];
+        if !begins && !well_formed(key.name) {
+            return Err(Rule::Name);
+        }
+        let mut values = values(ready.parts.region).filter(|value| is_seen(session, value));
+        if !begins && !values.any(|value| value.is_for(key)) {
+            return Err(Rule::Absent);
+        }
+        values.next().ok_or(Rule::Absent)
+    };
+    match found() {
+        Ok(value) => reply(buffer, [value.vendor(), value.name()], 0),
+        Err(rule) => refusal(rule, 0),
+    }
+}
+
+/// Writes the front of the buffer and no more, unless the buffer is too short (rule 14).
+fn reply(buffer: &mut [u8], parts: [&[u8]; 2], attributes: u32) -> Reply {
+    let size = parts[0].len() + parts[1].len();
+    if buffer.len() < size {
+        return refusal(Rule::Buffer, size as u32);
+    }
+    let (first, second) = buffer[..size].split_at_mut(parts[0].len());
+    first.copy_from_slice(parts[0]);
+    second.copy_from_slice(parts[1]);
+    Reply { answer: Answer::Done(0), size: size as u32, attributes, needed: 0 }
+}
+
+fn refusal(rule: Rule, needed: u32) -> Reply {
+    Reply { answer: Answer::Refused(rule), size: 0, attributes: 0, needed }
+}
+
+/// A call is stopped exactly if its list of stores is longer than n: the image is then as after the first n.
+fn made(stores: Result<Stores, Rule>, context: Context, image: &mut [u8]) -> Answer {
+    let stores = match stores {
+        Ok(stores) => stores,
+        Err(rule) => return Answer::Refused(rule),
+    };
+    stores.make(context.limit, image);
+    match stores.len() as u64 {
+        count if count <= context.limit => Answer::Done(count),
+        _ => Answer::Stopped,
+    }
+}
+
+/// Sets, appends to or deletes a value. Rules 1 to 13.
+pub fn set(context: Context, session: &Session, image: &mut [u8], request: &Request) -> Answer {
+    made(set_stores(session, image, request), context, image)
+}
+
+pub fn set_stores(session: &Session, image: &[u8], request: &Request) -> Result<Stores, Rule> {
+    let ready = ready(image)?;
+    let (region, key) = (ready.parts.region, request.key);
+    of_the_call(session, request)?;
+    let standing = find(region, key);
+    let value = standing.value();
+    let payload = of_what_stands(session, region, request, value.as_ref())?;
+    let change = change(request, payload, value);
+    of_the_change(session, region, key, value.as_ref(), &change)?;
+    Ok(match change {
+        Change::Nothing => Stores::default(),
+        Change::Delete => deletion(&standing),
+        Change::Put(contents) if ready.tail + contents.entry_size(key) <= region.len() => in_tail(&standing, ready.tail, key, &contents),
+        Change::Put(contents) => compaction(&ready.parts, ready.records, (key, &contents)),
+    })
+}
+
+/// Formatting meets 1 only.
+pub fn format(context: Context, image: &mut [u8]) -> Answer {
+    made(format_stores(image), context, image)
+}
+
+pub fn format_stores(image: &[u8]) -> Result<Stores, Rule> {
+    Parts::of(image).map(|parts| formatting(&parts)).ok_or(Rule::Length)
+}
+
+/// Finishes what a power cut has left, and makes a fresh session. Rules 1 and 2.
+pub fn start_up(context: Context, image: &mut [u8], custom: u32, reserve: u32) -> Started {
+    let answer = made(start_up_stores(image), context, image);
+    Started { answer, session: session_new(custom, reserve) }
+}
+
+pub fn start_up_stores(image: &[u8]) -> Result<Stores, Rule> {
+    let parts = Parts::of(image).ok_or(Rule::Length)?;
+    if let Some(record) = work::pending(&parts) {
+        return Ok(resumption(&parts, record));
+    }
+    let tail = region::sound(parts.region).ok_or(Rule::Unready)?;
+    let records = work::read(parts.work).filter(|records| !records.ends_in_spare_complete);
+    let wanting = Wanting { erase_spare: !blank(parts.spare), erase_work: records.is_none(), compact: !blank(&parts.region[tail..]) };
+    Ok(clearing(&parts, records.map_or(0, |records| records.used), wanting))
+}

@@ -1,0 +1,162 @@
+//! An entry: a header of 60 bytes, then name and data, unpadded. The reader is handed the region from the entry's first byte on.
+
+use crate::interface::{Guid, Key};
+
+pub const HEADER: usize = 60;
+pub const START_ID: [u8; 2] = [0xAA, 0x55];
+
+/// Offsets of the header's fields.
+pub const STATE: usize = 2;
+const ATTRIBUTES: usize = 4;
+const STAMP: usize = 16;
+const NAME_SIZE: usize = 36;
+const DATA_SIZE: usize = 40;
+const VENDOR: usize = 44;
+
+/// The six states.
+pub const UNFINISHED: u8 = 0xFF;
+pub const HEADER_VALID: u8 = 0x7F;
+pub const ADDED: u8 = 0x3F;
+pub const REPLACED: u8 = 0x3E;
+pub const DELETED: u8 = 0x3D;
+pub const GONE: u8 = 0x3C;
+
+/// Attribute bits.
+pub const RT: u32 = 0x04;
+pub const TIME_BASED: u32 = 0x20;
+pub const APPEND: u32 = 0x40;
+
+/// The attributes that a value can have.
+pub const STORABLE: [u32; 4] = [0x03, 0x07, 0x23, 0x27];
+
+pub const MOST_DATA: usize = 2048;
+
+/// A name is UTF-16, 1 to 63 characters and a zero character: 4 to 128 bytes, even, no earlier zero.
+pub fn well_formed(name: &[u8]) -> bool {
+    let Some((earlier, last)) = name.split_last_chunk::<2>() else { return false };
+    (4..=128).contains(&name.len()) && name.len().is_multiple_of(2) && *last == [0, 0] && earlier.chunks_exact(2).all(|character| character != [0, 0])
+}
+
+/// The next multiple of 4.
+pub fn rounded(size: usize) -> usize {
+    (size + 3) & !3
+}
+
+pub fn u32_at(bytes: &[u8], at: usize) -> u32 {
+    u32::from_le_bytes([bytes[at], bytes[at + 1], bytes[at + 2], bytes[at + 3]])
+}
+
+/// An entry that the walk has found at an offset of the region.
+#[derive(Clone, Copy)]
+pub struct Entry<'a> {
+    pub at: usize,
+    header: &'a [u8; HEADER],
+    body: &'a [u8],
+}
+
+impl<'a> Entry<'a> {
+    /// None where under 60 bytes remain or no start id is found. `bytes` are those from `at` on.
+    pub fn read(at: usize, bytes: &'a [u8]) -> Option<Entry<'a>> {
+        let (header, body) = bytes.split_first_chunk::<HEADER>()?;
+        (header[..2] == START_ID).then_some(Entry { at, header, body })
+    }
+
+    pub fn state(&self) -> u8 {
+        self.header[STATE]
+    }
+
+    pub fn attributes(&self) -> u32 {
+        u32_at(self.header, ATTRIBUTES)
+    }
+
+    pub fn stamp(&self) -> &'a [u8; 16] {
+        self.header[STAMP..].first_chunk().expect("16 of 60 bytes")
+    }
+
+    pub fn vendor(&self) -> &'a Guid {
+        self.header[VENDOR..].first_chunk().expect("the last 16 of 60 bytes")
+    }
+
+    fn name_size(&self) -> usize {
+        u32_at(self.header, NAME_SIZE) as usize
+    }
+
+    pub fn data_size(&self) -> usize {
+        u32_at(self.header, DATA_SIZE) as usize
+    }
+
+    /// An entry whose header is unfinished counts as 60 bytes: its sizes are not to be trusted.
+    fn body_size(&self) -> u64 {
+        if self.state() == UNFINISHED {
+            0
+        } else {
+            self.name_size() as u64 + self.data_size() as u64
+        }
+    }
+
+    pub fn ends_within_region(&self) -> bool {
+        self.body_size() <= self.body.len() as u64
+    }
+
+    /// The rounded size of an entry that ends within the region.
+    pub fn size(&self) -> usize {
+        rounded(HEADER + self.body_size() as usize)
+    }
+
+    /// Of an entry that ends within the region.
+    pub fn name(&self) -> &'a [u8] {
+        &self.body[..self.name_size()]
+    }
+
+    /// Of an entry that ends within the region.
+    pub fn data(&self) -> &'a [u8] {
+        &self.body[self.name_size()..][..self.data_size()]
+    }
+
+    pub fn key(&self) -> Key<'a> {
+        Key { name: self.name(), vendor: self.vendor() }
+    }
+
+    /// For a well-formed name, by characters: names are short and differ early, more often than GUIDs.
+    pub fn is_for(&self, key: Key) -> bool {
+        self.name_size() == key.name.len() && self.name().chunks_exact(2).eq(key.name.chunks_exact(2)) && self.vendor() == key.vendor
+    }
+}
+
+/// What a value holds beside its name and GUID; an append's data stand behind the old data.
+#[derive(Clone, Copy)]
+pub struct Contents<'a> {
+    pub attributes: u32,
+    pub stamp: &'a [u8; 16],
+    pub old: &'a [u8],
+    pub new: &'a [u8],
+}
+
+impl Contents<'_> {
+    pub fn data_size(&self) -> usize {
+        self.old.len() + self.new.len()
+    }
+
+    /// The rounded size of the entry that holds this under a name.
+    pub fn entry_size(&self, key: Key) -> usize {
+        rounded(HEADER + key.name.len() + self.data_size())
+    }
+}
+
+/// An entry in state 3F with its padding, count and key index 0, behind what `bytes` holds.
+pub fn write(bytes: &mut Vec<u8>, key: Key, contents: &Contents) {
+    let mut header = [0; HEADER];
+    header[..2].copy_from_slice(&START_ID);
+    header[STATE] = ADDED;
+    header[ATTRIBUTES..][..4].copy_from_slice(&contents.attributes.to_le_bytes());
+    header[STAMP..][..16].copy_from_slice(contents.stamp);
+    header[NAME_SIZE..][..4].copy_from_slice(&(key.name.len() as u32).to_le_bytes());
+    header[DATA_SIZE..][..4].copy_from_slice(&(contents.data_size() as u32).to_le_bytes());
+    header[VENDOR..].copy_from_slice(key.vendor);
+    bytes.extend_from_slice(&header);
+    bytes.extend_from_slice(key.name);
+    bytes.extend_from_slice(contents.old);
+    bytes.extend_from_slice(contents.new);
+    let padding = contents.entry_size(key) - HEADER - key.name.len() - contents.data_size();
+    bytes.resize(bytes.len() + padding, 0xFF);
+}

@@ -1,0 +1,17 @@
+//! Document 01 in Rust, in the paper's order and words. A call is a rule broken, or a list of stores that is then made up to n.
+
+pub mod calls;
+pub mod entry;
+pub mod image;
+pub mod region;
+pub mod request;
+pub mod rules;
+pub mod session;
+pub mod stores;
+pub mod varlist;
+pub mod work;
+
+pub use calls::{check, format, format_stores, get, next_name, set, set_stores, start_up, start_up_stores};
+pub use session::{lock, phase, session_new};
+pub use stores::{Store, Stores};
+pub use varlist::varlist;

@@ -1,0 +1,79 @@
+//! Rules a call can break, in checking order. The first broken is the answer.
+
+use super::entry::{well_formed, Entry, APPEND, MOST_DATA, RT, STORABLE, TIME_BASED};
+use super::image::{blank, Parts};
+use super::region::{self, REGION_HEADER};
+use super::request::{is_later, key_name, payload, wanted, Change, Payload};
+use super::session::{is_boot, is_locked, is_runtime, reserve};
+use super::work;
+use crate::interface::{Key, Request, Rule, Session};
+
+fn broken(rule: Rule, is: bool) -> Result<(), Rule> {
+    if is {
+        Err(rule)
+    } else {
+        Ok(())
+    }
+}
+
+/// An image that a call may use: its parts, where the tail begins, and the number of used records.
+pub struct Ready<'a> {
+    pub parts: Parts<'a>,
+    pub tail: usize,
+    pub records: usize,
+}
+
+/// Rules 1 and 2 for a call.
+pub fn ready(image: &[u8]) -> Result<Ready<'_>, Rule> {
+    let parts = Parts::of(image).ok_or(Rule::Length)?;
+    let tail = region::clean(parts.region).ok_or(Rule::Unready)?;
+    broken(Rule::Unready, !blank(parts.spare))?;
+    let records = work::read(parts.work).ok_or(Rule::Unready)?;
+    broken(Rule::Unready, records.ends_in_spare_complete)?;
+    Ok(Ready { parts, tail, records: records.used })
+}
+
+/// Rules 3 to 6: the call by itself.
+pub fn of_the_call(session: &Session, request: &Request) -> Result<(), Rule> {
+    let attributes = request.attributes;
+    let without_append = attributes & !APPEND;
+    let known = without_append == 0 || STORABLE.contains(&without_append);
+    let hidden = is_runtime(session) && attributes != 0 && attributes & RT == 0;
+    broken(Rule::Name, !well_formed(request.key.name))?;
+    broken(Rule::Attributes, !known || attributes == APPEND || hidden)?;
+    broken(Rule::KeyAttributes, key_name(request.key).is_some() && attributes != 0x27 && attributes != 0x67)?;
+    broken(Rule::Locked, !is_boot(session) && is_locked(session, request.key))
+}
+
+/// Rules 7 to 10: the call beside what stands. Gives the stamp and data proper that rule 8 has found.
+pub fn of_what_stands<'a>(session: &Session, region: &[u8], request: &Request<'a>, value: Option<&Entry>) -> Result<Payload<'a>, Rule> {
+    if let Some(value) = value {
+        let without_append = request.attributes & !APPEND;
+        let stored = value.attributes();
+        let other = without_append != 0 && without_append != stored;
+        let bare = without_append == 0 && stored & TIME_BASED != 0;
+        let hidden = is_runtime(session) && stored & RT == 0;
+        broken(Rule::Standing, other || bare || hidden)?;
+    }
+    let payload = payload(request).ok_or(Rule::Descriptor)?;
+    let wanted = wanted(session, region, request, value);
+    if !wanted.is_empty() {
+        broken(Rule::Verdict, !wanted.contains(&request.verdict))?;
+        broken(Rule::Stamp, value.is_some_and(|value| !is_later(payload.stamp, value.stamp())))?;
+    }
+    Ok(payload)
+}
+
+/// Rules 11 to 13: what the change would leave.
+pub fn of_the_change(session: &Session, region: &[u8], key: Key, value: Option<&Entry>, change: &Change) -> Result<(), Rule> {
+    match change {
+        Change::Nothing => Ok(()),
+        Change::Delete => broken(Rule::Absent, value.is_none()),
+        Change::Put(contents) => {
+            broken(Rule::DataSize, contents.data_size() > MOST_DATA)?;
+            let others: usize = region::values(region).filter(|other| !other.is_for(key)).map(|other| other.size()).sum();
+            let wanted = REGION_HEADER + others + contents.entry_size(key) + reserve(session);
+            broken(Rule::Room, wanted > region.len())
+        }
+    }
+}

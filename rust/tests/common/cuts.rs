@@ -1,0 +1,250 @@
+//! *A run*: calls on one image, each whole, stopped or cut, beside the book. The engine's calls make the stores, with n as the cut; what a begun
+//! store leaves is put there by the test.
+
+use super::book::Book;
+use super::generate::{Asked, BLOCK};
+use super::random::Random;
+use super::same_bytes;
+use varstore::calls::ENGINE;
+use varstore::interface::{Answer, Context, Rule, Session};
+use varstore::paper::region::header;
+use varstore::paper::work::{BEGUN, SPARE_COMPLETE, UNUSED};
+use varstore::paper::{self, Store, Stores};
+
+/// A call that may store.
+#[derive(Clone, Debug)]
+pub enum Call {
+    Set(Asked),
+    StartUp { custom: u32, reserve: u32 },
+}
+
+pub const START_UP: Call = Call::StartUp { custom: 0, reserve: 0 };
+
+/// What an erase may leave in its block: anything.
+#[derive(Clone, Copy, PartialEq, Eq, Debug)]
+pub enum Garbage {
+    Random,
+    Zeros,
+    Blank,
+    Untouched,
+    FrontErased,
+    BackErased,
+    BitsRaised,
+    /// The same block of a clean region of other values.
+    FormerRegion,
+    /// The same block of the region that stands.
+    ThisRegion,
+    /// The same block of an empty region.
+    HeaderOnly,
+    /// A work block of so many records, the last of them FC.
+    SpareComplete(usize),
+    /// The same behind 32 unused records.
+    LateSpareComplete(usize),
+}
+
+impl Garbage {
+    pub const ALL: [Garbage; 15] = [
+        Garbage::Random,
+        Garbage::Zeros,
+        Garbage::Blank,
+        Garbage::Untouched,
+        Garbage::FrontErased,
+        Garbage::BackErased,
+        Garbage::BitsRaised,
+        Garbage::FormerRegion,
+        Garbage::ThisRegion,
+        Garbage::HeaderOnly,
+        Garbage::SpareComplete(1),
+        Garbage::SpareComplete(2),
+        Garbage::SpareComplete(64),
+        Garbage::LateSpareComplete(1),
+        Garbage::LateSpareComplete(32),
+    ];
+
+    fn bytes(self, run: &Run, block: usize, r: &mut Random) -> Vec<u8> {
+        let length = run.former.len();
+        let place = match block * BLOCK {
+            at if at > length => at - length - BLOCK,
+            at => at % length,
+        };
+        let old = &run.image[block * BLOCK..][..BLOCK];
+        let (front, back) = old.split_at(BLOCK / 2);
+        let blank = [0xFF; BLOCK];
+        match self {
+            Garbage::Random => r.bytes(BLOCK),
+            Garbage::Zeros => vec![0; BLOCK],
+            Garbage::Blank => blank.to_vec(),
+            Garbage::Untouched => old.to_vec(),
+            Garbage::FrontErased => [&blank[..front.len()], back].concat(),
+            Garbage::BackErased => [front, &blank[..back.len()]].concat(),
+            Garbage::BitsRaised => old.iter().map(|byte| byte | r.byte()).collect(),
+            Garbage::FormerRegion => run.former[place..][..BLOCK].to_vec(),
+            Garbage::ThisRegion => run.image[place..][..BLOCK].to_vec(),
+            Garbage::HeaderOnly if place > 0 => blank.to_vec(),
+            Garbage::HeaderOnly => [&header(length)[..], &blank].concat()[..BLOCK].to_vec(),
+            Garbage::SpareComplete(used) => records(0, used),
+            Garbage::LateSpareComplete(used) => records(32, used),
+        }
+    }
+}
+
+/// A work block of unused records, then used ones, the last of them FC.
+fn records(unused: usize, used: usize) -> Vec<u8> {
+    let mut work = vec![UNUSED; BLOCK];
+    work[unused..unused + used].fill(BEGUN);
+    work[unused + used - 1] = SPARE_COMPLETE;
+    work
+}
+
+/// What a begun store has left.
+#[derive(Clone, Copy, PartialEq, Eq, Debug)]
+pub enum Begun {
+    Byte(u8),
+    Block(Garbage),
+}
+
+/// What a store may leave that is begun on an image. A byte store leaves uncleared one or more of the bits it had to clear: `every` such choice,
+/// or all of those bits, each of them alone, and all but each. It leaves nothing new where no bit has to clear.
+pub fn begun(store: Store, image: &[u8], every: bool) -> Vec<Begun> {
+    let (at, v) = match store {
+        Store::Erase(_) => return Garbage::ALL.map(Begun::Block).to_vec(),
+        Store::Byte(at, v) => (at, v),
+    };
+    let to_clear = image[at] & !v;
+    let bits = to_clear.count_ones();
+    let chosen = |uncleared: &u8| uncleared & !to_clear == 0 && (every || [1, bits - 1, bits].contains(&uncleared.count_ones()));
+    let cleared = image[at] & v;
+    (1..=u8::MAX).filter(chosen).map(|uncleared| Begun::Byte(cleared | uncleared)).collect()
+}
+
+/// The first `after` stores are complete; the next may be begun.
+#[derive(Clone, Copy, Debug)]
+pub struct Cut {
+    pub after: usize,
+    pub begun: Option<Begun>,
+}
+
+#[derive(Clone)]
+pub struct Run {
+    pub image: Vec<u8>,
+    pub session: Session,
+    pub book: Book,
+    /// A clean region of other values, as a cut erase may leave it.
+    pub former: Vec<u8>,
+    /// The cuts since the last done start-up.
+    pub cuts: Vec<Cut>,
+}
+
+impl Run {
+    /// Begins on an image as a done start-up left it.
+    pub fn new(image: Vec<u8>, former: Vec<u8>) -> Run {
+        let session = (ENGINE.session_new)(0, 0);
+        Run { book: Book::of(&image), image, session, former, cuts: vec![] }
+    }
+
+    /// The call's list of stores on the image that stands.
+    pub fn stores(&self, call: &Call) -> Result<Stores, Rule> {
+        match call {
+            Call::Set(asked) => paper::set_stores(&self.session, &self.image, &asked.request()),
+            Call::StartUp { .. } => paper::start_up_stores(&self.image),
+        }
+    }
+
+    /// Makes the call up to n stores: answer and image are the paper's, and the book is fed.
+    pub fn make(&mut self, call: &Call, n: u64) -> Answer {
+        let list = self.stores(call);
+        let mut after = self.image.clone();
+        let expected = match &list {
+            Err(rule) => Answer::Refused(*rule),
+            Ok(list) => {
+                list.make(n, &mut after);
+                if list.len() as u64 > n {
+                    Answer::Stopped
+                } else {
+                    Answer::Done(list.len() as u64)
+                }
+            }
+        };
+        let answer = self.call(call, Context { limit: n });
+        assert_eq!(answer, expected, "up to {n} stores of {call:?} after {:?}", self.cuts);
+        same_bytes("image", &after, &self.image);
+        let decided = match (&list, answer) {
+            (_, Answer::Done(_)) => true,
+            (Ok(list), _) => list.deciding().is_some_and(|deciding| (deciding as u64) < n),
+            (Err(_), _) => false,
+        };
+        if let (Call::Set(asked), true) = (call, decided) {
+            self.book.set(&asked.request());
+        }
+        answer
+    }
+
+    fn call(&mut self, call: &Call, context: Context) -> Answer {
+        match *call {
+            Call::Set(ref asked) => (ENGINE.set)(context, &self.session, &mut self.image, &asked.request()),
+            Call::StartUp { custom, reserve } => {
+                let started = (ENGINE.start_up)(context, &mut self.image, custom, reserve);
+                assert!(started.session == paper::session_new(custom, reserve), "a start-up's session is fresh");
+                self.session = started.session;
+                started.answer
+            }
+        }
+    }
+
+    /// Puts what the begun store has left.
+    pub fn begin(&mut self, store: Store, begun: Begun, r: &mut Random) {
+        match (store, begun) {
+            (Store::Byte(at, _), Begun::Byte(left)) => self.image[at] = left,
+            (Store::Erase(block), Begun::Block(garbage)) => {
+                let left = garbage.bytes(self, block, r);
+                self.image[block * BLOCK..][..BLOCK].copy_from_slice(&left);
+            }
+            other => panic!("no such store was begun: {other:?}"),
+        }
+    }
+
+    /// The call up to a cut.
+    pub fn cut(&mut self, call: &Call, cut: Cut, r: &mut Random) {
+        let next = self.stores(call).ok().and_then(|list| list.get(cut.after));
+        self.make(call, cut.after as u64);
+        if let (Some(store), Some(begun)) = (next, cut.begun) {
+            self.begin(store, begun, r);
+        }
+        self.cuts.push(cut);
+    }
+
+    /// A start-up to its end: it is not refused, the image's list of values then equals the book, and a second one makes no stores.
+    pub fn recover(&mut self) {
+        let answer = self.make(&START_UP, u64::MAX);
+        assert!(matches!(answer, Answer::Done(_)), "a start-up after {:?} is {answer:?}", self.cuts);
+        self.check_book();
+    }
+
+    /// What holds after a start-up that is done.
+    pub fn check_book(&mut self) {
+        assert!(
+            Book::of(&self.image) == self.book,
+            "after {:?} the book is {:X?}, the list of values {:X?}",
+            self.cuts,
+            self.book,
+            Book::of(&self.image)
+        );
+        self.book.check_listed(&ENGINE, &self.image);
+        assert_eq!(self.make(&START_UP, u64::MAX), Answer::Done(0), "a second start-up after {:?}", self.cuts);
+        self.cuts.clear();
+    }
+}
+
+/// Numbers of stores after which to cut: of a short list all; of a long one those around marks, erases and the ends of byte runs, among them the
+/// deciding store, and every `stride`th.
+pub fn places(list: &Stores, stride: usize, r: &mut Random) -> Vec<usize> {
+    let stores: Vec<Store> = list.iter().collect();
+    let follows = |k: usize| match (stores.get(k.wrapping_sub(1)), stores.get(k)) {
+        (Some(Store::Byte(before, _)), Some(Store::Byte(at, _))) => before + 1 == *at,
+        _ => false,
+    };
+    let first = r.below(stride);
+    let is_end = |k: usize| !follows(k) || !follows(k + 1);
+    let chosen = |k: &usize| stores.len() <= 300 || k % stride == first || (k.saturating_sub(2)..k + 2).any(is_end);
+    (0..=stores.len()).filter(chosen).collect()
+}

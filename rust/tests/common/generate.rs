@@ -1,0 +1,399 @@
+//! Random names, data, descriptors, sessions and images: mostly well formed, often on a boundary, sometimes damaged. Pools are small, so that
+//! calls meet what stands.
+
+use super::random::Random;
+use varstore::calls::PAPER;
+use varstore::interface::{Answer, Context, Guid, Key, Request, Session, PLACE, PLACES};
+use varstore::paper::image::Parts;
+use varstore::paper::region::values;
+use varstore::paper::request::{DB, DBT, DBX, KEK, PK};
+
+const PLAIN_VENDOR: Guid = [1, 2, 3, 4, 5, 6, 7, 8, 9, 10, 11, 12, 13, 14, 15, 16];
+const OTHER_VENDOR: Guid = [1, 2, 3, 4, 5, 6, 7, 8, 9, 10, 11, 12, 13, 14, 15, 17];
+const KEYS: [Key; 5] = [PK, KEK, DB, DBX, DBT];
+const ATTRIBUTES: [u32; 4] = [0x03, 0x07, 0x23, 0x27];
+pub const CERTIFICATE: Guid = [0x9D, 0xD2, 0xAF, 0x4A, 0xDF, 0x68, 0xEE, 0x49, 0x8A, 0xA9, 0x34, 0x7D, 0x37, 0x56, 0x65, 0xA7];
+
+pub const BLOCK: usize = 4096;
+
+/// A name of characters and a zero character.
+fn spelt(characters: &[u16]) -> Vec<u8> {
+    characters.iter().chain(&[0]).flat_map(|character| character.to_le_bytes()).collect()
+}
+
+/// A well-formed name.
+pub fn good_name(r: &mut Random) -> Vec<u8> {
+    match r.below(12) {
+        0 => spelt(&[0xD800]),
+        1 => spelt(&[0x55AA, 0x003F]),
+        2 => spelt(&[0x0100, 0xFFFF]),
+        3 => spelt(&[u16::from(b'x'); 63]),
+        4 => spelt(&[u16::from(b'x'); 62]),
+        5 => spelt(&"RATE".encode_utf16().collect::<Vec<_>>()),
+        6 => spelt(&[u16::from(b'P'), u16::from(b'K')]),
+        letter => spelt(&[u16::from(b'A') + letter as u16]),
+    }
+}
+
+/// Empty, odd, too long, with an early zero, without the last zero, or the empty name.
+fn bad_name(r: &mut Random) -> Vec<u8> {
+    let mut name = good_name(r);
+    match r.below(8) {
+        0 => vec![],
+        1 => vec![0, 0],
+        2 => vec![0],
+        3 => spelt(&[7; 64]),
+        4 => [spelt(&[9]), name].concat(),
+        5 => {
+            name.pop();
+            name
+        }
+        6 => {
+            let last = name.len() - 1;
+            name[last - r.below(2)] = 1;
+            name
+        }
+        _ => spelt(&vec![3; 64 + r.below(3000)]),
+    }
+}
+
+/// A name with its GUID, owned.
+#[derive(Clone, PartialEq, Eq, Debug)]
+pub struct Name {
+    pub name: Vec<u8>,
+    pub vendor: Guid,
+}
+
+impl Name {
+    pub fn key(&self) -> Key<'_> {
+        Key { name: &self.name, vendor: &self.vendor }
+    }
+}
+
+pub fn name(r: &mut Random) -> Name {
+    if r.once_in(4) {
+        let key = r.pick(&KEYS);
+        return Name { name: key.name.to_vec(), vendor: *key.vendor };
+    }
+    let name = if r.once_in(16) { bad_name(r) } else { good_name(r) };
+    let vendor = r.pick(&[PLAIN_VENDOR, PLAIN_VENDOR, PLAIN_VENDOR, OTHER_VENDOR, *PK.vendor, *DB.vendor, [0xFF; 16]]);
+    Name { name, vendor }
+}
+
+/// Data that often look like flash, of boundary sizes up to `most`.
+pub fn data(r: &mut Random, most: usize) -> Vec<u8> {
+    let sizes = [0, 1, 2, 3, 4, 4, 4, 16, 60, 100, 500, 1000, 1892, 1893, 2047, 2048, 2049, 4096, 100_000];
+    let size = if r.once_in(3) { r.below(2100) } else { r.pick(&sizes) }.min(most);
+    match r.below(4) {
+        0 => vec![0xFF; size],
+        1 => [0xAA, 0x55, 0x3F, 0x00].into_iter().cycle().take(size).collect(),
+        2 => vec![r.byte() & 3; size],
+        _ => r.bytes(size),
+    }
+}
+
+/// One stamp, and those that differ from it in one field: often equal, earlier or later.
+fn stamp(r: &mut Random) -> [u8; 16] {
+    let mut stamp = [0; 16];
+    stamp[..7].copy_from_slice(&[0xE8, 0x07, 6, 15, 12, 30, 30]);
+    match r.below(10) {
+        0 => stamp[..2].copy_from_slice(&r.pick(&[0u16, 0x00FF, 2023, 2025, 0x08E7, 0xFFFF]).to_le_bytes()),
+        1..=5 => stamp[2 + r.below(5)] = r.pick(&[0, 1, 5, 29, 31, 60, 0xFF]),
+        _ => {}
+    }
+    stamp
+}
+
+/// Descriptor and data proper; damaged at one field once in some times.
+pub fn signed(r: &mut Random, proper: &[u8]) -> Vec<u8> {
+    let extra = r.pick(&[0, 0, 1, 100]);
+    let mut bytes = stamp(r).to_vec();
+    bytes.extend_from_slice(&(24 + extra as u32).to_le_bytes());
+    bytes.extend_from_slice(&[0x00, 0x02, 0xF1, 0x0E]);
+    bytes.extend_from_slice(&CERTIFICATE);
+    bytes.resize(40 + extra, 0x77);
+    bytes.extend_from_slice(proper);
+    if r.once_in(5) {
+        damage_descriptor(r, &mut bytes);
+    }
+    bytes
+}
+
+fn damage_descriptor(r: &mut Random, bytes: &mut Vec<u8>) {
+    let length = bytes.len() as u32;
+    match r.below(6) {
+        0 => bytes[7 + r.below(9)] = 1,
+        1 => {
+            let lengths = [0, 23, 24, 25, length - 17, length - 16, length - 15, length, u32::MAX, u32::MAX - 15, u32::MAX - 16];
+            bytes[16..20].copy_from_slice(&r.pick(&lengths).to_le_bytes());
+        }
+        2 => bytes[20 + r.below(2)] ^= 1 << r.below(8),
+        3 => bytes[22 + r.below(2)] ^= 1 << r.below(8),
+        4 => bytes[24 + r.below(16)] ^= 1 << r.below(8),
+        _ => bytes.truncate(r.below(41)),
+    }
+}
+
+/// A set's arguments, owned.
+#[derive(Clone)]
+pub struct Asked {
+    pub name: Name,
+    pub attributes: u32,
+    pub data: Vec<u8>,
+    pub presence: u32,
+    pub verdict: u32,
+}
+
+impl Asked {
+    pub fn request(&self) -> Request<'_> {
+        let Asked { name, attributes, data, presence, verdict } = self;
+        Request { key: name.key(), attributes: *attributes, data, presence: *presence, verdict: *verdict }
+    }
+}
+
+/// The data's size and first bytes only: there may be many.
+impl std::fmt::Debug for Asked {
+    fn fmt(&self, f: &mut std::fmt::Formatter<'_>) -> std::fmt::Result {
+        let Asked { name, attributes, data, presence, verdict } = self;
+        write!(f, "{name:X?}, attributes {attributes:#X}, presence {presence}, verdict {verdict}, ")?;
+        write!(f, "{} bytes of data {:X?}", data.len(), &data[..data.len().min(48)])
+    }
+}
+
+pub fn asked(r: &mut Random) -> Asked {
+    let name = name(r);
+    let is_key = KEYS.contains(&name.key());
+    let attributes = match r.below(20) {
+        0 => r.number() as u32,
+        1 => r.pick(&[0x13, 0x40, 0x01, 0x02, 0x04, 0x05, 0x06, 0x0F, 0x20, 0x60, 0x80, 0x83, 0x8000_0007]),
+        2 | 3 => 0,
+        4..=6 => r.pick(&ATTRIBUTES) | 0x40,
+        7..=15 if is_key => r.pick(&[0x27, 0x27, 0x27, 0x67]),
+        _ => r.pick(&ATTRIBUTES),
+    };
+    let most = if r.once_in(2) { 100 } else { 200_000 };
+    let proper = if r.once_in(8) { vec![] } else { data(r, most) };
+    let data = if attributes & 0x20 != 0 && !r.once_in(20) { signed(r, &proper) } else { proper };
+    let verdict = r.pick(&[0, 1, 1, 2, 3, 3, 4, 4, 5, u32::MAX]);
+    Asked { name, attributes, data, presence: r.pick(&[0, 0, 1, 2, 0x100]), verdict }
+}
+
+/// A set, append or delete of a value that stands, half of the times where there is one; its attributes and its data often as they are.
+pub fn asked_on(r: &mut Random, image: &[u8]) -> Asked {
+    let mut asked = asked(r);
+    let standing: Vec<_> = match Parts::of(image) {
+        Some(parts) if (PAPER.check)(image).answer == Answer::Done(0) => values(parts.region).collect(),
+        _ => vec![],
+    };
+    if standing.is_empty() || r.once_in(2) {
+        return asked;
+    }
+    let value = r.pick(&standing);
+    let most = r.pick(&[60, 2048]);
+    let proper = if r.once_in(8) { value.data().to_vec() } else { data(r, most) };
+    asked.name = Name { name: value.name().to_vec(), vendor: *value.vendor() };
+    asked.attributes = if r.once_in(8) { 0 } else { value.attributes() | r.pick(&[0, 0, 0x40]) };
+    asked.data = if asked.attributes & 0x20 != 0 { signed(r, &proper) } else { proper };
+    asked.verdict = r.pick(&[4, 4, 4, 1, 2, 3]);
+    asked
+}
+
+/// Any session: counts above 16, sizes above 128, phases above 2, reserves above 4,096.
+pub fn session(r: &mut Random) -> Session {
+    let mut session = (PAPER.session_new)(0, 0);
+    session.phase = r.pick(&[0, 0, 0, 1, 1, 2, 2, 3, 0x100, u32::MAX]);
+    session.custom = r.pick(&[0, 0, 0, 1, 2, 0x100, u32::MAX]);
+    session.reserve = r.pick(&[0, 0, 1, 100, 2000, 4095, 4096, 4097, 0x1_0000, u32::MAX]);
+    session.count = r.pick(&[0, 0, 1, 2, 3, 15, 16, 17, 0x100, 0x1_0000, u32::MAX]);
+    for place in 0..PLACES {
+        let locked = name(r);
+        let size = locked.name.len().min(128);
+        session.sizes[place] = locked.name.len() as u32;
+        session.locks[place * PLACE..][..size].copy_from_slice(&locked.name[..size]);
+        session.locks[place * PLACE + 128..][..16].copy_from_slice(&locked.vendor);
+        if r.once_in(16) {
+            session.sizes[place] = r.pick(&[0, 1, 2, 4, 127, 128, 129, 144, 145, 0x1_0004, u32::MAX]);
+        }
+        if r.once_in(16) {
+            session.locks[place * PLACE + r.below(PLACE)] = r.byte();
+        }
+    }
+    session
+}
+
+/// b: 1 most often, each of 2 to 7 sometimes.
+pub fn blocks(r: &mut Random) -> usize {
+    if r.once_in(3) {
+        1 + r.below(7)
+    } else {
+        1
+    }
+}
+
+pub fn empty(blocks: usize) -> Vec<u8> {
+    let mut image = vec![0; BLOCK * (2 * blocks + 1)];
+    (PAPER.format)(Context::NO_LIMIT, &mut image);
+    image
+}
+
+/// An image filled by sets, appends and deletes, some of them stopped.
+pub fn filled(r: &mut Random, blocks: usize) -> Vec<u8> {
+    let mut image = empty(blocks);
+    for _ in 0..r.below(30 * blocks) {
+        let session = (PAPER.session_new)(r.below(2) as u32, 0);
+        let mut asked = asked(r);
+        asked.presence = 1;
+        let limit = if r.once_in(10) { r.below(300) as u64 } else { u64::MAX };
+        (PAPER.set)(Context { limit }, &session, &mut image, &asked.request());
+        if r.once_in(10) {
+            (PAPER.start_up)(Context::NO_LIMIT, &mut image, 0, 0);
+        }
+    }
+    image
+}
+
+/// A region of entries in any of the six states, count and key index and byte 3 anything: sound most often. `small` entries fill it up.
+fn crafted_region(r: &mut Random, blocks: usize, small: bool) -> Vec<u8> {
+    let mut region = empty(blocks)[..BLOCK * blocks].to_vec();
+    let mut at = 28;
+    let many = r.below(if small { 700 } else { 12 * blocks });
+    for index in 0..many {
+        let mut name = name(r);
+        if small {
+            name.name = spelt(&[1 + index as u16 / 2]);
+        }
+        let most = if small { 1 + r.below(4) } else { 2048 };
+        let bytes = data(r, most);
+        let end = at + 60 + name.name.len() + bytes.len();
+        if end > region.len() {
+            break;
+        }
+        let state = r.pick(&[0x3F, 0x3F, 0x3F, 0x3E, 0x3E, 0x3D, 0x3C, 0x7F, 0xFF]);
+        region[at..at + 60].copy_from_slice(&crafted_header(r, state, &name, bytes.len()));
+        if state == 0xFF {
+            at += 60;
+            continue;
+        }
+        region[at + 60..end].copy_from_slice(&[&name.name[..], &bytes].concat());
+        at = end.next_multiple_of(4);
+    }
+    region
+}
+
+fn crafted_header(r: &mut Random, state: u8, name: &Name, size: usize) -> Vec<u8> {
+    let mut header = vec![0xAA, 0x55, state, r.pick(&[0, 0, 0xFF])];
+    header.extend_from_slice(&r.pick(&ATTRIBUTES).to_le_bytes());
+    header.extend_from_slice(&r.pick(&[0, u64::MAX, 5]).to_le_bytes());
+    header.extend_from_slice(&stamp(r));
+    header.extend_from_slice(&r.pick(&[0, u32::MAX, 5]).to_le_bytes());
+    header.extend_from_slice(&(name.name.len() as u32).to_le_bytes());
+    header.extend_from_slice(&(size as u32).to_le_bytes());
+    header.extend_from_slice(&name.vendor);
+    header
+}
+
+/// The crafted region with doubled names, bad names and empty data deleted, so that it is sound; sometimes one entry is then doubled in the tail.
+fn sound_region(r: &mut Random, blocks: usize) -> Vec<u8> {
+    let small = r.once_in(4);
+    let mut region = crafted_region(r, blocks, small);
+    let (mut seen, mut live) = (Vec::new(), Vec::new());
+    let mut at = 28;
+    while at + 60 <= region.len() && region[at..at + 2] == [0xAA, 0x55] {
+        let state = region[at + 2];
+        let field = |from: usize| u32::from_le_bytes(region[at + from..][..4].try_into().expect("4 bytes")) as usize;
+        let (name_size, data_size) = (field(36), field(40));
+        let size = if state == 0xFF { 60 } else { (60 + name_size + data_size).next_multiple_of(4) };
+        if state == 0x3F || state == 0x3E {
+            let name = region[at + 60..][..name_size].to_vec();
+            let key = (state, name, region[at + 44..at + 60].to_vec());
+            let named = varstore::paper::entry::well_formed(&key.1);
+            if seen.contains(&key) || !named || data_size == 0 {
+                region[at + 2] = 0x3C;
+            } else {
+                seen.push(key);
+                live.push(at..at + size);
+            }
+        }
+        at += size;
+    }
+    if !live.is_empty() && r.once_in(8) {
+        let entry = live[r.below(live.len())].clone();
+        if at + entry.len() <= region.len() {
+            region.copy_within(entry, at);
+        }
+    }
+    region
+}
+
+fn crafted_work(r: &mut Random) -> Vec<u8> {
+    let mut work = vec![0xFF; BLOCK];
+    let used = r.pick(&[0, 0, 1, 2, 5, 62, 63, 64]);
+    for record in &mut work[..used] {
+        *record = r.pick(&[0xF8, 0xF8, 0xFE]);
+    }
+    if used > 0 && r.once_in(2) {
+        work[used - 1] = 0xFC;
+    }
+    work
+}
+
+/// An image whose three parts are made one by one; the spare is blank most often, or a region of its own, or the same region.
+pub fn crafted(r: &mut Random, blocks: usize) -> Vec<u8> {
+    let region = if r.once_in(8) { crafted_region(r, blocks, false) } else { sound_region(r, blocks) };
+    let work = if r.once_in(2) { vec![0xFF; BLOCK] } else { crafted_work(r) };
+    let spare = match r.below(6) {
+        0 => sound_region(r, blocks),
+        1 => region.clone(),
+        2 => r.bytes(BLOCK * blocks),
+        _ => vec![0xFF; BLOCK * blocks],
+    };
+    [region, work, spare].concat()
+}
+
+/// Where entries begin, found by their start ids at multiples of 4.
+fn entry_places(image: &[u8], length: usize) -> Vec<usize> {
+    (28..length - 60).step_by(4).filter(|&at| image[at..at + 2] == [0xAA, 0x55]).collect()
+}
+
+/// Damages one place: header, an entry's field, the tail, the work block or the spare.
+pub fn damage(r: &mut Random, image: &mut [u8], blocks: usize) {
+    let length = BLOCK * blocks;
+    let base = if r.once_in(5) { length + BLOCK } else { 0 };
+    let places = entry_places(&image[base..], length);
+    let at = base + if places.is_empty() { 28 } else { r.pick(&places) };
+    match r.below(12) {
+        0 => image[base + r.below(28)] ^= 1 << r.below(8),
+        1 => image[at + 2] = r.pick(&[0xFF, 0x7F, 0x3F, 0x3E, 0x3D, 0x3C, 0x00, 0xFE, 0x3B, 0xBF]),
+        2 => image[at + 2] ^= 1 << r.below(8),
+        3 => {
+            let field = at + r.pick(&[36, 40]);
+            let old = u32::from_le_bytes(image[field..field + 4].try_into().expect("4 bytes"));
+            let sizes = [0, 1, 2048, 2049, old ^ 1, old.wrapping_add(4), (length - 60) as u32, u32::MAX, u32::MAX - 59, 1 << 31];
+            image[field..field + 4].copy_from_slice(&r.pick(&sizes).to_le_bytes());
+        }
+        4 => image[at + 4 + r.below(4)] = r.byte(),
+        5 => image[(at + 44 + r.below(40)).min(base + length - 1)] ^= 1 << r.below(8),
+        6 => image[at + r.below(2)] ^= 1 << r.below(8),
+        7 => image[base + length - 1 - r.below(100)] = r.byte(),
+        8 => image[length + r.below(64)] = r.pick(&[0xFF, 0xFE, 0xFC, 0xF8, 0xF0, 0x00]),
+        9 => image[length + r.below(BLOCK)] ^= 1 << r.below(8),
+        10 => image[length + BLOCK + r.below(length)] ^= 1 << r.below(8),
+        _ => image[base + r.below(length)] = r.byte(),
+    }
+}
+
+/// An image and its b.
+pub fn image(r: &mut Random) -> (Vec<u8>, usize) {
+    let blocks = blocks(r);
+    let mut image = match r.below(6) {
+        0 => empty(blocks),
+        1 | 2 => filled(r, blocks),
+        _ => crafted(r, blocks),
+    };
+    if r.once_in(3) {
+        for _ in 0..1 + r.below(3) {
+            damage(r, &mut image, blocks);
+        }
+    }
+    (image, blocks)
+}

@@ -1,0 +1,28 @@
+//! What the tests share. Not every test uses all of it.
+#![allow(dead_code)]
+
+pub mod book;
+pub mod cuts;
+pub mod digest;
+pub mod generate;
+pub mod random;
+pub mod rounds;
+
+/// The descriptor with a year, then the data proper.
+pub fn signed(year: u16, data: &[u8]) -> Vec<u8> {
+    let mut bytes = year.to_le_bytes().to_vec();
+    bytes.extend_from_slice(&[1, 2, 3, 4, 5]);
+    bytes.extend_from_slice(&[0; 9]);
+    bytes.extend_from_slice(&24u32.to_le_bytes());
+    bytes.extend_from_slice(&[0x00, 0x02, 0xF1, 0x0E]);
+    bytes.extend_from_slice(&generate::CERTIFICATE);
+    bytes.extend_from_slice(data);
+    bytes
+}
+
+pub fn same_bytes(what: &str, ours: &[u8], theirs: &[u8]) {
+    if ours != theirs {
+        let at = (0..ours.len()).find(|&at| ours[at] != theirs[at]).expect("equal lengths");
+        panic!("{what} differs first at {at}: paper {:02X}, engine {:02X}", ours[at], theirs[at]);
+    }
+}

@@ -1,0 +1,405 @@
+//! The paper's implementation against the engine: the same random, boundary and damaged images, sessions and arguments go to both, and answer, size,
+//! attributes, needed, the whole buffer, the session and the whole image have to agree after every call.
+//!
+//! Every round has a seed of its own, which a failure prints: `SEED=n cargo test --release --test differential` begins with that round.
+//! `SOAK` is the time of each test in seconds, 4 by default.
+
+mod common;
+
+use std::collections::BTreeMap;
+
+use common::generate::{self, Asked, Name, BLOCK};
+use common::random::Random;
+use common::same_bytes;
+use varstore::calls::{Read, ENGINE, LINKED, PAPER};
+use varstore::interface::{Answer, Context, Reply, Session};
+use varstore::paper;
+
+/// How often each call has given each answer.
+type Tally = BTreeMap<(&'static str, String), usize>;
+
+/// A current image and session, which every call leaves as both implementations left them.
+struct Pair<'t> {
+    image: Vec<u8>,
+    session: Session,
+    tally: &'t mut Tally,
+}
+
+impl Pair<'_> {
+    fn count(&mut self, call: &'static str, answer: Answer) {
+        let kind = match answer {
+            Answer::Done(0) => "done without stores".into(),
+            Answer::Done(_) => "done".into(),
+            Answer::Stopped => "stopped".into(),
+            Answer::Refused(rule) => format!("refused {}", rule.number()),
+        };
+        *self.tally.entry((call, kind)).or_default() += 1;
+    }
+
+    fn check(&mut self) {
+        let (ours, theirs) = ((PAPER.check)(&self.image), (ENGINE.check)(&self.image));
+        assert_eq!(ours, theirs, "check");
+        self.count("check", ours.answer);
+    }
+
+    fn get(&mut self, name: &Name, limit: u64, buffer: &[u8]) -> Reply {
+        self.read("get", PAPER.get, ENGINE.get, name, limit, buffer).0
+    }
+
+    /// Gives the buffer too.
+    fn next_name(&mut self, name: &Name, limit: u64, buffer: &[u8]) -> (Reply, Vec<u8>) {
+        self.read("next", PAPER.next_name, ENGINE.next_name, name, limit, buffer)
+    }
+
+    fn read(&mut self, what: &'static str, ours: Read, theirs: Read, name: &Name, limit: u64, buffer: &[u8]) -> (Reply, Vec<u8>) {
+        let (mut first, mut second) = (buffer.to_vec(), buffer.to_vec());
+        let context = Context { limit };
+        let reply = ours(context, &self.session, &self.image, name.key(), &mut first);
+        let other = theirs(context, &self.session, &self.image, name.key(), &mut second);
+        assert_eq!(reply, other, "{what} of {name:X?} with a buffer of {}", buffer.len());
+        same_bytes("buffer", &first, &second);
+        self.count(what, reply.answer);
+        (reply, first)
+    }
+
+    fn set(&mut self, asked: &Asked, limit: u64) -> Answer {
+        let mut other = self.image.clone();
+        let (context, request) = (Context { limit }, asked.request());
+        let ours = (PAPER.set)(context, &self.session, &mut self.image, &request);
+        let theirs = (ENGINE.set)(context, &self.session, &mut other, &request);
+        assert_eq!(ours, theirs, "set up to {limit} in phase {}: {asked:?}", self.session.phase);
+        same_bytes("image after set", &self.image, &other);
+        self.count("set", ours);
+        ours
+    }
+
+    fn format(&mut self, limit: u64) {
+        let mut other = self.image.clone();
+        let ours = (PAPER.format)(Context { limit }, &mut self.image);
+        let theirs = (ENGINE.format)(Context { limit }, &mut other);
+        assert_eq!(ours, theirs, "format up to {limit}");
+        same_bytes("image after format", &self.image, &other);
+        self.count("format", ours);
+    }
+
+    fn start_up(&mut self, limit: u64, custom: u32, reserve: u32) -> Answer {
+        let mut other = self.image.clone();
+        let ours = (PAPER.start_up)(Context { limit }, &mut self.image, custom, reserve);
+        let theirs = (ENGINE.start_up)(Context { limit }, &mut other, custom, reserve);
+        assert_eq!(ours.answer, theirs.answer, "start-up up to {limit}");
+        same_session(&ours.session, &theirs.session);
+        same_bytes("image after start-up", &self.image, &other);
+        self.session = ours.session;
+        self.count("startup", ours.answer);
+        ours.answer
+    }
+
+    fn lock(&mut self, name: &Name) {
+        let (ours, theirs) = ((PAPER.lock)(self.session, name.key()), (ENGINE.lock)(self.session, name.key()));
+        assert_eq!(ours.answer, theirs.answer, "lock of {name:X?}");
+        same_session(&ours.session, &theirs.session);
+        self.session = ours.session;
+        self.count("lock", ours.answer);
+    }
+
+    fn phase(&mut self, to: u32) {
+        let (ours, theirs) = ((PAPER.phase)(self.session, to), (ENGINE.phase)(self.session, to));
+        same_session(&ours, &theirs);
+        self.session = ours;
+    }
+
+    /// The set's answer and image for every n of a short list, and for those around its turning points of a long one.
+    fn set_with_stops(&mut self, r: &mut Random, asked: &Asked) {
+        let before = self.image.clone();
+        if let Ok(list) = paper::set_stores(&self.session, &self.image, &asked.request()) {
+            for limit in limits(r, &list, BLOCK) {
+                self.image.copy_from_slice(&before);
+                self.set(asked, limit);
+            }
+        }
+        self.image.copy_from_slice(&before);
+        self.set(asked, u64::MAX);
+    }
+
+    fn start_up_with_stops(&mut self, r: &mut Random) {
+        let before = self.image.clone();
+        if let Ok(list) = paper::start_up_stores(&self.image) {
+            for limit in limits(r, &list, BLOCK) {
+                self.image.copy_from_slice(&before);
+                self.start_up(limit, 0, 0);
+            }
+        }
+        self.image.copy_from_slice(&before);
+        self.start_up(u64::MAX, 1, 100);
+    }
+}
+
+fn limits(r: &mut Random, list: &paper::Stores, block: usize) -> Vec<u64> {
+    let length = list.len();
+    if length <= 200 {
+        return (0..=length as u64 + 1).collect();
+    }
+    let mut limits = vec![0, 1, 2, 3, length - 1, length, length + 1];
+    for turn in [list.deciding().unwrap_or(0), block, 2 * block, length - block] {
+        limits.extend(turn.saturating_sub(2)..turn + 3);
+    }
+    limits.extend((0..12).map(|_| r.below(length)));
+    limits.into_iter().map(|limit| limit as u64).collect()
+}
+
+fn same_session(ours: &Session, theirs: &Session) {
+    let numbers = |session: &Session| (session.phase, session.custom, session.reserve, session.count, session.sizes);
+    assert_eq!(numbers(ours), numbers(theirs), "session");
+    same_bytes("lock list", &ours.locks, &theirs.locks);
+}
+
+/// Runs a round again and again, with 4 seconds for it; without the engine, briefly.
+fn rounds(round: fn(&mut Random, &mut Tally)) -> Tally {
+    let mut tally = Tally::new();
+    let seconds = if LINKED { 4 } else { 1 };
+    let rounds = common::rounds::rounds(seconds, |r| round(r, &mut tally));
+    let calls: usize = tally.values().sum();
+    println!("{calls} calls in {rounds} rounds: {tally:?}");
+    tally
+}
+
+fn expect_seen(tally: &Tally, call: &'static str, kinds: &[&str]) {
+    for kind in kinds {
+        assert!(tally.contains_key(&(call, kind.to_string())), "no {call} was {kind}");
+    }
+}
+
+fn buffer(r: &mut Random, needed: usize) -> Vec<u8> {
+    let length = r.pick(&[needed.saturating_sub(1), needed, needed + 1, 0, 2048]);
+    vec![r.byte(); length]
+}
+
+fn limit(r: &mut Random) -> u64 {
+    match r.below(4) {
+        0 => r.pick(&[0, 1, 2, 59, 60, 75, 4096, 8197]),
+        1 => r.below(9000) as u64,
+        _ => u64::MAX,
+    }
+}
+
+/// A get with a buffer around the size that is needed.
+fn random_get(pair: &mut Pair, r: &mut Random) {
+    let name = generate::name(r);
+    let needed = pair.get(&name, 0, &[]).needed as usize;
+    let buffer = buffer(r, needed);
+    pair.get(&name, limit(r), &buffer);
+}
+
+fn random_next(pair: &mut Pair, r: &mut Random) {
+    let name = generate::name(r);
+    let needed = pair.next_name(&name, 0, &[]).0.needed as usize;
+    let buffer = buffer(r, needed);
+    pair.next_name(&name, limit(r), &buffer);
+}
+
+/// Next-name from the empty name to the end, with a get of each.
+fn enumerate(pair: &mut Pair, r: &mut Random) {
+    let mut name = Name { name: vec![0, 0], vendor: [r.byte(); 16] };
+    for _ in 0..40 {
+        let (reply, buffer) = pair.next_name(&name, u64::MAX, &[0xA5; 144]);
+        if reply.answer != Answer::Done(0) {
+            break;
+        }
+        name = Name { name: buffer[16..reply.size as usize].to_vec(), vendor: buffer[..16].try_into().expect("16 bytes") };
+        pair.get(&name, u64::MAX, &[0x5A; 2048]);
+    }
+}
+
+fn random_call(pair: &mut Pair, r: &mut Random) {
+    match r.below(20) {
+        0..=2 => random_get(pair, r),
+        3..=5 => random_next(pair, r),
+        6 => {
+            pair.start_up(limit(r), r.pick(&[0, 1, 2, u32::MAX]), r.pick(&[0, 1, 4096, 4097, u32::MAX]));
+        }
+        7 => pair.session = generate::session(r),
+        8 if r.once_in(4) => pair.format(limit(r)),
+        9 => pair.lock(&generate::name(r)),
+        10 => pair.phase(r.pick(&[0, 1, 2, 3, u32::MAX])),
+        _ => {
+            let asked = generate::asked_on(r, &pair.image);
+            pair.set(&asked, limit(r));
+        }
+    }
+}
+
+/// Any call on any image in any session.
+#[test]
+fn any_call() {
+    let tally = rounds(|r, tally| {
+        let image = generate::image(r).0;
+        let mut pair = Pair { image, session: generate::session(r), tally };
+        pair.check();
+        for _ in 0..r.below(30) {
+            random_call(&mut pair, r);
+        }
+        enumerate(&mut pair, r);
+    });
+    if tally.values().sum::<usize>() > 10_000 {
+        expect_seen(&tally, "set", &["done", "done without stores", "stopped"]);
+        for rule in 2..=13 {
+            expect_seen(&tally, "set", &[&format!("refused {rule}")]);
+        }
+        expect_seen(&tally, "get", &["done without stores", "refused 2", "refused 3", "refused 11", "refused 14"]);
+        expect_seen(&tally, "next", &["done without stores", "refused 2", "refused 3", "refused 11", "refused 14"]);
+        expect_seen(&tally, "startup", &["done", "done without stores", "stopped", "refused 2"]);
+        expect_seen(&tally, "lock", &["done without stores", "refused 3", "refused 15", "refused 16"]);
+    }
+}
+
+/// The same image with one more damage each time: whether a call may use it, what a start-up makes of it, and what is read.
+#[test]
+fn damaged_images() {
+    rounds(|r, tally| {
+        let (image, blocks) = generate::image(r);
+        let mut pair = Pair { image: image.clone(), session: (PAPER.session_new)(0, 0), tally };
+        for _ in 0..20 {
+            pair.image.copy_from_slice(&image);
+            for _ in 0..1 + r.below(2) {
+                generate::damage(r, &mut pair.image, blocks);
+            }
+            pair.check();
+            random_get(&mut pair, r);
+            random_next(&mut pair, r);
+            if let Answer::Done(_) = pair.start_up(limit(r), 0, 0) {
+                random_get(&mut pair, r);
+                enumerate(&mut pair, r);
+            }
+            pair.check();
+        }
+    });
+}
+
+/// Sequences of sets, each stopped at every n of a short list and at many n of a long one, with start-ups between.
+#[test]
+fn stops() {
+    rounds(|r, tally| {
+        let blocks = if r.once_in(4) { 2 } else { 1 };
+        let image = if r.once_in(2) { generate::filled(r, blocks) } else { generate::crafted(r, blocks) };
+        let mut pair = Pair { image, session: (PAPER.session_new)(1, 0), tally };
+        pair.start_up_with_stops(r);
+        for _ in 0..6 {
+            let mut asked = generate::asked_on(r, &pair.image);
+            asked.presence = 1;
+            pair.set_with_stops(r, &asked);
+            let cut = generate::asked_on(r, &pair.image);
+            if pair.set(&cut, limit(r)) == Answer::Stopped {
+                pair.start_up_with_stops(r);
+            }
+        }
+    });
+}
+
+/// Key names and other authenticated names, in all modes, with all verdicts, presence and custom mode, and descriptors right and damaged.
+#[test]
+fn authenticated_names() {
+    let tally = rounds(|r, tally| {
+        let mut pair = Pair { image: generate::empty(1), session: (PAPER.session_new)(0, 0), tally };
+        for _ in 0..60 {
+            let mut asked = generate::asked(r);
+            asked.attributes = r.pick(&[0x27, 0x27, 0x67, 0x23, 0]);
+            let proper = generate::data(r, 40);
+            asked.data = generate::signed(r, &proper);
+            pair.session.custom = r.pick(&[0, 0, 0, 1]);
+            pair.set(&asked, u64::MAX);
+        }
+    });
+    if tally.values().sum::<usize>() > 10_000 {
+        expect_seen(&tally, "set", &["done", "refused 7", "refused 8", "refused 9", "refused 10", "refused 11"]);
+    }
+}
+
+/// Descriptors with every byte of the form changed, every length cut, and lengths around the data's.
+#[test]
+fn descriptors_at_each_field() {
+    let mut tally = Tally::new();
+    let mut right = Random::new(1);
+    let (mut asked, proper) = (generate::asked(&mut right), [1, 2, 3, 4]);
+    asked.name = Name { name: b"S\0\0\0".to_vec(), vendor: [7; 16] };
+    (asked.attributes, asked.verdict) = (0x27, 3);
+    let descriptor = loop {
+        let bytes = generate::signed(&mut right, &proper);
+        asked.data = bytes.clone();
+        let mut image = generate::empty(1);
+        if matches!((PAPER.set)(Context::NO_LIMIT, &(PAPER.session_new)(0, 0), &mut image, &asked.request()), Answer::Done(_)) {
+            break bytes;
+        }
+    };
+    let mut pair = Pair { image: generate::empty(1), session: (PAPER.session_new)(0, 0), tally: &mut tally };
+    let mut try_data = |data: Vec<u8>| {
+        pair.image = generate::empty(1);
+        asked.data = data;
+        pair.set(&asked, u64::MAX);
+    };
+    for at in 0..40 {
+        for bit in 0..8 {
+            let mut data = descriptor.clone();
+            data[at] ^= 1 << bit;
+            try_data(data);
+        }
+    }
+    (0..=descriptor.len()).for_each(|length| try_data(descriptor[..length].to_vec()));
+    for length in (0..60).chain(u32::MAX - 60..=u32::MAX) {
+        let mut data = descriptor.clone();
+        data[16..20].copy_from_slice(&length.to_le_bytes());
+        try_data(data);
+    }
+    expect_seen(&tally, "set", &["done", "refused 8", "refused 11"]);
+}
+
+/// Lengths 0 and 1, every number of blocks up to 17, and one byte less or more.
+#[test]
+fn lengths() {
+    let mut tally = Tally::new();
+    let mut r = Random::new(5);
+    let whole = [generate::empty(7), vec![0xFF; 3 * BLOCK]].concat();
+    let around = (0..=17usize).flat_map(|blocks| [(blocks * BLOCK).saturating_sub(1), blocks * BLOCK, blocks * BLOCK + 1]);
+    for length in around.chain([27, 28, 100]) {
+        for fits in [false, true] {
+            let mut image = whole[..length].to_vec();
+            if fits && length > 20 {
+                image[16..20].copy_from_slice(&((length / BLOCK / 2 * BLOCK) as u32).to_le_bytes());
+            }
+            let mut pair = Pair { image, session: (PAPER.session_new)(0, 0), tally: &mut tally };
+            pair.check();
+            random_get(&mut pair, &mut r);
+            random_next(&mut pair, &mut r);
+            for _ in 0..5 {
+                pair.set(&generate::asked(&mut r), u64::MAX);
+            }
+            pair.start_up(u64::MAX, 3, 5000);
+            pair.format(17);
+            pair.format(u64::MAX);
+            pair.check();
+        }
+    }
+    expect_seen(&tally, "check", &["done without stores", "refused 1", "refused 2"]);
+    expect_seen(&tally, "format", &["done", "stopped", "refused 1"]);
+    for call in ["set", "get", "next", "startup"] {
+        expect_seen(&tally, call, &["refused 1"]);
+    }
+}
+
+/// Sessions of any content through locks and phases.
+#[test]
+fn sessions() {
+    let mut tally = Tally::new();
+    let mut r = Random::new(9);
+    for _ in 0..3000 {
+        let mut pair = Pair { image: vec![], session: generate::session(&mut r), tally: &mut tally };
+        for _ in 0..r.below(20) {
+            if r.once_in(4) {
+                pair.phase(r.pick(&[0, 0, 0, 1, 2, 3, u32::MAX]));
+            }
+            pair.lock(&generate::name(&mut r));
+        }
+        let (custom, reserve) = (r.number() as u32 >> r.below(32), r.number() as u32 >> r.below(32));
+        same_session(&(PAPER.session_new)(custom, reserve), &(ENGINE.session_new)(custom, reserve));
+    }
+    expect_seen(&tally, "lock", &["done without stores", "refused 3", "refused 15", "refused 16"]);
+}

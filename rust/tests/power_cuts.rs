@@ -1,0 +1,516 @@
+//! Power cuts: a call is cut after each number of its stores, whole or with the next store begun; then a start-up is done, the image's list of
+//! values equals the book, and a second start-up makes no stores. Each test's name says what is cut.
+//!
+//! Of lists longer than 300 stores, byte runs are cut at every seventh store; with `SOAK` at every one. `SOAK` is the time in seconds of each random test,
+//! and a failure prints its seed: `SEED=n cargo test --release --test power_cuts` begins with it.
+
+mod common;
+
+use std::collections::BTreeMap;
+
+use common::cuts::{begun, places, Begun, Call, Cut, Garbage, Run, START_UP};
+use common::generate::{self, Asked, Name, BLOCK};
+use common::random::Random;
+use common::rounds::{once, rounds, soak};
+use common::{same_bytes, signed};
+use varstore::calls::{ENGINE, LINKED, PAPER};
+use varstore::interface::{Answer, Context, Guid, Key, Rule};
+use varstore::paper::request::PK;
+
+const VENDOR: Guid = [1, 2, 3, 4, 5, 6, 7, 8, 9, 10, 11, 12, 13, 14, 15, 16];
+const RATE: Key = Key { name: b"R\0A\0T\0E\0\0\0", vendor: &VENDOR };
+const A: Key = Key { name: b"A\0\0\0", vendor: &VENDOR };
+const B: Key = Key { name: b"B\0\0\0", vendor: &VENDOR };
+const C: Key = Key { name: b"C\0\0\0", vendor: &VENDOR };
+const OLD: &[u8] = &[0x64, 0, 0, 0];
+const NEW: &[u8] = &[0x65, 0, 0, 0];
+
+fn asked(key: Key, attributes: u32, data: &[u8]) -> Asked {
+    Asked { name: Name { name: key.name.to_vec(), vendor: *key.vendor }, attributes, data: data.to_vec(), presence: 0, verdict: 3 }
+}
+
+fn set(key: Key, data: &[u8]) -> Call {
+    Call::Set(asked(key, 0x07, data))
+}
+
+fn delete(key: Key) -> Call {
+    Call::Set(asked(key, 0, &[]))
+}
+
+/// A run on an empty store. Its former region holds other values under the same names.
+fn empty(blocks: usize) -> Run {
+    let image = generate::empty(blocks);
+    let mut former = Run::new(image.clone(), image[..blocks * BLOCK].to_vec());
+    for (key, data) in [(RATE, &[0xE0; 4][..]), (B, &[0xE1; 700]), (A, &[0xE2; 500])] {
+        former.whole(&set(key, data));
+    }
+    Run::new(image, former.image[..blocks * BLOCK].to_vec())
+}
+
+/// The cases' images are made by whole and stopped calls.
+trait Made {
+    fn whole(&mut self, call: &Call) -> u64;
+    fn with(self, key: Key, data: &[u8]) -> Self;
+    fn stopped(self, call: &Call, n: u64) -> Self;
+    fn recorded(self, used: usize) -> Self;
+}
+
+impl Made for Run {
+    fn whole(&mut self, call: &Call) -> u64 {
+        match self.make(call, u64::MAX) {
+            Answer::Done(stores) => stores,
+            other => panic!("{other:?} is the answer to {call:?}"),
+        }
+    }
+
+    fn with(mut self, key: Key, data: &[u8]) -> Run {
+        self.whole(&set(key, data));
+        self
+    }
+
+    fn stopped(mut self, call: &Call, n: u64) -> Run {
+        assert_eq!(self.make(call, n), Answer::Stopped);
+        self
+    }
+
+    /// The same with so many records used.
+    fn recorded(mut self, used: usize) -> Run {
+        let work = self.former.len();
+        self.image[work..][..used].fill(0xF8);
+        self
+    }
+}
+
+/// The call is cut everywhere, each time followed by a start-up. `count` is the number of its stores. A begun byte store leaves all that it may
+/// in a short list, and in a sample of a long one.
+fn cut_everywhere(run: &Run, call: &Call, count: usize) {
+    let (stride, sample) = if soak().is_some() { (1, 128) } else { (7, 64) };
+    once(|r| {
+        let list = run.stores(call).expect("an accepted call");
+        assert_eq!(list.len(), count);
+        for after in places(&list, stride, r) {
+            let mut cut = run.clone();
+            cut.cut(call, Cut { after, begun: None }, r);
+            cut.clone().recover();
+            let Some(store) = list.get(after) else { continue };
+            for left in begun(store, &cut.image, count <= 300 || r.once_in(sample)) {
+                let mut torn = cut.clone();
+                torn.begin(store, left, r);
+                torn.cuts = vec![Cut { after, begun: Some(left) }];
+                torn.recover();
+            }
+        }
+    });
+}
+
+#[test]
+fn tail_write_of_a_new_value() {
+    cut_everywhere(&empty(1), &set(RATE, OLD), 75);
+    cut_everywhere(&empty(2).with(A, NEW).with(B, &[2; 100]), &set(RATE, OLD), 75);
+}
+
+#[test]
+fn tail_write_of_long_data() {
+    cut_everywhere(&empty(1).with(A, OLD), &set(RATE, &[0x5A; 2048]), 2119);
+}
+
+/// The entry ends with the region.
+#[test]
+fn tail_write_that_fills_the_region() {
+    cut_everywhere(&empty(1).with(A, &[1; 2048]), &set(B, &[2; 1892]), 1957);
+}
+
+#[test]
+fn tail_write_of_a_key() {
+    cut_everywhere(&empty(1).with(A, OLD), &Call::Set(asked(PK, 0x27, &signed(2024, OLD))), 71);
+    let mut run = empty(1).with(A, OLD);
+    run.whole(&Call::Set(asked(PK, 0x27, &signed(2024, OLD))));
+    let later = Asked { verdict: 1, ..asked(PK, 0x27, &signed(2025, NEW)) };
+    cut_everywhere(&run, &Call::Set(later), 73);
+}
+
+#[test]
+fn tail_write_that_replaces() {
+    cut_everywhere(&empty(1).with(RATE, OLD).with(A, OLD), &set(RATE, NEW), 77);
+}
+
+#[test]
+fn tail_write_that_appends() {
+    cut_everywhere(&empty(1).with(RATE, OLD).with(A, OLD), &Call::Set(asked(RATE, 0x47, NEW)), 81);
+}
+
+/// A store in which RATE has a 3F entry, and a leftover 3E beside it.
+fn with_leftover() -> Run {
+    empty(1).with(RATE, OLD).with(A, OLD).stopped(&set(RATE, NEW), 76)
+}
+
+/// A store in which RATE has a 3E entry only.
+fn being_replaced() -> Run {
+    empty(1).with(RATE, OLD).with(A, OLD).stopped(&set(RATE, NEW), 1)
+}
+
+#[test]
+fn tail_write_beside_a_leftover() {
+    cut_everywhere(&with_leftover(), &set(RATE, OLD), 78);
+}
+
+#[test]
+fn tail_write_over_a_value_being_replaced() {
+    cut_everywhere(&being_replaced(), &set(RATE, NEW), 76);
+}
+
+/// A tail write that was cut in its header, and one that was cut in its data, stand before the tail.
+#[test]
+fn tail_write_behind_cut_ones() {
+    let run = empty(1).with(RATE, OLD).stopped(&set(A, &[9; 40]), 30).stopped(&set(RATE, &[7; 40]), 90);
+    cut_everywhere(&run, &set(RATE, NEW), 76);
+    cut_everywhere(&run, &set(A, NEW), 69);
+}
+
+#[test]
+fn delete_of_a_value() {
+    cut_everywhere(&empty(1).with(RATE, OLD).with(A, OLD), &delete(RATE), 1);
+}
+
+#[test]
+fn delete_beside_a_leftover() {
+    cut_everywhere(&with_leftover(), &delete(RATE), 2);
+}
+
+#[test]
+fn delete_of_a_value_being_replaced() {
+    cut_everywhere(&being_replaced(), &delete(RATE), 1);
+}
+
+/// A region whose tail has no room for more than some bytes: deleted entries, a leftover beside its 3F, and a 3E alone are in it.
+fn crowded(blocks: usize) -> Run {
+    let run = empty(blocks).with(RATE, OLD).stopped(&set(RATE, NEW), 76).with(C, OLD).stopped(&set(C, NEW), 1);
+    let more = (0..2 * blocks as u8 - 1).fold(run.with(A, &[1; 700]), |run, turn| run.with(B, &[turn; 2000]));
+    more.with(A, &[2; 600])
+}
+
+/// What compacts a crowded region.
+fn compacting() -> Call {
+    set(A, &[3; 700])
+}
+
+fn cut_compaction(blocks: usize, used: usize) {
+    let stores = 3 + 2 * blocks * (BLOCK + 1) + usize::from(used == 64);
+    cut_everywhere(&crowded(blocks).recorded(used), &compacting(), stores);
+}
+
+#[test]
+fn compaction_of_one_block() {
+    cut_compaction(1, 0);
+}
+
+#[test]
+fn compaction_of_one_block_with_63_records_used() {
+    cut_compaction(1, 63);
+}
+
+#[test]
+fn compaction_of_one_block_with_64_records_used() {
+    cut_compaction(1, 64);
+}
+
+#[test]
+fn compaction_of_two_blocks() {
+    cut_compaction(2, 0);
+}
+
+#[test]
+fn compaction_of_two_blocks_with_63_records_used() {
+    cut_compaction(2, 63);
+}
+
+#[test]
+fn compaction_of_two_blocks_with_64_records_used() {
+    cut_compaction(2, 64);
+}
+
+/// "Full as above, first value replaced by 2,048 other bytes": the region is full before and after.
+#[test]
+fn compaction_of_a_full_region() {
+    cut_everywhere(&empty(1).with(A, &[1; 2048]).with(B, &[2; 1892]), &set(A, &[3; 2048]), 8197);
+}
+
+/// A compaction of b blocks makes 1 + L stores before its deciding one, of index 1 + L.
+fn decided(blocks: usize) -> u64 {
+    (blocks * BLOCK + 2) as u64
+}
+
+#[test]
+fn resume_at_the_erase_of_the_region() {
+    for blocks in [1, 2] {
+        cut_everywhere(&crowded(blocks).stopped(&compacting(), decided(blocks)), &START_UP, 1 + blocks * (BLOCK + 2));
+    }
+}
+
+#[test]
+fn resume_with_the_region_half_copied() {
+    cut_everywhere(&crowded(1).stopped(&compacting(), decided(1) + 2000), &START_UP, BLOCK + 3);
+}
+
+#[test]
+fn start_up_that_erases_a_spare_begun() {
+    for blocks in [1, 2] {
+        cut_everywhere(&crowded(blocks).stopped(&compacting(), 3000), &START_UP, blocks);
+        cut_everywhere(&crowded(blocks).stopped(&compacting(), decided(blocks) - 1), &START_UP, blocks);
+    }
+}
+
+#[test]
+fn start_up_that_erases_a_spare_copied() {
+    for blocks in [1, 2] {
+        let stores = decided(blocks) + (blocks * (BLOCK + 1) + 1) as u64;
+        cut_everywhere(&crowded(blocks).stopped(&compacting(), stores), &START_UP, blocks);
+    }
+}
+
+/// The cut erase of a work block with 64 records used has left what is not well formed, or ends in FC.
+#[test]
+fn start_up_that_erases_a_torn_work_block() {
+    for garbage in Garbage::ALL {
+        once(|r| {
+            let mut run = crowded(1).recorded(64);
+            run.cut(&compacting(), Cut { after: 0, begun: Some(Begun::Block(garbage)) }, r);
+            let good = matches!(garbage, Garbage::Blank | Garbage::Untouched | Garbage::BackErased | Garbage::FrontErased);
+            cut_everywhere(&run, &START_UP, usize::from(!good));
+        });
+    }
+}
+
+/// The start id's first byte stands in the tail.
+fn with_dirty_tail(blocks: usize) -> Run {
+    empty(blocks).with(A, &[1; 500]).with(RATE, OLD).stopped(&set(B, NEW), 1)
+}
+
+#[test]
+fn start_up_that_compacts_a_dirty_tail() {
+    for blocks in [1, 2] {
+        cut_everywhere(&with_dirty_tail(blocks), &START_UP, 3 + 2 * blocks * (BLOCK + 1));
+    }
+}
+
+#[test]
+fn start_up_that_compacts_a_dirty_tail_with_63_and_64_records_used() {
+    cut_everywhere(&with_dirty_tail(1).recorded(63), &START_UP, 8197);
+    cut_everywhere(&with_dirty_tail(1).recorded(64), &START_UP, 8198);
+}
+
+/// The cut erase was the first store of a start-up's compaction.
+#[test]
+fn start_up_that_compacts_a_dirty_tail_behind_a_torn_work_block() {
+    for garbage in [Garbage::Zeros, Garbage::SpareComplete(1), Garbage::SpareComplete(64)] {
+        once(|r| {
+            let mut run = with_dirty_tail(1).recorded(64);
+            run.cut(&START_UP, Cut { after: 0, begun: Some(Begun::Block(garbage)) }, r);
+            cut_everywhere(&run, &START_UP, 8198);
+        });
+    }
+}
+
+/// A cut of a call: where its list turns most often, anywhere else; the next store begun half of the times.
+fn random_cut(run: &Run, call: &Call, r: &mut Random) -> Cut {
+    let Ok(list) = run.stores(call) else { return Cut { after: 0, begun: None } };
+    let turns = if r.once_in(4) { (0..=list.len()).collect() } else { places(&list, list.len() + 1, r) };
+    let after = r.pick(&turns);
+    let mut image = run.image.clone();
+    list.make(after as u64, &mut image);
+    let left = list.get(after).map_or(vec![], |store| begun(store, &image, true));
+    Cut { after, begun: if left.is_empty() || r.once_in(2) { None } else { Some(r.pick(&left)) } }
+}
+
+/// The calls whose cuts are recovered from by start-ups that are cut.
+fn cases() -> Vec<(Run, Call)> {
+    let mut cases = vec![
+        (empty(1).with(A, OLD), set(RATE, OLD)),
+        (with_leftover(), set(RATE, OLD)),
+        (with_leftover(), delete(RATE)),
+        (being_replaced(), set(RATE, NEW)),
+        (with_dirty_tail(1), START_UP),
+        (with_dirty_tail(1).recorded(64), START_UP),
+        (with_dirty_tail(2).recorded(63), START_UP),
+        (crowded(1).stopped(&compacting(), decided(1)), START_UP),
+        (crowded(2).stopped(&compacting(), decided(2)), START_UP),
+    ];
+    for (blocks, used) in [(1, 0), (1, 63), (1, 64), (2, 0), (2, 64), (7, 64)] {
+        cases.push((crowded(blocks).recorded(used), compacting()));
+    }
+    cases
+}
+
+/// A cut call, then so many cut start-ups, then one that is done.
+fn cut_start_ups(deep: usize, seconds: u64) {
+    let cases = cases();
+    let count = rounds(seconds, |r| {
+        for (run, call) in &cases {
+            let mut run = run.clone();
+            let cut = random_cut(&run, call, r);
+            run.cut(call, cut, r);
+            for _ in 0..deep {
+                let cut = random_cut(&run, &START_UP, r);
+                run.cut(&START_UP, cut, r);
+            }
+            run.recover();
+        }
+    });
+    println!("{} cases", count * cases.len() as u64);
+}
+
+#[test]
+fn start_up_after_a_cut() {
+    cut_start_ups(1, 3);
+}
+
+#[test]
+fn start_up_after_a_cut_start_up_after_a_cut() {
+    cut_start_ups(2, 3);
+}
+
+#[test]
+fn start_ups_three_deep() {
+    cut_start_ups(3, 3);
+}
+
+/// A get answers from the book wherever it is accepted, also before a start-up.
+fn get(run: &Run, name: &Name) -> Answer {
+    let (mut buffer, mut expected) = (vec![0xA5; 2048], vec![0xA5; 2048]);
+    let reply = (ENGINE.get)(Context { limit: 0 }, &run.session, &run.image, name.key(), &mut buffer);
+    let other = (PAPER.get)(Context { limit: 0 }, &run.session, &run.image, name.key(), &mut expected);
+    assert_eq!(reply, other, "get of {name:X?}");
+    same_bytes("buffer", &expected, &buffer);
+    let booked = run.book.get(&run.session, name.key());
+    match reply.answer {
+        Answer::Done(_) => assert!(booked == Some((reply.attributes, &buffer[..reply.size as usize])), "get of {name:X?} is not in the book"),
+        Answer::Refused(Rule::Absent) => assert!(booked.is_none(), "{name:X?} is in the book"),
+        _ => {}
+    }
+    reply.answer
+}
+
+/// The same of next-name.
+fn next_name(run: &Run, name: &Name) -> Answer {
+    let mut buffer = vec![0xA5; 144];
+    let reply = (ENGINE.next_name)(Context { limit: 0 }, &run.session, &run.image, name.key(), &mut buffer);
+    let booked = run.book.next(&run.session, name.key()).map(|name| [&name.vendor[..], &name.name].concat());
+    match reply.answer {
+        Answer::Done(_) => assert!(booked.as_deref() == Some(&buffer[..reply.size as usize]), "next-name after {name:X?} is not the book's"),
+        Answer::Refused(Rule::Absent) => assert!(booked.is_none(), "the book goes on after {name:X?}"),
+        _ => {}
+    }
+    reply.answer
+}
+
+/// A name of the book, or any, or the empty name.
+fn some_name(run: &Run, r: &mut Random) -> Name {
+    match r.below(4) {
+        0 => generate::name(r),
+        1 => Name { name: vec![0, 0], vendor: [r.byte(); 16] },
+        _ if run.book.values.is_empty() => generate::name(r),
+        _ => run.book.values[r.below(run.book.values.len())].name.clone(),
+    }
+}
+
+/// A set in any session; most often in one that refuses little.
+fn some_set(run: &mut Run, r: &mut Random) -> Call {
+    let mut asked = generate::asked_on(r, &run.image);
+    run.session = generate::session(r);
+    if !r.once_in(4) {
+        run.session = (ENGINE.session_new)(1, 0);
+        asked.presence = 1;
+    }
+    Call::Set(asked)
+}
+
+fn some_start_up(r: &mut Random) -> Call {
+    Call::StartUp { custom: r.pick(&[0, 1, 2, u32::MAX]), reserve: r.pick(&[0, 1, 4096, 4097, u32::MAX]) }
+}
+
+/// An image as a done start-up left it, and its b.
+fn some_image(r: &mut Random) -> (Vec<u8>, usize) {
+    let blocks = generate::blocks(r);
+    let mut image = match r.below(4) {
+        0 => generate::empty(blocks),
+        1 => generate::crafted(r, blocks),
+        _ => generate::filled(r, blocks),
+    };
+    match (ENGINE.start_up)(Context::NO_LIMIT, &mut image, 0, 0).answer {
+        Answer::Done(_) => (image, blocks),
+        _ => (generate::empty(blocks), blocks),
+    }
+}
+
+/// How often each thing has happened in the runs.
+type Tally = BTreeMap<&'static str, usize>;
+
+/// One call of a run: whole, or cut.
+fn random_step(run: &mut Run, r: &mut Random, tally: &mut Tally) {
+    let call = match r.below(8) {
+        0 => return *tally.entry(kind("get", get(run, &some_name(run, r)))).or_default() += 1,
+        1 => return *tally.entry(kind("next-name", next_name(run, &some_name(run, r)))).or_default() += 1,
+        2 | 3 => some_start_up(r),
+        _ => some_set(run, r),
+    };
+    let what = if matches!(call, Call::Set(_)) { "set" } else { "start-up" };
+    let has_stores = run.stores(&call).is_ok_and(|list| !list.is_empty());
+    if r.once_in(if has_stores { 2 } else { 10 }) {
+        let cut = random_cut(run, &call, r);
+        let before = run.book.clone();
+        run.cut(&call, cut, r);
+        *tally.entry(if cut.begun.is_some() { "store begun" } else { "cut between stores" }).or_default() += 1;
+        *tally.entry(if before == run.book { "cut before deciding" } else { "cut when decided" }).or_default() += 1;
+        return;
+    }
+    let answer = run.make(&call, u64::MAX);
+    *tally.entry(kind(what, answer)).or_default() += 1;
+    if what == "start-up" {
+        assert!(matches!(answer, Answer::Done(_)), "a start-up in a run is {answer:?} after {:?}", run.cuts);
+        run.check_book();
+    }
+}
+
+fn kind(what: &'static str, answer: Answer) -> &'static str {
+    match (what, answer) {
+        ("set", Answer::Done(0)) => "set done without stores",
+        ("set", Answer::Done(count)) if count > 4096 => "set done by compaction",
+        ("set", Answer::Done(_)) => "set done",
+        ("set", Answer::Refused(Rule::Unready)) => "set refused before a start-up",
+        ("set", _) => "set refused",
+        ("start-up", Answer::Done(0)) => "start-up without stores",
+        ("start-up", Answer::Done(count)) if count > 4096 => "start-up that compacts or resumes",
+        ("start-up", _) => "start-up that erases",
+        ("get", Answer::Done(_)) => "get done",
+        ("get", _) => "get refused",
+        (_, Answer::Done(_)) => "next-name done",
+        _ => "next-name refused",
+    }
+}
+
+/// Sets, appends, deletes, gets, next-names and start-ups, in any sessions, many of them cut; the book is checked after every done start-up.
+#[test]
+fn any_call_of_a_run() {
+    let mut tally = Tally::new();
+    rounds(if LINKED { 15 } else { 5 }, |r| {
+        let (image, blocks) = some_image(r);
+        let mut former = generate::filled(r, blocks);
+        (PAPER.start_up)(Context::NO_LIMIT, &mut former, 0, 0);
+        let mut run = Run::new(image, former[..blocks * BLOCK].to_vec());
+        for _ in 0..r.below(60) {
+            if r.once_in(10) && (PAPER.check)(&run.image).answer == Answer::Done(0) {
+                run.former = run.image[..blocks * BLOCK].to_vec();
+            }
+            random_step(&mut run, r, &mut tally);
+        }
+        run.recover();
+    });
+    println!("{tally:?}");
+    let whole = ["set done", "set done without stores", "set done by compaction", "set refused", "set refused before a start-up"];
+    let started = ["start-up without stores", "start-up that erases", "start-up that compacts or resumes"];
+    let read = ["get done", "get refused", "next-name done", "next-name refused"];
+    let cut = ["store begun", "cut between stores", "cut before deciding", "cut when decided"];
+    for thing in [&whole[..], &started, &read, &cut].concat() {
+        assert!(tally.contains_key(thing), "no {thing} in the runs");
+    }
+}

@@ -1,0 +1,259 @@
+//! Calls with expected answers, from files: one line is one operation, with what is given and what is expected as `key=value`. Every line is run
+//! through both implementations, and every field that it gives is checked.
+//!
+//!     image len rle · poke off rle · save slot · load slot · session phase custom reserve count sizes locks
+//!     set name guid attrs data presence verdict n      get/next name guid buflen fill n (buffer of buflen bytes, all fill)
+//!     startup custom reserve n · format n · lock name guid · phase to · varlist
+//!
+//! `rle` is tokens joined by `,`, hexadecimal bytes or `hh*count`; `-` is the empty string. `varlist`'s text has `_` for a space and `|` for a line end.
+
+mod common;
+
+use std::collections::HashMap;
+use std::io::Write;
+use std::path::Path;
+use std::process::{Command, Stdio};
+
+use common::digest::{crc32, sha256};
+use varstore::calls::{implementations, Calls, LINKED};
+use varstore::interface::{Answer, Context, Guid, Key, Reply, Request, Rule, Session};
+use varstore::paper::{self, Stores};
+
+/// The fields of one line, and where it stands.
+struct Line<'a> {
+    place: String,
+    fields: HashMap<&'a str, &'a str>,
+}
+
+impl<'a> Line<'a> {
+    fn new(place: String, text: &'a str) -> Line<'a> {
+        let fields = text.split(' ').map(|field| field.split_once('=').unwrap_or_else(|| panic!("{place}: no field: {field}"))).collect();
+        Line { place, fields }
+    }
+
+    fn text(&self, key: &str) -> &'a str {
+        self.fields.get(key).unwrap_or_else(|| panic!("{}: {key} is missing", self.place))
+    }
+
+    fn number(&self, key: &str) -> u32 {
+        self.text(key).parse().unwrap_or_else(|_| panic!("{}: {key} is not a number", self.place))
+    }
+
+    fn bytes(&self, key: &str) -> Vec<u8> {
+        unpacked(self.text(key)).unwrap_or_else(|| panic!("{}: {key} is not bytes", self.place))
+    }
+
+    fn guid(&self) -> Guid {
+        self.bytes("guid").try_into().unwrap_or_else(|_| panic!("{}: a GUID has 16 bytes", self.place))
+    }
+
+    fn context(&self) -> Context {
+        Context { limit: self.number("n").into() }
+    }
+
+    /// Checks a field if the line gives it.
+    fn expect(&self, key: &str, found: &str) {
+        self.expect_made(key, || found.into());
+    }
+
+    /// The same for what takes time to find.
+    fn expect_made(&self, key: &str, found: impl Fn() -> String) {
+        if let Some(&expected) = self.fields.get(key) {
+            let found = found();
+            assert!(expected == found, "{}: {key} is {found}, expected {expected}", self.place);
+        }
+    }
+
+    fn expect_bytes(&self, key: &str, found: &[u8]) {
+        if self.fields.contains_key(key) {
+            assert!(self.bytes(key) == found, "{}: {key} differs", self.place);
+        }
+    }
+}
+
+fn unpacked(text: &str) -> Option<Vec<u8>> {
+    let mut bytes = Vec::new();
+    for token in text.split(',').filter(|&token| token != "-") {
+        let (digits, count) = token.split_once('*').map_or(Some((token, 1)), |(digits, count)| Some((digits, count.parse().ok()?)))?;
+        let run: Option<Vec<u8>> = (0..digits.len()).step_by(2).map(|at| u8::from_str_radix(digits.get(at..at + 2)?, 16).ok()).collect();
+        bytes.extend_from_slice(&run?.repeat(count));
+    }
+    Some(bytes)
+}
+
+/// One implementation's current image, session and slots.
+struct Bench {
+    calls: Calls,
+    image: Vec<u8>,
+    session: Session,
+    slots: [Vec<u8>; 8],
+}
+
+impl Bench {
+    fn new(calls: Calls) -> Bench {
+        Bench { calls, image: Vec::new(), session: (calls.session_new)(0, 0), slots: Default::default() }
+    }
+
+    fn run(&mut self, line: &Line) {
+        match line.text("op") {
+            "image" => self.image(line),
+            "poke" => {
+                let (at, bytes) = (line.number("off") as usize, line.bytes("rle"));
+                self.image[at..][..bytes.len()].copy_from_slice(&bytes);
+            }
+            "save" => self.slots[line.number("slot") as usize] = self.image.clone(),
+            "load" => self.image = self.slots[line.number("slot") as usize].clone(),
+            "session" => self.session = session(line),
+            "set" => self.set(line),
+            "get" => self.read(line, self.calls.get),
+            "next" => self.read(line, self.calls.next_name),
+            "startup" => self.start_up(line),
+            "format" => self.format(line),
+            "lock" => self.lock(line),
+            "phase" => self.session = (self.calls.phase)(self.session, line.number("to")),
+            "varlist" => self.varlist(line),
+            other => panic!("{}: no such operation: {other}", line.place),
+        }
+        self.expect_state(line);
+    }
+
+    fn image(&mut self, line: &Line) {
+        self.image = line.bytes("rle");
+        assert_eq!(self.image.len(), line.number("len") as usize, "{}: length", line.place);
+    }
+
+    fn set(&mut self, line: &Line) {
+        let (name, vendor, data) = (line.bytes("name"), line.guid(), line.bytes("data"));
+        let key = Key { name: &name, vendor: &vendor };
+        let (attributes, presence, verdict) = (line.number("attrs"), line.number("presence"), line.number("verdict"));
+        let request = Request { key, attributes, data: &data, presence, verdict };
+        let list = paper::set_stores(&self.session, &self.image, &request);
+        let answer = (self.calls.set)(line.context(), &self.session, &mut self.image, &request);
+        expect_answer(line, answer);
+        expect_list(line, answer, list);
+    }
+
+    fn format(&mut self, line: &Line) {
+        let list = paper::format_stores(&self.image);
+        let answer = (self.calls.format)(line.context(), &mut self.image);
+        expect_answer(line, answer);
+        expect_list(line, answer, list);
+    }
+
+    fn start_up(&mut self, line: &Line) {
+        let list = paper::start_up_stores(&self.image);
+        let started = (self.calls.start_up)(line.context(), &mut self.image, line.number("custom"), line.number("reserve"));
+        self.session = started.session;
+        expect_answer(line, started.answer);
+        expect_list(line, started.answer, list);
+    }
+
+    fn read(&mut self, line: &Line, call: fn(Context, &Session, &[u8], Key, &mut [u8]) -> Reply) {
+        let (name, vendor) = (line.bytes("name"), line.guid());
+        let mut buffer = vec![line.number("fill") as u8; line.number("buflen") as usize];
+        let reply = call(line.context(), &self.session, &self.image, Key { name: &name, vendor: &vendor }, &mut buffer);
+        expect_answer(line, reply.answer);
+        line.expect("size", &reply.size.to_string());
+        line.expect("attrs_out", &reply.attributes.to_string());
+        line.expect("buf_sha256", &sha256(&buffer));
+    }
+
+    fn lock(&mut self, line: &Line) {
+        let listed = (self.calls.lock)(self.session, Key { name: &line.bytes("name"), vendor: &line.guid() });
+        self.session = listed.session;
+        expect_answer(line, listed.answer);
+    }
+
+    fn varlist(&mut self, line: &Line) {
+        let written = |text: &str| text.replace(' ', "_").replace('\n', "|");
+        line.expect("text", &written(&paper::varlist(&self.image)));
+        if let Some(text) = varlist_program(&self.image) {
+            line.expect("text", &written(&text));
+        }
+    }
+
+    fn expect_state(&self, line: &Line) {
+        line.expect_made("sha256", || sha256(&self.image));
+        line.expect_made("crc32", || crc32(&self.image).to_string());
+        line.expect("s_phase", &self.session.phase.to_string());
+        line.expect("s_custom", &self.session.custom.to_string());
+        line.expect("s_reserve", &self.session.reserve.to_string());
+        line.expect("s_count", &self.session.count.to_string());
+        line.expect("s_sizes", &self.session.sizes.map(|size| size.to_string()).join(","));
+        line.expect_bytes("s_locks", &self.session.locks);
+    }
+}
+
+fn session(line: &Line) -> Session {
+    let sizes: Vec<u32> = line.text("sizes").split(',').map(|size| size.parse().expect("a size")).collect();
+    Session {
+        phase: line.number("phase"),
+        custom: line.number("custom"),
+        reserve: line.number("reserve"),
+        count: line.number("count"),
+        sizes: sizes.try_into().expect("16 sizes"),
+        locks: line.bytes("locks").try_into().expect("2,304 bytes"),
+    }
+}
+
+/// `stores` is the answer's number if done, n if stopped, 0 if refused.
+fn expect_answer(line: &Line, answer: Answer) {
+    let (kind, rule, stores) = match answer {
+        Answer::Done(stores) => ("done", 0, stores),
+        Answer::Stopped => ("stopped", 0, line.context().limit),
+        Answer::Refused(rule) => ("refused", rule.number(), 0),
+    };
+    line.expect("answer", kind);
+    line.expect("rule", &rule.to_string());
+    line.expect("stores", &stores.to_string());
+}
+
+/// The list's length and deciding store are the paper's; any implementation is stopped exactly if the list is longer than n.
+fn expect_list(line: &Line, answer: Answer, list: Result<Stores, Rule>) {
+    let (length, deciding) = list.as_ref().map_or((0, None), |list| (list.len(), list.deciding()));
+    line.expect("list", &length.to_string());
+    line.expect("deciding", &deciding.map_or("-1".into(), |index| index.to_string()));
+    if list.is_ok() {
+        assert_eq!(answer == Answer::Stopped, length as u64 > line.context().limit, "{}: stopped exactly if list > n", line.place);
+    }
+}
+
+/// What the built program `varlist` prints, where there is one.
+fn varlist_program(image: &[u8]) -> Option<String> {
+    let program = Path::new(env!("CARGO_MANIFEST_DIR")).join("../target/bin/varlist");
+    if !LINKED || !program.exists() {
+        return None;
+    }
+    let mut child = Command::new(program).stdin(Stdio::piped()).stdout(Stdio::piped()).spawn().expect("varlist starts");
+    // A program that refuses the length may close its input early.
+    let _ = child.stdin.take().expect("piped").write_all(image);
+    let output = child.wait_with_output().expect("varlist ends");
+    Some(String::from_utf8(output.stdout).expect("varlist prints text"))
+}
+
+fn run_file(name: &str) {
+    let path = Path::new(env!("CARGO_MANIFEST_DIR")).join("vectors").join(name);
+    let text = std::fs::read_to_string(&path).unwrap_or_else(|error| panic!("{}: {error}", path.display()));
+    for &calls in implementations() {
+        let mut bench = Bench::new(calls);
+        for (index, content) in text.lines().enumerate() {
+            bench.run(&Line::new(format!("{} on vectors/{name}:{}", calls.who, index + 1), content));
+        }
+    }
+}
+
+#[test]
+fn directed() {
+    run_file("directed.txt");
+}
+
+#[test]
+fn random() {
+    run_file("random.txt");
+}
+
+#[test]
+fn digests_are_right() {
+    assert_eq!(sha256(b"abc"), "ba7816bf8f01cfea414140de5dae2223b00361a396177a9cb410ff61f20015ad");
+    assert_eq!(crc32(b"123456789"), 0xCBF4_3926);
+}
