@@ -1,5 +1,6 @@
 // The C interface: every exported function, thin over the engine. Numbers and structs of numbers cross, no enum; c/varstore.h documents them.
 ghost use mathlib.Core.Path.{_≡_};
+ghost use Rattle.model.specs.Name.{keyed};
 ghost use Rattle.model.specs.Session.{freshSession, movedTo};
 ghost use Rattle.model.specs.Set.{setPlan};
 ghost use Rattle.model.specs.StartUp.{startUpPlan, formatPlan};
@@ -107,8 +108,8 @@ pub extern "C" fn vs_phase(session: Session, phase: u32) -> Session
 
 #[no_mangle]
 pub extern "C" fn vs_lock(session: Session, name: &[u8], vendor: &[u8; 16]) -> Listed
-    ensures { λ r. ⌜ (r .answer ≡ numbersOf (lockOutcome session (record { name = now (name .entry); vendor = now (vendor .entry) })))
-        × (r .session ≡ lockSession session (record { name = now (name .entry); vendor = now (vendor .entry) })) ⌝ }
+    ensures { λ r. ⌜ (r .answer ≡ numbersOf (lockOutcome session (keyed (now (name .entry)) (now (vendor .entry)))))
+        × (r .session ≡ lockSession session (keyed (now (name .entry)) (now (vendor .entry)))) ⌝ }
 {
     let l = session::lock(session, name, vendor);
     let answer = l.answer;
@@ -128,11 +129,11 @@ pub extern "C" fn vs_get(
     vendor: &[u8; 16],
     buffer: &mut [u8],
 ) -> Reply
-    ensures { λ r. ⌜ (r .answer ≡ numbersOf (outcome (context .limit) (getPlan session (record { name = now (name .entry); vendor = now (vendor .entry) }) (now (buffer .entry)) (now (image .entry)))))
-        × (r .size ≡ getReply session (record { name = now (name .entry); vendor = now (vendor .entry) }) (now (buffer .entry)) (now (image .entry)) .size)
-        × (r .attributes ≡ getReply session (record { name = now (name .entry); vendor = now (vendor .entry) }) (now (buffer .entry)) (now (image .entry)) .attributes)
-        × (r .needed ≡ getReply session (record { name = now (name .entry); vendor = now (vendor .entry) }) (now (buffer .entry)) (now (image .entry)) .needed)
-        × (now (buffer .exit) ≡ getReply session (record { name = now (name .entry); vendor = now (vendor .entry) }) (now (buffer .entry)) (now (image .entry)) .buffer) ⌝ }
+    ensures { λ r. ⌜ (r .answer ≡ numbersOf (outcome (context .limit) (getPlan session (keyed (now (name .entry)) (now (vendor .entry))) (now (buffer .entry)) (now (image .entry)))))
+        × (r .size ≡ getReply session (keyed (now (name .entry)) (now (vendor .entry))) (now (buffer .entry)) (now (image .entry)) .size)
+        × (r .attributes ≡ getReply session (keyed (now (name .entry)) (now (vendor .entry))) (now (buffer .entry)) (now (image .entry)) .attributes)
+        × (r .needed ≡ getReply session (keyed (now (name .entry)) (now (vendor .entry))) (now (buffer .entry)) (now (image .entry)) .needed)
+        × (now (buffer .exit) ≡ getReply session (keyed (now (name .entry)) (now (vendor .entry))) (now (buffer .entry)) (now (image .entry)) .buffer) ⌝ }
 {
     let g = engine::read::get(context, session, image, name, vendor, buffer);
     let answer = g.answer;
@@ -153,11 +154,11 @@ pub extern "C" fn vs_next_name(
     vendor: &[u8; 16],
     buffer: &mut [u8],
 ) -> Reply
-    ensures { λ r. ⌜ (r .answer ≡ numbersOf (outcome (context .limit) (nextPlan session (record { name = now (name .entry); vendor = now (vendor .entry) }) (now (buffer .entry)) (now (image .entry)))))
-        × (r .size ≡ nextReply session (record { name = now (name .entry); vendor = now (vendor .entry) }) (now (buffer .entry)) (now (image .entry)) .size)
+    ensures { λ r. ⌜ (r .answer ≡ numbersOf (outcome (context .limit) (nextPlan session (keyed (now (name .entry)) (now (vendor .entry))) (now (buffer .entry)) (now (image .entry)))))
+        × (r .size ≡ nextReply session (keyed (now (name .entry)) (now (vendor .entry))) (now (buffer .entry)) (now (image .entry)) .size)
         × (r .attributes ≡ 0)
-        × (r .needed ≡ nextReply session (record { name = now (name .entry); vendor = now (vendor .entry) }) (now (buffer .entry)) (now (image .entry)) .needed)
-        × (now (buffer .exit) ≡ nextReply session (record { name = now (name .entry); vendor = now (vendor .entry) }) (now (buffer .entry)) (now (image .entry)) .buffer) ⌝ }
+        × (r .needed ≡ nextReply session (keyed (now (name .entry)) (now (vendor .entry))) (now (buffer .entry)) (now (image .entry)) .needed)
+        × (now (buffer .exit) ≡ nextReply session (keyed (now (name .entry)) (now (vendor .entry))) (now (buffer .entry)) (now (image .entry)) .buffer) ⌝ }
 {
     let g = engine::read::next_name(context, session, image, name, vendor, buffer);
     let answer = g.answer;

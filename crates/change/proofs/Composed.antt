@@ -2,13 +2,10 @@
 -- front of a buffer that holds them, and with FF bytes behind them they are the region to store.
 -- Assumes nothing.
 use Prim.Native.Nat.{ℕ, _+_, _^_, _≤_, _<_}
-use native.Mathlib.Nat.{zero-add}
 use native.Mathlib.Omega.{arith}
-use mathlib.Core.Path.{_≡_, sym, ap, _∙_}
+use mathlib.Core.Path.{_≡_, ap, _∙_}
 use mathlib.Core.List.{List, [], _∷_, _++_, append-assoc}
-use lib.ListN.{length, take, drop, length-append}
-use lib.Seq.{take-at, sets-eq}
-use Rattle.model.specs.Lists.{part}
+use lib.ListN.{length, length-append}
 use Rattle.model.specs.Image.{regionHeader}
 use Rattle.model.specs.Entry.{Value, keyOf, entrySize, entryBytes}
 use Rattle.model.specs.Change.{without, put, step, entrySizes, spaceOf}
@@ -43,12 +40,6 @@ module _ (n : ℕ) (v : Value) (vs : List Value) where
       let all = ap length with-put in
       let both = length-append others (entryBytes 0x3F v) in
       (omega (arith, h .2), omega arith, h .0, omega arith, h .1)
-
--- the front of a buffer that holds what was written
-pub wrote-front : {text before after : List ℕ} {next : ℕ} → Wrote text 0 before after next → length text ≤ length before → part 0 next after ≡ text
-wrote-front {text} {before} {after} {next} w h =
-    ap (λ (l : List ℕ). take next l) (w .buffer ∙ sets-eq text before 0 (omega arith))
-    ∙ take-at text (drop (0 + length text) before) next (sym (w .place ∙ zero-add (length text)))
 
 -- the changed one's own space
 last-space : (v : Value) (ws : List Value) → entrySize v ≤ entrySizes (ws ++ (v ∷ []))

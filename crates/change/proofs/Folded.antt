@@ -17,13 +17,13 @@ use Rattle.model.specs.Compact.{joined, encode, nextRecord, fillSpare, finish, 
 use Rattle.model.proofs.Chunks.{sound-chunked}
 use Rattle.model.proofs.Encode.{AllValid, sound-valid, put-valid}
 use Rattle.text.specs.Text.{Wrote}
+use Rattle.text.proofs.Writing.{wrote-front}
 use Rattle.flash.specs.declared.Progress.{Progress}
 use Rattle.flash.specs.Made.{Made}
 use Rattle.flash.proofs.Made.{made-as}
 use Rattle.compose.proofs.Encoded.{content-length, encode-content}
 use Rattle.compaction.proofs.Listed.{compact-list}
 use Rattle.change.specs.Asked.{Folds}
-use Rattle.change.proofs.Composed.{wrote-front}
 use Rattle.change.proofs.Ready.{image-long, region-size, ready-idle, value-short}
 
 -- what is composed, of a region's bytes and a value

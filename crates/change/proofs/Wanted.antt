@@ -10,7 +10,7 @@ use mathlib.Core.Option.{Option, none, some}
 use lib.ListN.{length}
 use Rattle.model.specs.Lists.{part, onSome}
 use Rattle.model.specs.Image.{region}
-use Rattle.model.specs.Name.{Key}
+use Rattle.model.specs.Name.{Key, keyed}
 use Rattle.model.specs.Entry.{Value}
 use Rattle.model.specs.Walk as walk
 use Rattle.model.specs.Region.{entries, values, valuesOf, standing, sound, find}
@@ -18,13 +18,13 @@ use Rattle.model.specs.Request.{Request, appends, withoutAppend, stampToStore}
 use Rattle.model.specs.Change.{newData, newValue}
 use Rattle.model.proofs.Chunks.{sound-parts}
 use Rattle.model.proofs.Values.{find-standing}
-use Rattle.region.specs.Walk.{keyed}
 use Rattle.values.specs.declared.Found.{Found}
 use Rattle.values.specs.declared.Found.the-variants.{At, Nothing}
 use Rattle.values.specs.declared.Places.{Places}
 use Rattle.values.specs.Found.{foundOf}
 use Rattle.values.proofs.Stands.{standing-stands, nothing-first}
 use Rattle.text.specs.Text.{Wrote}
+use Rattle.text.proofs.Writing.{wrote-front}
 use Rattle.flash.specs.declared.Progress.{Progress}
 use Rattle.compose.specs.Compose.{oldData}
 use Rattle.writes.specs.Listed.{standingOf}
@@ -33,7 +33,6 @@ use Rattle.policy.specs.Rules.{rule8Of}
 use Rattle.policy.specs.Descriptor.{properOf, stampOf}
 use Rattle.policy.proofs.Plain.{rule8-plain, proper-plain, stamp-plain}
 use Rattle.change.specs.Asked.{valued, requested, valueToPut, appended, Asked}
-use Rattle.change.proofs.Composed.{wrote-front}
 
 -- ---- the entry that stands
 

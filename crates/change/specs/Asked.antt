@@ -4,13 +4,13 @@ use mathlib.Core.Path.{_≡_}
 use mathlib.Core.List.{List, [], _++_}
 use lib.ListN.{length}
 use Rattle.model.specs.Lists.{onSome}
+use Rattle.model.specs.Name.{keyed}
 use Rattle.model.specs.Image.{regionSize, region}
 use Rattle.model.specs.Entry.{Value, keyOf}
 use Rattle.model.specs.Region.{maxData, entries, tailAt, valuesOf, added, replacing, find}
 use Rattle.model.specs.Request.{Request}
 use Rattle.model.specs.Change.{put, newValue, step, spaceOf}
 use Rattle.model.proofs.Encode.{Valid}
-use Rattle.region.specs.Walk.{keyed}
 use Rattle.values.specs.Found.{foundOf}
 use Rattle.values.specs.declared.Places.{Places}
 use Rattle.image.proofs.Ready.{IsReady}

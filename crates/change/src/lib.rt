@@ -16,6 +16,7 @@ ghost use Rattle.policy.specs.Rules.{rule8Of};
 ghost use Rattle.change.specs.Asked.{valued, valueToPut, appended, Asked, Folds};
 use flash::Progress;
 use values::Places;
+use values::lookup;
 
 // Room for the largest region.
 fn room() -> [u8; 28672] {
@@ -119,7 +120,7 @@ fn put_appended(
     let n = compose::new_data(
         &mut whole,
         slices::cut(image, 0, 4096 * b),
-        writes::standing(places),
+        lookup::standing(places),
         bytes,
     );
     put_value(

@@ -13,7 +13,7 @@ use lib.Seq.{drop-drop, drop-nil, take-nil}
 use lib.Dec.{leb}
 use borrow.Author.Tests.{eq-eqb}
 use Rattle.model.specs.Lists.{part, same, all, keep, among}
-use Rattle.model.specs.Name.{Key, sameKey, zeroEnded, wellNamed}
+use Rattle.model.specs.Name.{Key, keyed, sameKey, zeroEnded, wellNamed}
 use Rattle.model.specs.Entry.{rounded, headerFields, Value, keyOf, entrySize, entryBytes}
 use Rattle.model.specs.Walk as walk
 use Rattle.model.specs.Region.{entries, live, rightHeader, knownState, within, rightLive, isEntry, undoubled, sound, isValue, values, storedAttributes, maxData}
@@ -22,7 +22,7 @@ use Rattle.model.specs.Compact.{joined}
 use Rattle.model.proofs.Tests.{and-split}
 use Rattle.model.proofs.Encode.{value-live}
 use Rattle.layout.specs.declared.Entry as numbers
-use Rattle.region.specs.Walk.{entryAt, vendorAt, keyed}
+use Rattle.region.specs.Walk.{entryAt, vendorAt}
 use Rattle.region.proofs.Entries.{vendor as vendor-part}
 use Rattle.values.proofs.Listed.{listed, listed-all}
 use Rattle.values.proofs.Sizes.{lengths}

@@ -20,11 +20,10 @@ use Rattle.model.specs.Session.{reserved}
 use Rattle.model.specs.Request.{Request, requestKey}
 use Rattle.model.specs.Change.{Change, nothing, remove, put, deletes, emptyAppend, equalTo, newValue, changeOf, changeIn, step, spaceOf}
 use Rattle.model.specs.Rules.{firstBroken, rule11, rule12, rule13, removesAbsent, imageRules, requestRules, standingRules, resultRules, roomRules, setBroken}
-use Rattle.model.proofs.Requests.{unbroken}
+use Rattle.model.proofs.Requests.{broken-append, unbroken}
 use Rattle.decision.specs.declared.Decision.{Decision}
 use Rattle.decision.specs.declared.Decision.the-variants.{Nothing, Remove, Put}
 use Rattle.decision.specs.Decision.{kindOf, decided, decisionOf, brokenOf}
-use Rattle.decision.proofs.Broken.{broken-append}
 
 -- ---- the rule named
 

@@ -21,6 +21,7 @@ use Rattle.model.specs.Session.{atRuntime, reserved}
 use Rattle.model.specs.Request.{Request, requestKey, appends, keyPK, wantedVerdicts, dataProper, stampToStore, later}
 use Rattle.model.specs.Change.{nothing, remove, put, deletes, emptyAppend, equalTo, newData, newValue, changeOf, changeIn, step, spaceOf}
 use Rattle.model.specs.Rules.{firstBroken, rule3, rule4, rule5, rule6, rule7Over, rule7, rule8, verdictWanted, rule9, rule10, rule11, rule12, rule13, removesAbsent, onPut, requestRules, standingRules, resultRules, roomRules}
+use Rattle.model.proofs.Requests.{broken-append}
 use Rattle.model.proofs.Chunks.{sound-parts}
 use Rattle.model.proofs.Encode as encode
 use Rattle.layout.specs.declared.Entry as numbers
@@ -37,7 +38,7 @@ use Rattle.decision.specs.declared.Decision.{Decision}
 use Rattle.decision.specs.declared.Decision.the-variants.{Broken, Nothing, Remove, Put}
 use Rattle.decision.specs.Decision.{requestOf, kindOf, decided, decisionOf}
 use Rattle.decision.specs.Parts.{onFound, valueAt, stands, standingBy, stampAt, notLater, verdictBy, equalBy, kindBy, newSize, oldSpace, roomBy, resultBy, outcomeBy}
-use Rattle.decision.proofs.Broken.{broken-append, fourth-broken}
+use Rattle.decision.proofs.Broken.{fourth-broken}
 use Rattle.decision.proofs.Old.{stands-some, old-value, mode-standing, stamp-read}
 use Rattle.decision.proofs.Space.{sizeOf, put-space, room-shift}
 

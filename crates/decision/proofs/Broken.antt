@@ -1,4 +1,4 @@
--- The first broken rule of two lists is that of the first, else that of the second.
+-- Rules that were judged in turn: the first broken rule of two lists is that of the first, else that of the second.
 -- Assumes nothing.
 use Prim.Native.Nat.{ℕ}
 use native.Mathlib.Omega.{arith}
@@ -9,18 +9,9 @@ use mathlib.Core.Option.{Option, none, some}
 use Rattle.model.specs.declared.Rule.{Rule}
 use Rattle.model.specs.Lists.{orElse}
 use Rattle.model.specs.Rules.{firstBroken}
+use Rattle.model.proofs.Requests.{broken-append}
 use Rattle.decision.specs.declared.Judged.the-variants.{Kept, Breaks}
 use Rattle.decision.specs.Parts.{judgedOf}
-
-pub broken-append : (xs ys : List (Rule × Bool)) → firstBroken (xs ++ ys) ≡ orElse (firstBroken xs) (firstBroken ys)
-unfolding firstBroken
-broken-append [] ys = refl
-broken-append (x ∷ xs) ys = go (x .1) (broken-append xs ys)
-  where
-    go : (t : Bool) → firstBroken (xs ++ ys) ≡ orElse (firstBroken xs) (firstBroken ys)
-        → cond t (some (x .0)) (firstBroken (xs ++ ys)) ≡ orElse (cond t (some (x .0)) (firstBroken xs)) (firstBroken ys)
-    go true i = refl
-    go false i = i
 
 -- a later rule counts only where an earlier one is kept
 pub fourth-broken : (p q x y : Rule) (a b c d e : Bool) → (b ≡ false → d ≡ e)

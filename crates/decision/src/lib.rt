@@ -5,12 +5,12 @@ ghost use mathlib.Core.List.{_++_};
 ghost use Prim.Native.Nat.{_≤_};
 ghost use lib.ListN.{length};
 ghost use Rattle.model.specs.Lists.{isSome};
+ghost use Rattle.model.specs.Name.{keyed};
 ghost use Rattle.model.specs.Region.{sound, entries, values, added, replacing, standing};
 ghost use Rattle.model.specs.Session.{atRuntime};
 ghost use Rattle.model.specs.Request.{keyPK};
 ghost use Rattle.model.specs.Rules.{firstBroken};
-ghost use Rattle.region.specs.Walk.{keyed};
-ghost use Rattle.values.specs.Found.{foundOf, elseFound};
+ghost use Rattle.values.specs.Found.{foundOf};
 ghost use Rattle.policy.specs.Descriptor.{stampOf};
 ghost use Rattle.policy.specs.Verdict.{wantedBy};
 ghost use Rattle.decision.specs.Decision.{requestOf, decisionOf};
@@ -42,16 +42,6 @@ pub struct Decided {
 pub enum Judged {
     Kept,
     Breaks(Rule),
-}
-
-// The 3F entry, else the 3E entry.
-fn either(added: Found, replacing: Found) -> Found
-    ensures { λ r. ⌜ r ≡ elseFound added replacing ⌝ }
-{
-    match added {
-        Found::At(_, _) => added,
-        Found::Nothing => replacing,
-    }
 }
 
 // Rules 7 to 10: the mode is looked up, and the stamp read, only where 7 and 8 are kept.
@@ -160,9 +150,7 @@ pub fn decide(
         × (r .places .replacing ≡ foundOf (replacing (keyed (now (name .entry)) (now (vendor .entry))) (entries (now (region .entry))))) ⌝ }
 {
     let places = lookup::places(region, name, vendor);
-    let added = places.added;
-    let replacing = places.replacing;
-    let old = either(added, replacing);
+    let old = lookup::standing(places);
     let what = judge(
         s,
         region,

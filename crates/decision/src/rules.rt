@@ -3,6 +3,7 @@ ghost use mathlib.Core.Path.{_≡_};
 ghost use mathlib.Core.Bool.{false};
 ghost use mathlib.Core.List.{[]};
 ghost use Rattle.model.specs.Lists.{isSome};
+ghost use Rattle.model.specs.Name.{keyed};
 ghost use Rattle.model.specs.Region.{entries, standing};
 ghost use Rattle.model.specs.Request.{keyPK};
 ghost use Rattle.model.specs.Rules.{firstBroken, requestRules};
@@ -87,7 +88,7 @@ pub fn wanted(
     stands: bool,
 ) -> Wanted
     ensures { λ r. ⌜ verdictsOf r ≡ wantedBy custom presence (isSome (standing keyPK (entries (now (region .entry)))))
-        (record { name = now (name .entry); vendor = now (vendor .entry) }) attributes stands ⌝ }
+        (keyed (now (name .entry)) (now (vendor .entry))) attributes stands ⌝ }
 {
     if fixed::is_key_name(name, vendor) {
         if policy::in_person(custom, presence) {

@@ -13,22 +13,13 @@ use Rattle.model.specs.Image.{blocks, region}
 use Rattle.model.specs.Region.{tailAt}
 use Rattle.model.specs.Rules.{firstBroken, rule1, rule2, imageRules}
 use Rattle.model.specs.Answers.{ruleNumber}
+use Rattle.model.proofs.Requests.{broken-append}
 use Rattle.model.specs.declared.Rule.{Rule}
 use Rattle.model.specs.declared.Rule.the-variants.{Length, Unready, Name}
 use Rattle.image.specs.Check.{callOf}
 use Rattle.image.specs.declared.Check.the-variants.{Ready, Refused}
 use Rattle.image.proofs.Ready.{IsReady, is-ready, refused-rule}
 use Rattle.engine.specs.Read.{openOf}
-
-pub broken-append : (xs ys : List (Rule × Bool)) → firstBroken (xs ++ ys) ≡ orElse (firstBroken xs) (firstBroken ys)
-unfolding firstBroken
-broken-append [] ys = refl
-broken-append (x ∷ xs) ys = go (x .1) (broken-append xs ys)
-  where
-    go : (t : Bool) → firstBroken (xs ++ ys) ≡ orElse (firstBroken xs) (firstBroken ys)
-        → cond t (some (x .0)) (firstBroken (xs ++ ys)) ≡ orElse (cond t (some (x .0)) (firstBroken xs)) (firstBroken ys)
-    go true i = refl
-    go false i = i
 
 -- ---- rules 1 to 3 as the code checks them
 

@@ -19,6 +19,8 @@ use Rattle.model.specs.Region.{entries, values, valuesOf}
 use Rattle.model.specs.Session.{countedPhase, atRuntime}
 use Rattle.model.specs.Rules.{firstBroken, rule3, rule3Next, rule11Read, rule14, seen, valueToGet, valueToName, gotBytes, getBroken, nextBroken}
 use Rattle.model.specs.Answers.{ruleNumber, refusal, written, answerOf, done, refused, outcome, getReply, nextReply, getPlan, nextPlan}
+use Rattle.model.specs.Book as book
+use Rattle.recovery.specs.Interface.{Returned}
 use Rattle.model.specs.Set.{refuse, make}
 use Rattle.model.specs.declared.Session.{Session}
 use Rattle.model.specs.declared.Rule.{Rule}
@@ -148,21 +150,21 @@ region-name phase k img r runtime p q = ap₂ (λ (t : Bool) (x : List ℕ). nam
 
 pub get-answered : (n : ℕ) (s : Session) (k : Key) (buffer img : List ℕ) {got : Got} {after : List ℕ}
     → Read img (valueToGet s k (valuesOf img)) gotBytes (λ v. v .attributes) buffer (wellNamed (k .name)) got after
-    → (answerOf (got .answer) ≡ outcome n (getPlan s k buffer img))
+    → Returned (book.get s k buffer) n img img (got .answer)
     × (got .size ≡ getReply s k buffer img .size)
     × (got .attributes ≡ getReply s k buffer img .attributes)
     × (got .needed ≡ getReply s k buffer img .needed)
     × (after ≡ getReply s k buffer img .buffer)
 unfolding getPlan getReply getBroken rule3 readBroken replyOf
 get-answered n s k buffer img h =
-    (h .answer ∙ sym (no-stores n (getBroken s k buffer img)), h .size, h .attributes, h .needed, h .buffer)
+    ((h .answer ∙ sym (no-stores n (getBroken s k buffer img)), refl), h .size, h .attributes, h .needed, h .buffer)
 
 pub next-answered : (n : ℕ) (s : Session) (k : Key) (buffer img : List ℕ) {got : Got} {after : List ℕ}
     → Answered (nextBrokenAt (s .phase) k buffer img) (nextReplyAt (s .phase) k buffer img) got after
-    → (answerOf (got .answer) ≡ outcome n (nextPlan s k buffer img))
+    → Returned (book.next s k buffer) n img img (got .answer)
     × (got .size ≡ nextReply s k buffer img .size)
     × (got .needed ≡ nextReply s k buffer img .needed)
     × (after ≡ nextReply s k buffer img .buffer)
 unfolding nextPlan nextReply nextBroken rule3Next readBroken replyOf nameAt seenAt valueToName seen atRuntime
 next-answered n s k buffer img h =
-    (h .answer ∙ sym (no-stores n (nextBroken s k buffer img)), h .size, h .needed, h .buffer)
+    ((h .answer ∙ sym (no-stores n (nextBroken s k buffer img)), refl), h .size, h .needed, h .buffer)

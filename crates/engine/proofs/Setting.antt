@@ -11,6 +11,7 @@ use lib.ListN.{length}
 use Rattle.model.specs.declared.Session.{Session}
 use Rattle.model.specs.declared.Rule.{Rule}
 use Rattle.model.specs.Lists.{part, onSome}
+use Rattle.model.specs.Name.{keyed}
 use Rattle.model.specs.Image.{block, regionSize, region}
 use Rattle.model.specs.Entry.{Value}
 use Rattle.model.specs.Region.{entries, tailAt, sound, values, valuesOf, added, replacing, find}
@@ -20,8 +21,7 @@ use Rattle.model.specs.Rules.{firstBroken, imageRules, requestRules, standingRu
 use Rattle.model.specs.Stores.{Store}
 use Rattle.model.specs.Set.{refuse, make, fitsTail, deleteTo, putPlan, changePlan, setPlan}
 use Rattle.model.specs.Answers.{storesOf}
-use Rattle.model.proofs.Requests.{unbroken, put-is-valid, put-fits}
-use Rattle.region.specs.Walk.{keyed}
+use Rattle.model.proofs.Requests.{broken-append, unbroken, put-is-valid, put-fits}
 use Rattle.values.specs.Found.{foundOf}
 use Rattle.values.specs.declared.Found.{Found}
 use Rattle.values.specs.declared.Found.the-variants.{At, Nothing}
@@ -44,7 +44,6 @@ use Rattle.decision.specs.declared.Decision.{Decision}
 use Rattle.decision.specs.declared.Decision.the-variants as decision
 use Rattle.decision.specs.Decision.{requestOf, decisionOf, brokenOf}
 use Rattle.decision.proofs.Accepted.{set-broken, nothing-change, remove-change, put-change, put-small}
-use Rattle.decision.proofs.Broken.{broken-append}
 use Rattle.engine.proofs.Ended.{Makes}
 
 -- rule 1 or 2 is broken

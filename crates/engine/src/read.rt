@@ -5,10 +5,12 @@ ghost use mathlib.Core.List.{_++_};
 ghost use Prim.Native.Nat.{_≤_};
 ghost use lib.ListN.{length};
 ghost use Rattle.model.specs.Lists.{same, overlay};
-ghost use Rattle.model.specs.Name.{wellNamed, emptyName};
+ghost use Rattle.model.specs.Name.{keyed, wellNamed, emptyName};
 ghost use Rattle.model.specs.Region.{entries, values};
 ghost use Rattle.model.specs.Rules.{gotBytes, namedBytes};
-ghost use Rattle.model.specs.Answers.{answerOf, outcome, getReply, nextReply, getPlan, nextPlan};
+ghost use Rattle.model.specs.Answers.{getReply, nextReply};
+ghost use Rattle.model.specs.Book as book;
+ghost use Rattle.recovery.specs.Interface.{Returned};
 ghost use Rattle.query.specs.Query.{getAt, nameAt};
 ghost use Rattle.engine.specs.Read.{openOf, refusedGot, Answered, shortOf, replyTo, foundBroken, foundReply, nextBrokenAt, nextReplyAt};
 use image::Check;
@@ -104,8 +106,8 @@ fn give_name(vendor: &[u8], name: &[u8], buffer: &mut [u8]) -> Got
 fn get_from(region: &[u8], runtime: bool, name: &[u8], vendor: &[u8; 16], buffer: &mut [u8]) -> Got
     requires { ⌜ length (now region) ≤ 28672 ⌝ }
     ensures { λ r. ⌜ Answered
-        (foundBroken (getAt runtime (record { name = now (name .entry); vendor = now (vendor .entry) }) (values (entries (now (region .entry))))) gotBytes (now (buffer .entry)))
-        (foundReply (getAt runtime (record { name = now (name .entry); vendor = now (vendor .entry) }) (values (entries (now (region .entry))))) gotBytes (λ v. v .attributes) (now (buffer .entry)))
+        (foundBroken (getAt runtime (keyed (now (name .entry)) (now (vendor .entry))) (values (entries (now (region .entry))))) gotBytes (now (buffer .entry)))
+        (foundReply (getAt runtime (keyed (now (name .entry)) (now (vendor .entry))) (values (entries (now (region .entry))))) gotBytes (λ v. v .attributes) (now (buffer .entry)))
         r (now (buffer .exit)) ⌝ }
 {
     let found = query::to_get(region, runtime, name, vendor);
@@ -119,8 +121,8 @@ fn get_from(region: &[u8], runtime: bool, name: &[u8], vendor: &[u8; 16], buffer
 fn name_from(region: &[u8], runtime: bool, name: &[u8], vendor: &[u8; 16], buffer: &mut [u8]) -> Got
     requires { ⌜ length (now region) ≤ 28672 ⌝ }
     ensures { λ r. ⌜ Answered
-        (foundBroken (nameAt runtime (record { name = now (name .entry); vendor = now (vendor .entry) }) (values (entries (now (region .entry))))) namedBytes (now (buffer .entry)))
-        (foundReply (nameAt runtime (record { name = now (name .entry); vendor = now (vendor .entry) }) (values (entries (now (region .entry))))) namedBytes (λ v. 0) (now (buffer .entry)))
+        (foundBroken (nameAt runtime (keyed (now (name .entry)) (now (vendor .entry))) (values (entries (now (region .entry))))) namedBytes (now (buffer .entry)))
+        (foundReply (nameAt runtime (keyed (now (name .entry)) (now (vendor .entry))) (values (entries (now (region .entry))))) namedBytes (λ v. 0) (now (buffer .entry)))
         r (now (buffer .exit)) ⌝ }
 {
     let found = query::to_name(region, runtime, name, vendor);
@@ -143,11 +145,11 @@ pub fn get(
     vendor: &[u8; 16],
     buffer: &mut [u8],
 ) -> Got
-    ensures { λ r. ⌜ (answerOf (r .answer) ≡ outcome (c .limit) (getPlan s (record { name = now (name .entry); vendor = now (vendor .entry) }) (now (buffer .entry)) (now (image .entry))))
-        × (r .size ≡ getReply s (record { name = now (name .entry); vendor = now (vendor .entry) }) (now (buffer .entry)) (now (image .entry)) .size)
-        × (r .attributes ≡ getReply s (record { name = now (name .entry); vendor = now (vendor .entry) }) (now (buffer .entry)) (now (image .entry)) .attributes)
-        × (r .needed ≡ getReply s (record { name = now (name .entry); vendor = now (vendor .entry) }) (now (buffer .entry)) (now (image .entry)) .needed)
-        × (now (buffer .exit) ≡ getReply s (record { name = now (name .entry); vendor = now (vendor .entry) }) (now (buffer .entry)) (now (image .entry)) .buffer) ⌝ }
+    ensures { λ r. ⌜ Returned (book.get s (keyed (now (name .entry)) (now (vendor .entry))) (now (buffer .entry))) (c .limit) (now (image .entry)) (now (image .entry)) (r .answer)
+        × (r .size ≡ getReply s (keyed (now (name .entry)) (now (vendor .entry))) (now (buffer .entry)) (now (image .entry)) .size)
+        × (r .attributes ≡ getReply s (keyed (now (name .entry)) (now (vendor .entry))) (now (buffer .entry)) (now (image .entry)) .attributes)
+        × (r .needed ≡ getReply s (keyed (now (name .entry)) (now (vendor .entry))) (now (buffer .entry)) (now (image .entry)) .needed)
+        × (now (buffer .exit) ≡ getReply s (keyed (now (name .entry)) (now (vendor .entry))) (now (buffer .entry)) (now (image .entry)) .buffer) ⌝ }
 {
     let opened = open(image, slices::is_named(name));
     match opened {
@@ -175,8 +177,8 @@ fn is_next_named(name: &[u8]) -> bool
 // What next-name answers, at a phase.
 fn name_behind(phase: u32, image: &[u8], name: &[u8], vendor: &[u8; 16], buffer: &mut [u8]) -> Got
     ensures { λ r. ⌜ Answered
-        (nextBrokenAt phase (record { name = now (name .entry); vendor = now (vendor .entry) }) (now (buffer .entry)) (now (image .entry)))
-        (nextReplyAt phase (record { name = now (name .entry); vendor = now (vendor .entry) }) (now (buffer .entry)) (now (image .entry)))
+        (nextBrokenAt phase (keyed (now (name .entry)) (now (vendor .entry))) (now (buffer .entry)) (now (image .entry)))
+        (nextReplyAt phase (keyed (now (name .entry)) (now (vendor .entry))) (now (buffer .entry)) (now (image .entry)))
         r (now (buffer .exit)) ⌝ }
 {
     let opened = open(image, is_next_named(name));
@@ -201,10 +203,10 @@ pub fn next_name(
     vendor: &[u8; 16],
     buffer: &mut [u8],
 ) -> Named
-    ensures { λ r. ⌜ (answerOf (r .answer) ≡ outcome (c .limit) (nextPlan s (record { name = now (name .entry); vendor = now (vendor .entry) }) (now (buffer .entry)) (now (image .entry))))
-        × (r .size ≡ nextReply s (record { name = now (name .entry); vendor = now (vendor .entry) }) (now (buffer .entry)) (now (image .entry)) .size)
-        × (r .needed ≡ nextReply s (record { name = now (name .entry); vendor = now (vendor .entry) }) (now (buffer .entry)) (now (image .entry)) .needed)
-        × (now (buffer .exit) ≡ nextReply s (record { name = now (name .entry); vendor = now (vendor .entry) }) (now (buffer .entry)) (now (image .entry)) .buffer) ⌝ }
+    ensures { λ r. ⌜ Returned (book.next s (keyed (now (name .entry)) (now (vendor .entry))) (now (buffer .entry))) (c .limit) (now (image .entry)) (now (image .entry)) (r .answer)
+        × (r .size ≡ nextReply s (keyed (now (name .entry)) (now (vendor .entry))) (now (buffer .entry)) (now (image .entry)) .size)
+        × (r .needed ≡ nextReply s (keyed (now (name .entry)) (now (vendor .entry))) (now (buffer .entry)) (now (image .entry)) .needed)
+        × (now (buffer .exit) ≡ nextReply s (keyed (now (name .entry)) (now (vendor .entry))) (now (buffer .entry)) (now (image .entry)) .buffer) ⌝ }
 {
     let got = name_behind(s.phase, image, name, vendor, buffer);
     let answer = got.answer;

@@ -3,6 +3,8 @@ ghost use mathlib.Core.Path.{_≡_};
 ghost use Rattle.model.specs.Session.{freshSession};
 ghost use Rattle.model.specs.StartUp.{startUpPlan};
 ghost use Rattle.model.specs.Answers.{answerOf, outcome, imageAfter};
+ghost use Rattle.model.specs.Book as book;
+ghost use Rattle.recovery.specs.Interface.{Returned};
 ghost use Rattle.image.specs.Check.{startUpOf};
 ghost use Rattle.image.specs.declared.Start.the-variants.{Pending, Sound};
 use image::Start;
@@ -51,9 +53,8 @@ fn recover(c: Context, image: &mut [u8]) -> Answer
 
 // A start-up: it is given custom mode and R and makes a fresh session, also when it is refused or stopped.
 pub fn start_up(c: Context, image: &mut [u8], custom: u32, reserve: u32) -> Started
-    ensures { λ r. ⌜ (answerOf (r .answer) ≡ outcome (c .limit) (startUpPlan (now (image .entry))))
-        × (r .session ≡ freshSession custom reserve)
-        × (now (image .exit) ≡ imageAfter (c .limit) (startUpPlan (now (image .entry))) (now (image .entry))) ⌝ }
+    ensures { λ r. ⌜ Returned (book.startUp custom reserve) (c .limit) (now (image .entry)) (now (image .exit)) (r .answer)
+        × (r .session ≡ freshSession custom reserve) ⌝ }
 {
     let session = Session::fresh(custom, reserve);
     let answer = recover(c, image);

@@ -2,8 +2,9 @@
 ghost use mathlib.Core.Path.{_≡_};
 ghost use Prim.Native.Nat.{_≤_};
 ghost use Rattle.model.specs.StartUp.{formatStores, formatPlan};
-ghost use Rattle.model.specs.Set.{setPlan};
 ghost use Rattle.model.specs.Answers.{answerOf, outcome, imageAfter};
+ghost use Rattle.model.specs.Book as book;
+ghost use Rattle.recovery.specs.Interface.{Returned};
 ghost use Rattle.flash.specs.Made.{Made};
 ghost use Rattle.image.specs.Check.{blocksOf};
 ghost use Rattle.image.proofs.Ready.{IsReady};
@@ -31,8 +32,7 @@ fn set_ready(
     verdict: u32,
 ) -> Answer
     requires { ⌜ IsReady (now image) b tail ⌝ }
-    ensures { λ r. ⌜ (answerOf r ≡ outcome (c .limit) (setPlan s (requestOf (now (name .entry)) (now (vendor .entry)) attributes (now (bytes .entry)) presence verdict) (now (image .entry))))
-        × (now (image .exit) ≡ imageAfter (c .limit) (setPlan s (requestOf (now (name .entry)) (now (vendor .entry)) attributes (now (bytes .entry)) presence verdict) (now (image .entry))) (now (image .entry))) ⌝ }
+    ensures { λ r. ⌜ Returned (book.set s (requestOf (now (name .entry)) (now (vendor .entry)) attributes (now (bytes .entry)) presence verdict)) (c .limit) (now (image .entry)) (now (image .exit)) r ⌝ }
 {
     let d = decision::decide(
         s,
@@ -77,8 +77,7 @@ pub fn set(
     presence: u32,
     verdict: u32,
 ) -> Answer
-    ensures { λ r. ⌜ (answerOf r ≡ outcome (c .limit) (setPlan s (requestOf (now (name .entry)) (now (vendor .entry)) attributes (now (bytes .entry)) presence verdict) (now (image .entry))))
-        × (now (image .exit) ≡ imageAfter (c .limit) (setPlan s (requestOf (now (name .entry)) (now (vendor .entry)) attributes (now (bytes .entry)) presence verdict) (now (image .entry))) (now (image .entry))) ⌝ }
+    ensures { λ r. ⌜ Returned (book.set s (requestOf (now (name .entry)) (now (vendor .entry)) attributes (now (bytes .entry)) presence verdict)) (c .limit) (now (image .entry)) (now (image .exit)) r ⌝ }
 {
     let check = image::check_call(image);
     match check {

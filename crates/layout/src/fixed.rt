@@ -5,7 +5,7 @@ ghost use Prim.Native.Nat.{_%_};
 ghost use Rattle.model.specs.Lists.{same};
 ghost use Rattle.model.specs.Image.{signature, regionHeader};
 ghost use Rattle.model.specs.Region.{rightHeader};
-ghost use Rattle.model.specs.Name.{sameKey};
+ghost use Rattle.model.specs.Name.{keyed, sameKey};
 ghost use Rattle.model.specs.Request.{globalVendor, databaseVendor, certificate, keyPK, keyKEK, keydb, keydbx, keydbt, isDatabase, isKeyName};
 
 pub fn signature() -> [u8; 16]
@@ -99,7 +99,7 @@ fn is_key(name: &[u8], vendor: &[u8; 16], key: &[u8], of: &[u8; 16]) -> bool
 }
 
 pub fn is_pk(name: &[u8], vendor: &[u8; 16]) -> bool
-    ensures { λ r. ⌜ r ≡ sameKey (record { name = now (name .entry); vendor = now (vendor .entry) }) keyPK ⌝ }
+    ensures { λ r. ⌜ r ≡ sameKey (keyed (now (name .entry)) (now (vendor .entry))) keyPK ⌝ }
 {
     let key = pk_name();
     let of = global_vendor();
@@ -107,7 +107,7 @@ pub fn is_pk(name: &[u8], vendor: &[u8; 16]) -> bool
 }
 
 pub fn is_kek(name: &[u8], vendor: &[u8; 16]) -> bool
-    ensures { λ r. ⌜ r ≡ sameKey (record { name = now (name .entry); vendor = now (vendor .entry) }) keyKEK ⌝ }
+    ensures { λ r. ⌜ r ≡ sameKey (keyed (now (name .entry)) (now (vendor .entry))) keyKEK ⌝ }
 {
     let key = kek_name();
     let of = global_vendor();
@@ -131,7 +131,7 @@ fn is_database_name(name: &[u8]) -> bool
 }
 
 pub fn is_database(name: &[u8], vendor: &[u8; 16]) -> bool
-    ensures { λ r. ⌜ r ≡ isDatabase (record { name = now (name .entry); vendor = now (vendor .entry) }) ⌝ }
+    ensures { λ r. ⌜ r ≡ isDatabase (keyed (now (name .entry)) (now (vendor .entry))) ⌝ }
 {
     let of = database_vendor();
     if slices::equal(vendor, &of) {
@@ -141,7 +141,7 @@ pub fn is_database(name: &[u8], vendor: &[u8; 16]) -> bool
 }
 
 pub fn is_key_name(name: &[u8], vendor: &[u8; 16]) -> bool
-    ensures { λ r. ⌜ r ≡ isKeyName (record { name = now (name .entry); vendor = now (vendor .entry) }) ⌝ }
+    ensures { λ r. ⌜ r ≡ isKeyName (keyed (now (name .entry)) (now (vendor .entry))) ⌝ }
 {
     if is_pk(name, vendor) {
         return true;

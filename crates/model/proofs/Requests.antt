@@ -13,7 +13,7 @@ use lib.Dec.{eqb, leb, ltb}
 use borrow.Author.Tests.{ltb-false, leb-true, eqb-true, eqb-false, ne-eqb, not-false}
 use Rattle.model.specs.declared.Session.{Session}
 use Rattle.model.specs.declared.Rule.{Rule}
-use Rattle.model.specs.Lists.{among, isEmpty, isSome, onSome}
+use Rattle.model.specs.Lists.{among, isEmpty, isSome, onSome, orElse}
 use Rattle.model.specs.Name.{Key, wellNamed}
 use Rattle.model.specs.Image.{rightLength, regionSize}
 use Rattle.model.specs.Entry.{Value, keyOf}
@@ -44,6 +44,17 @@ none-append (x ∷ xs) ys h =
     let p = none-cons x (xs ++ ys) h in
     let q = none-append xs ys (p .1) in
     (rw (p .0) (q .0), q .1)
+
+-- the first broken rule of two lists is that of the first, else that of the second
+pub broken-append : (xs ys : List (Rule × Bool)) → firstBroken (xs ++ ys) ≡ orElse (firstBroken xs) (firstBroken ys)
+unfolding firstBroken
+broken-append [] ys = refl
+broken-append (x ∷ xs) ys = go (x .1) (broken-append xs ys)
+  where
+    go : (t : Bool) → firstBroken (xs ++ ys) ≡ orElse (firstBroken xs) (firstBroken ys)
+        → cond t (some (x .0)) (firstBroken (xs ++ ys)) ≡ orElse (cond t (some (x .0)) (firstBroken xs)) (firstBroken ys)
+    go true i = refl
+    go false i = i
 
 -- the test at a place of a list, counted from 0: in a set's list, rule n stands at n - 1
 abbrev pub test : List (Rule × Bool) → ℕ → Bool

@@ -5,6 +5,7 @@ ghost use mathlib.Core.List.{_∷_};
 ghost use Prim.Native.Nat.{_<_};
 ghost use lib.ListN.{length, getD};
 ghost use Rattle.model.specs.Lists.{among, isEmpty, u16At, u32At};
+ghost use Rattle.model.specs.Name.{keyed};
 ghost use Rattle.model.specs.Region.{storedAttributes};
 ghost use Rattle.model.specs.Request.{runtimeAccess, timeBased, appends, withoutAppend, rightDescriptor, later, keyVerdicts};
 ghost use Rattle.policy.specs.Rules.{rule4Of, rule5Of, unlikeStored, rule7Of, rule8Of};
@@ -82,7 +83,7 @@ pub fn attributes_broken(runtime: bool, attributes: u32) -> bool
 
 // Rule 5: a key name has other attributes than 0x27 or 0x67.
 pub fn key_attributes_broken(name: &[u8], vendor: &[u8; 16], attributes: u32) -> bool
-    ensures { λ r. ⌜ r ≡ rule5Of (record { name = now (name .entry); vendor = now (vendor .entry) }) attributes ⌝ }
+    ensures { λ r. ⌜ r ≡ rule5Of (keyed (now (name .entry)) (now (vendor .entry))) attributes ⌝ }
 {
     if attributes == 0x27 {
         return false;
@@ -263,7 +264,7 @@ pub fn in_person(custom: u32, presence: u32) -> bool
 
 // PK wants 3 in setup and 1 in user mode; KEK none in setup, 1 in user; db, dbx, dbt none in setup, 1 or 2 in user.
 pub fn key_verdicts(user: bool, name: &[u8], vendor: &[u8; 16]) -> Wanted
-    ensures { λ r. ⌜ verdictsOf r ≡ keyVerdicts user (record { name = now (name .entry); vendor = now (vendor .entry) }) ⌝ }
+    ensures { λ r. ⌜ verdictsOf r ≡ keyVerdicts user (keyed (now (name .entry)) (now (vendor .entry))) ⌝ }
 {
     if user {
         if fixed::is_database(name, vendor) {

@@ -1,9 +1,9 @@
 // Which value a get and a next-name answer with: the entry of a region that holds it.
 ghost use mathlib.Core.Path.{_≡_};
 ghost use Rattle.model.specs.Lists.{same};
-ghost use Rattle.model.specs.Name.{emptyName};
+ghost use Rattle.model.specs.Name.{keyed, emptyName};
 ghost use Rattle.model.specs.Region.{entries};
-ghost use Rattle.region.specs.Walk.{entryAt, keyed};
+ghost use Rattle.region.specs.Walk.{entryAt};
 ghost use Rattle.query.specs.Query.{entryIn, visible, isSeen, isSought, entryToGet, entryToName};
 use layout::Entry;
 use region::Turn;
@@ -17,7 +17,7 @@ fn is_visible(runtime: bool, attributes: u32) -> bool
     ensures { λ r. ⌜ r ≡ visible runtime attributes ⌝ }
 {
     if runtime {
-        return attributes / 0x04 % 2 == 1;
+        return policy::runtime_access(attributes);
     }
     true
 }
@@ -46,7 +46,7 @@ fn is_sought(region: &[u8], at: usize, e: Entry, runtime: bool, name: &[u8], ven
 
 // The value to get: the one of this name and GUID, if it is seen.
 pub fn to_get(region: &[u8], runtime: bool, name: &[u8], vendor: &[u8; 16]) -> Found
-    ensures { λ r. ⌜ entryIn (now (region .entry)) r ≡ entryToGet runtime (record { name = now (name .entry); vendor = now (vendor .entry) }) (entries (now (region .entry))) ⌝ }
+    ensures { λ r. ⌜ entryIn (now (region .entry)) r ≡ entryToGet runtime (keyed (now (name .entry)) (now (vendor .entry))) (entries (now (region .entry))) ⌝ }
 {
     let mut at: usize = 28;
     loop {
@@ -70,7 +70,7 @@ pub fn is_empty_name(name: &[u8]) -> bool
 
 // The value to name: the first that is seen behind the one of this name and GUID, or the first of all behind the empty name.
 pub fn to_name(region: &[u8], runtime: bool, name: &[u8], vendor: &[u8; 16]) -> Found
-    ensures { λ r. ⌜ entryIn (now (region .entry)) r ≡ entryToName runtime (record { name = now (name .entry); vendor = now (vendor .entry) }) (entries (now (region .entry))) ⌝ }
+    ensures { λ r. ⌜ entryIn (now (region .entry)) r ≡ entryToName runtime (keyed (now (name .entry)) (now (vendor .entry))) (entries (now (region .entry))) ⌝ }
 {
     let mut passed = is_empty_name(name);
     let mut here: usize = 28;

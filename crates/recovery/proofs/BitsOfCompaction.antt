@@ -20,12 +20,12 @@ use Rattle.model.specs.Change.{spaceOf}
 use Rattle.model.specs.Stores.{Store, erase, blank, applyAll, run, mark, erases, Bytes}
 use Rattle.model.specs.Compact.{allUsed, compactOn, compactTo, encode, fillSpare, finish, nextRecord}
 use Rattle.model.specs.StartUp.{resume, tidySpare, tidyWork, tidyTail, andThen, startUpStores, formatStores}
-use Rattle.model.proofs.Chunks.{header-length, Chunked, sound-chunked}
+use Rattle.model.proofs.Chunks.{header-length, Chunked, region-chunked}
 use Rattle.model.proofs.Parts.{Parts, Image, right-parts, parts-blocks, parts-size, parts-region, parts-work, parts-spare}
 use Rattle.model.proofs.Encode.{AllValid, allFF-blank, blank-allFF, encode-length, sound-valid, sound-fits}
 use Rattle.model.proofs.WorkBlock.{work-next, work-last, blank-idle, blank-unused}
 use Rattle.recovery.proofs.Compaction.{spare-last, mul-add-one, record-inside, begin-parts, Opened}
-use Rattle.recovery.proofs.StartingUp.{Ready, block-four, ready-tidy, pending-parts}
+use Rattle.recovery.proofs.StartingUp.{Ready, ready-tidy, pending-parts}
 use Rattle.recovery.proofs.ByteLists.{AllBytewise, bytes-left, bytes-right, region-values, header-bytes, encode-bytes}
 use Rattle.recovery.proofs.Clearing.{Along, along-append, along-run, along-erases, Moves, moves-nowhere, moves-append, moves-run, moves-mark, moves-erases, moves-erase, one-FE, one-FC, one-F8}
 use Rattle.model.proofs.Segments.{erases-segment, length-blank}
@@ -194,7 +194,7 @@ module _ (marks : ℕ → Bool) {b : ℕ} (bare : Bare marks (block * b)) where
         vs = values (entries r)
 
         chunked : Chunked r
-        chunked = sound-chunked r (ap (λ (n : ℕ). n % 4) (p .region-long) ∙ block-four b) sounds
+        chunked = region-chunked b (p .region-long) sounds
 
         go : (t : Bool) → Along marks (cond t [] (compactTo (r ++ (w ++ s)) vs ++ compactOn (r ++ (w ++ s)) vs)) (r ++ (w ++ s))
         go true = tt

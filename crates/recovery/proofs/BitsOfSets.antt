@@ -26,13 +26,12 @@ use Rattle.model.specs.Compact.{compactTo, compactOn}
 use Rattle.model.specs.Set.{make, markState, leftover, entryStores, tailTo, tailOn, deleteTo, fitsTail, putPlan, changePlan}
 use Rattle.model.specs.Answers.{storesOf}
 use Rattle.model.proofs.Stores.{applyAll-append}
-use Rattle.model.proofs.Chunks.{join, AllFramed, entriesOf, Made, made-entries, made-tailAt, made-length, spot, state-byte, Chunked, sound-chunked}
+use Rattle.model.proofs.Chunks.{join, AllFramed, entriesOf, Made, made-entries, made-tailAt, made-length, spot, state-byte, Chunked, region-chunked}
 use Rattle.recovery.proofs.Marks.{Stands, absent, fresh, leftAlone, beside, stands, entry-is}
 use Rattle.model.proofs.Values.{found}
-use Rattle.model.proofs.Encode.{Valid, AllValid, allFF-blank, length-front, length-rest, sound-valid, put-valid}
+use Rattle.model.proofs.Encode.{Valid, AllValid, clean-tail, length-front, length-rest, sound-valid, put-valid}
 use Rattle.model.proofs.Parts.{Parts, parts-size, parts-region}
 use Rattle.recovery.proofs.Compaction.{clean-sound}
-use Rattle.recovery.proofs.StartingUp.{block-four}
 use Rattle.recovery.proofs.ByteLists.{Bytewise, AllBytewise, front-bytes, rest-bytes, region-values, step-bytes}
 use Rattle.recovery.proofs.BitsOfCompaction.{Bare, compaction-along}
 use Rattle.recovery.proofs.Clearing.{Along, along-append, along-run, along-mark, one-7F, one-3F, one-3E, one-3D, one-3C}
@@ -238,21 +237,7 @@ module _ {r t : List ℕ} {cs : List (List ℕ)} (m : Made r cs t) where
           rw (ne-eqb i (at + stateAt) (omega arith)) (go cs (f .1) (at + length c) (omega arith))
 
 pub clean-chunked : {b : ℕ} {r w s : List ℕ} → Parts b r w s → clean r ≡ true → Chunked r
-clean-chunked {b} {r} p h = sound-chunked r (ap (λ (n : ℕ). n % 4) (p .region-long) ∙ block-four b) (clean-sound r h)
-
--- its blank tail
-tail-blank : (r rest : List ℕ) → clean r ≡ true → (i : ℕ) → tailAt r ≤ i → i < length r → getD (r ++ rest) i 0 ≡ 0xFF
-unfolding clean tail
-tail-blank r rest h i l k =
-    let n = tailAt r in
-    let ff : allFF (drop n r) ≡ true = and-split (sound r) (allFF (drop n r)) h .1 in
-    let j : i ≡ n + (i - n) = omega arith in
-    let inside : i - n < length (drop n r) = rw length-drop (omega arith) in
-    List·getD-append r rest 0 i k
-    ∙ ap (λ (j : ℕ). getD r j 0) j
-    ∙ sym (getD-drop n r (i - n) 0)
-    ∙ ap (λ (s : List ℕ). getD s (i - n) 0) (allFF-blank (drop n r) ff)
-    ∙ getD-replicate (length (drop n r)) (i - n) 0xFF 0 inside
+clean-chunked {b} {r} p h = region-chunked b (p .region-long) (clean-sound r h)
 
 -- ---- a set that is accepted
 
@@ -286,7 +271,7 @@ module _ (marks : ℕ → Bool) {b : ℕ} {r w s : List ℕ} (p : Parts b r w s)
       put-along marks img (tailAt r) k (entries r) (entry-stated made (w ++ s) 0x3F k) (entry-stated made (w ++ s) 0x3E k)
       v refl valid bytewise (length r) (omega (arith, leb-true (tailAt r + entrySize v) (length r) fits))
       (λ i h l n. tailed i (rw (parts-region p) h) (rw (parts-size p, ← p .region-long) l) (rw (parts-region p) n))
-      (tail-blank r (w ++ s) cleaned)
+      (clean-tail r (w ++ s) cleaned)
 
   compacted-along : (v : Value) → Putting (r ++ (w ++ s)) v → Bare marks (block * b)
       → Along marks (compactTo (r ++ (w ++ s)) (step (put v) (valuesOf (r ++ (w ++ s)))) ++ compactOn (r ++ (w ++ s)) (step (put v) (valuesOf (r ++ (w ++ s))))) (r ++ (w ++ s))

@@ -22,14 +22,14 @@ use Rattle.model.specs.Stores.{Store}
 use Rattle.model.specs.Compact.{compactTo, compactOn}
 use Rattle.model.specs.Set.{markState, leftover, entryStores, tailTo, tailOn, deleteTo, fitsTail}
 use Rattle.model.proofs.Tests.{and-split, key-refl, true-and}
-use Rattle.model.proofs.Chunks.{entryOf, Made, made-length, made-entries, made-tailAt, made-tail, soundEntries, Chunked, sound-chunked, restated}
+use Rattle.model.proofs.Chunks.{entryOf, Made, made-length, made-entries, made-tailAt, made-tail, soundEntries, Chunked, region-chunked, restated}
 use Rattle.model.proofs.Values.{leftover-marked, add-added}
 use Rattle.recovery.proofs.Cuts.{Goes, goes-nowhere, goes-append, bit-3C}
 use Rattle.model.proofs.Parts.{Parts, parts-region}
 use Rattle.model.proofs.Encode.{Valid, AllValid, Distinct, allFF-blank, blank-allFF, blank-stops, entry-reads, entry-framed, right-value, length-entry}
 use Rattle.recovery.proofs.Invariant.{Holding, region-holds}
 use Rattle.recovery.proofs.Compaction.{clean-sound}
-use Rattle.recovery.proofs.StartingUp.{Ready, block-four, compacted}
+use Rattle.recovery.proofs.StartingUp.{Ready, compacted}
 use Rattle.recovery.proofs.Marks.{State, state-sound, state-entries, Place, mark-goes, delete-goes, Old, noOld, oldAt, prepare}
 use Rattle.recovery.proofs.TailWrite.{ff, ff-length, tailPlace, front-of, size-split, with-tail, write-goes}
 
@@ -180,9 +180,6 @@ chunked-state size r l c = record {
   long = l;
 }
 
-pub region-chunked : (b : ℕ) (r : List ℕ) → length r ≡ block * b → sound r ≡ true → Chunked r
-region-chunked b r l h = sound-chunked r (ap (λ (n : ℕ). n % 4) l ∙ block-four b) h
-
 clean-blank : (r : List ℕ) → clean r ≡ true → tail r ≡ ff (length (tail r))
 unfolding clean
 clean-blank r h = allFF-blank (tail r) (and-split (sound r) (allFF (tail r)) h .1)
@@ -192,7 +189,7 @@ module _ {b : ℕ} {r w s : List ℕ} (p : Parts b r w s) (rested : idle w ≡ t
   K₀ = values (entries r)
 
   pub its-state : State (block * b) r (tail r) (entries r)
-  its-state = chunked-state (block * b) r (p .region-long) (region-chunked b r (p .region-long) (clean-sound r cleaned))
+  its-state = chunked-state (block * b) r (p .region-long) (region-chunked b (p .region-long) (clean-sound r cleaned))
 
   -- no change
   pub nothing-kept : Kept K₀ K₀ [] [] (r ++ (w ++ s))

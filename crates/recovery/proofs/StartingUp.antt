@@ -18,7 +18,7 @@ use Rattle.model.specs.Stores.{Store, blank, applyAll, erases}
 use Rattle.model.specs.Compact.{encode, compactTo, compactOn}
 use Rattle.model.specs.StartUp.{resume, tidySpare, tidyWork, tidyTail, andThen, startUpStores}
 use Rattle.model.proofs.Tests.{and-split, true-and}
-use Rattle.model.proofs.Chunks.{Chunked, sound-chunked}
+use Rattle.model.proofs.Chunks.{Chunked, region-chunked}
 use Rattle.model.proofs.Segments.{length-blank}
 use Rattle.recovery.proofs.Cuts.{Goes, goes-nowhere, goes-append, goes-map, goes-erases, goes-erase}
 use Rattle.model.proofs.Parts.{Parts, parts-blocks, parts-size, parts-right, parts-region, parts-work, parts-spare, right-parts}
@@ -72,10 +72,6 @@ ready-holds img i =
     rw (i .whole, parts-region p) (region-holds (i .b) (i .r) (i .w) (i .s) p (clean-sound (i .r) (i .cleaned)) refl (inl (i .rested)))
 
 -- ---- a compaction, whole: from K to the values vs
-
-pub block-four : (b : ℕ) → (block * b) % 4 ≡ 0
-unfolding block
-block-four b = omega arith
 
 pub record Compacted (K vs : List Value) (img : List ℕ) : Type 0 where
   pub middle : List ℕ
@@ -190,7 +186,7 @@ module _ {b : ℕ} {r w s : List ℕ} (p : Parts b r w s) (rested : idle w ≡ t
   tidied = rw (parts-region p) (go (allFF (tail r)) refl)
     where
       chunked : Chunked r
-      chunked = sound-chunked r (ap (λ (n : ℕ). n % 4) (p .region-long) ∙ block-four b) sounds
+      chunked = region-chunked b (p .region-long) sounds
 
       vs : List Value
       vs = values (entries r)

@@ -32,7 +32,7 @@ use Rattle.model.specs.Answers.{ruleNumber, done, stopped, refused, outcome, im
 use Rattle.model.specs.Book.{Call, set, get, next, startUp, planOf, Sized, entered, counts, bookAfter, Run, begin, ran, cut, StartedUp, Agrees, AgreesAll, Demand3}
 use Rattle.model.proofs.Tests.{or-left, or-right, true-and}
 use Rattle.model.proofs.Stores.{after-all}
-use Rattle.model.proofs.Chunks.{Chunked}
+use Rattle.model.proofs.Chunks.{Chunked, region-chunked}
 use Rattle.model.proofs.Values.{find-standing}
 use Rattle.recovery.proofs.Cuts.{Safe, cut-at}
 use Rattle.model.proofs.Parts.{Parts, parts-region, parts-work, parts-spare, parts-size, parts-right}
@@ -42,7 +42,7 @@ use Rattle.recovery.proofs.Invariant.{Holding, in-spare, in-region}
 use Rattle.recovery.proofs.Compaction.{clean-sound}
 use Rattle.recovery.proofs.StartingUp.{Ready, ready-of, ready-holds, startUp-holding, startUp-any}
 use Rattle.recovery.proofs.Marks.{State}
-use Rattle.recovery.proofs.Sets.{Kept, region-chunked, its-state, nothing-kept, delete-kept, tail-kept, compact-kept}
+use Rattle.recovery.proofs.Sets.{Kept, its-state, nothing-kept, delete-kept, tail-kept, compact-kept}
 
 -- ---- a set that breaks no rule
 
@@ -137,7 +137,7 @@ module _ {b : ℕ} {r w s : List ℕ} (p : Parts b r w s) (rested : idle w ≡ t
   put-plan v valid fits = go (fitsTail r v) refl
     where
       chunked : Chunked r
-      chunked = region-chunked b r (p .region-long) (clean-sound r cleaned)
+      chunked = region-chunked b (p .region-long) (clean-sound r cleaned)
 
       go : (t : Bool) → fitsTail r v ≡ t → PlanKept (put v)
       go true h = record {

@@ -1,4 +1,4 @@
--- The functions of the interface, each by the equations of answer and image in its own contract, and what holds of every list of calls to them.
+-- What a call to a function of the interface has done when it returned, in the word of the functions' own contracts, and what holds of every list of calls to them.
 use Prim.Native.Nat.{ℕ}
 use mathlib.Core.Path.{_≡_}
 use mathlib.Core.List.{List}
@@ -15,8 +15,8 @@ use Rattle.model.specs.StartUp.{startUpPlan}
 use Rattle.model.specs.Answers.{answerOf, outcome, imageAfter, storesOf, decided, getPlan, nextPlan}
 use Rattle.model.specs.Book.{Call, set, get, next, startUp, planOf, Sized, counts, bookAfter}
 
--- A call of the interface has returned: its arguments, n, the image before and after, and the answer. The equations are those of the contracts of
--- `engine::write::set`, `engine::read::get` and `next_name`, which have the image lent shared, and `engine::start::start_up`.
+-- A call of the interface has returned: its arguments, n, the image before and after, and the answer. `engine::write::set`, `engine::read::get` and `next_name`, which
+-- are lent the image shared, and `engine::start::start_up` ensure it of their own arguments, for every input.
 abbrev pub Returned : Call → ℕ → List ℕ → List ℕ → Answer → Type 0
 Returned (set s r) n img img′ a = (answerOf a ≡ outcome n (setPlan s r img)) × (img′ ≡ imageAfter n (setPlan s r img) img)
 Returned (get s k buffer) n img img′ a = (answerOf a ≡ outcome n (getPlan s k buffer img)) × (img′ ≡ img)

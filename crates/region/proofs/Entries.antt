@@ -12,12 +12,13 @@ use lib.Dec.{eqb}
 use lib.Seq.{drop-drop, drop-nil, take-nil}
 use borrow.Author.Tests.{eq-eqb, ne-eqb}
 use Rattle.model.specs.Lists.{part, same}
+use Rattle.model.specs.Name.{keyed}
 use Rattle.model.specs.Entry.{headerFields}
 use Rattle.model.specs.Walk as walk
 use Rattle.model.specs.Region.{isEntry}
 use Rattle.slices.proofs.Same.{same-lengths}
 use Rattle.layout.specs.declared.Entry as numbers
-use Rattle.region.specs.Walk.{entryAt, vendorAt, keyed}
+use Rattle.region.specs.Walk.{entryAt, vendorAt}
 
 part-of : (r : List ℕ) (at i n : ℕ) → part i n (drop at r) ≡ part (at + i) n r
 part-of r at i n = ap (take n) (drop-drop i at r)

@@ -7,13 +7,14 @@ use mathlib.Core.Bool.{Bool, true, false, cond, _&&_}
 use mathlib.Core.List.{List, [], _∷_}
 use lib.ListN.{length}
 use Rattle.model.specs.Lists.{all, any}
+use Rattle.model.specs.Name.{keyed}
 use Rattle.model.specs.Image.{regionHeaderSize}
 use Rattle.model.specs.Walk as walk
 use Rattle.model.specs.Region.{tailAt, knownState, within, rightLive, isEntry, undoubled}
 use Rattle.model.proofs.Walking.{entries-from}
 use Rattle.model.specs.Region.{from}
 use Rattle.layout.specs.declared.Entry as numbers
-use Rattle.region.specs.Walk.{entryAt, vendorAt, keyed}
+use Rattle.region.specs.Walk.{entryAt, vendorAt}
 use Rattle.region.specs.Judge.{liveState, entrySound, entriesSound, doubledIn, scanOf}
 use Rattle.region.specs.declared.Scan.{Scan}
 

@@ -35,10 +35,6 @@ entryAt r at e = walk.placed headerSize readHeader at (headerOf e (drop at r)) (
 unfoldable pub vendorAt : List ℕ → ℕ → List ℕ
 vendorAt r at = headerFields (drop at r) .vendor
 
--- a variable's name and GUID
-abbrev pub keyed : List ℕ → List ℕ → Key
-keyed name vendor = record { name = name; vendor = vendor }
-
 -- by what stands there: f of the entry's numbers, or d
 abbrev pub onHead : {A : Type 0} → Head → (numbers.Entry → A) → A → A
 onHead (Present e) f d = f e

@@ -1,8 +1,9 @@
 // The walk over the entries of a region.
 ghost use mathlib.Core.Path.{_≡_};
 ghost use Prim.Native.Nat.{_+_, _<_, _^_};
+ghost use Rattle.model.specs.Name.{keyed};
 ghost use Rattle.model.specs.Region.{tailAt, isEntry};
-ghost use Rattle.region.specs.Walk.{strideOf, entryAt, vendorAt, keyed, turnOf};
+ghost use Rattle.region.specs.Walk.{strideOf, entryAt, vendorAt, turnOf};
 use crate::Turn;
 use layout::Entry;
 use layout::Head;

@@ -3,6 +3,7 @@ ghost use mathlib.Core.Path.{_≡_};
 ghost use mathlib.Core.Bool.{cond};
 ghost use Prim.Native.Nat.{_≤_, _<_};
 ghost use lib.Dec.{eqb};
+ghost use Rattle.model.specs.Name.{keyed};
 ghost use Rattle.model.specs.Session.{countedPhase, countedReserve, locked};
 ghost use Rattle.model.specs.Answers.{answerOf, lockOutcome, lockSession};
 ghost use Rattle.session.specs.Places.{holds};
@@ -41,7 +42,7 @@ pub fn reserved(phase: u32, reserve: u32) -> u32
 // Whether a place of the lock list holds a name: well formed, and the same name and GUID. A listed name that is not well formed locks nothing.
 fn is_place(locks: &[u8], place: usize, size: usize, name: &[u8], vendor: &[u8]) -> bool
     requires { ⌜ place < 16 ⌝ }
-    ensures { λ r. ⌜ r ≡ holds (now (locks .entry)) place size (record { name = now (name .entry); vendor = now (vendor .entry) }) ⌝ }
+    ensures { λ r. ⌜ r ≡ holds (now (locks .entry)) place size (keyed (now (name .entry)) (now (vendor .entry))) ⌝ }
 {
     let at = 144 * place;
     let listed = slices::cut(locks, at, size);
@@ -57,7 +58,7 @@ fn is_place(locks: &[u8], place: usize, size: usize, name: &[u8], vendor: &[u8])
 
 // Whether a name is locked: one of the places in use holds it. A count above 16 is 16.
 pub fn is_locked(s: Session, name: &[u8], vendor: &[u8; 16]) -> bool
-    ensures { λ r. ⌜ r ≡ locked s (record { name = now (name .entry); vendor = now (vendor .entry) }) ⌝ }
+    ensures { λ r. ⌜ r ≡ locked s (keyed (now (name .entry)) (now (vendor .entry))) ⌝ }
 {
     let sizes = s.sizes;
     let locks = s.locks;
@@ -78,8 +79,8 @@ pub fn is_locked(s: Session, name: &[u8], vendor: &[u8; 16]) -> bool
 // The lock call: rules 3, 15 and 16 in this order; a name already listed is accepted unchanged.
 pub fn lock(s: Session, name: &[u8], vendor: &[u8; 16]) -> Listed
     ensures { λ r.
-        ⌜ (answerOf (r .answer) ≡ lockOutcome s (record { name = now (name .entry); vendor = now (vendor .entry) }))
-        × (r .session ≡ lockSession s (record { name = now (name .entry); vendor = now (vendor .entry) })) ⌝ }
+        ⌜ (answerOf (r .answer) ≡ lockOutcome s (keyed (now (name .entry)) (now (vendor .entry))))
+        × (r .session ≡ lockSession s (keyed (now (name .entry)) (now (vendor .entry)))) ⌝ }
 {
     let named = slices::is_named(name);
     let boot = in_boot(s.phase);

@@ -8,7 +8,7 @@ use mathlib.Core.Path.{_≡_, refl, sym, ap, subst, _∙_}
 use mathlib.Core.Bool.{Bool, true, false}
 use mathlib.Core.List.{List, [], _∷_, _++_}
 use lib.ListN.{length, take, drop, getD, set, length-append, take-append-drop}
-use lib.Seq.{sets, take-suc, take-all, length-take-le, length-sets, set-out}
+use lib.Seq.{sets, sets-eq, take-at, take-suc, take-all, length-take-le, length-sets, set-out}
 use lib.Dec.{leb}
 use borrow.Author.Tests.{leb-true, leb-false}
 use Rattle.text.specs.Text.{Wrote, hexOf}
@@ -71,3 +71,9 @@ pub wrote-hex : (src : List ℕ) (i : ℕ) {at n n′ : ℕ} {l l′ l″ : List
     → Wrote (hexOf (take i src)) at l l′ n → Wrote (hexOf (getD src i 0 ∷ [])) n l′ l″ n′ → Wrote (hexOf (take (i + 1) src)) at l l″ n′
 wrote-hex src i h p q =
     wrote-as (rw (add-one, take-suc src i 0, hex-append)) (wrote-append p q)
+
+-- the front of a buffer that holds the text
+pub wrote-front : {text before after : List ℕ} {next : ℕ} → Wrote text 0 before after next → length text ≤ length before → take next after ≡ text
+wrote-front {text} {before} {after} {next} w h =
+    let n : length text ≡ next = omega (arith, w .place) in
+    ap (take next) (w .buffer ∙ sets-eq text before 0 (omega arith)) ∙ take-at text (drop (0 + length text) before) next n

@@ -7,30 +7,24 @@ use native.Mathlib.Omega.{arith}
 use mathlib.Core.Path.{_≡_, sym, ap, _∙_}
 use mathlib.Core.Bool.{true}
 use mathlib.Core.List.{List, [], _++_}
-use lib.ListN.{length, take, drop, replicate}
-use lib.Seq.{sets-eq, take-at, length-take-le}
+use lib.ListN.{length, take, replicate}
+use lib.Seq.{length-take-le}
 use Rattle.model.specs.Lists.{part}
+use Rattle.model.specs.Name.{keyed}
 use Rattle.model.specs.Image.{block, regionHeader, region}
 use Rattle.model.specs.Entry.{Value}
 use Rattle.model.specs.Region.{entries, values, valuesOf, sound}
 use Rattle.model.specs.Change.{without}
 use Rattle.model.specs.Stores.{Store}
 use Rattle.model.specs.Compact.{joined, encode, nextRecord, fillSpare, finish, compactTo, compactOn}
-use Rattle.model.proofs.Chunks.{Chunked, sound-chunked}
+use Rattle.model.proofs.Chunks.{Chunked, region-chunked}
 use Rattle.model.proofs.Encode.{AllValid, sound-valid, sound-fits}
-use Rattle.region.specs.Walk.{keyed}
 use Rattle.text.specs.Text.{Wrote}
-use Rattle.text.proofs.Writing.{wrote-as, wrote-length}
+use Rattle.text.proofs.Writing.{wrote-as, wrote-length, wrote-front}
 use Rattle.compose.proofs.Carried.{without-unnamed}
 use Rattle.compose.proofs.Encoded.{content-length, encode-content}
 use Rattle.compaction.proofs.Listed.{compact-list}
 use Rattle.tidy.proofs.Stages.{its-blocks, its-size, its-region, region-long}
-
--- the front of a buffer is the text that was written there
-wrote-front : {text before after : List ℕ} {next : ℕ} → Wrote text 0 before after next → length text ≤ length before → take next after ≡ text
-wrote-front {text} {before} {after} {next} w h =
-    let n : length text ≡ next = omega (arith, w .place) in
-    ap (take next) (w .buffer ∙ sets-eq text before 0 (omega arith)) ∙ take-at text (drop (0 + length text) before) next n
 
 -- the header and the values, and the same with FF bytes behind
 abbrev pub content : List ℕ → ℕ → List ℕ
@@ -52,10 +46,7 @@ pub record Composed (img : List ℕ) (b : ℕ) (buffer : List ℕ) (n : ℕ) : T
 
 module _ (img : List ℕ) (b : ℕ) (low : 1 ≤ b) (high : b ≤ 7) (long : length img ≡ block * (2 * b + 1)) (sounds : sound (region img) ≡ true) where
   chunked : Chunked (region img)
-  unfolding block
-  chunked =
-      let n : length (region img) ≡ 4096 * b = region-long img b low high long in
-      sound-chunked (region img) (omega arith) sounds
+  chunked = region-chunked b (region-long img b low high long) sounds
 
   valid : AllValid (valuesOf img)
   unfolding valuesOf

@@ -9,13 +9,14 @@ use mathlib.Core.List.{List, [], _∷_, map}
 use mathlib.Core.Option.{some}
 use borrow.Author.Tests.{eq-eqb, ne-eqb}
 use Rattle.model.specs.Lists.{any, keep, first}
+use Rattle.model.specs.Name.{keyed}
 use Rattle.model.specs.Entry.{Value}
 use Rattle.model.specs.Walk as walk
 use Rattle.model.specs.Region.{entries, isEntry, isValue, values}
 use Rattle.model.proofs.Walking.{entries-from}
 use Rattle.model.specs.Region.{from}
 use Rattle.layout.specs.declared.Entry as numbers
-use Rattle.region.specs.Walk.{entryAt, vendorAt, keyed}
+use Rattle.region.specs.Walk.{entryAt, vendorAt}
 use Rattle.region.proofs.Turns.{Turned}
 use Rattle.values.specs.Found.{foundOf}
 use Rattle.values.specs.declared.Found.{Found}

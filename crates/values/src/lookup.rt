@@ -1,9 +1,10 @@
 // Entries of a region, looked up by name and GUID.
 ghost use mathlib.Core.Path.{_≡_};
 ghost use Rattle.model.specs.Lists.{first};
+ghost use Rattle.model.specs.Name.{keyed};
 ghost use Rattle.model.specs.Region.{entries, isEntry, added, replacing, standing};
 ghost use Rattle.model.specs.Region.{from};
-ghost use Rattle.region.specs.Walk.{entryAt, keyed};
+ghost use Rattle.region.specs.Walk.{entryAt};
 ghost use Rattle.values.specs.Found.{foundOf, elseFound};
 use crate::Found;
 use crate::Places;
@@ -72,6 +73,17 @@ pub fn places(region: &[u8], name: &[u8], vendor: &[u8]) -> Places
             }
         }
         at = next;
+    }
+}
+
+// Of a name's entries the one that holds its value: the 3F entry, else the 3E entry.
+pub fn standing(places: Places) -> Found
+    ensures { λ r. ⌜ r ≡ elseFound (places .added) (places .replacing) ⌝ }
+{
+    let added = places.added;
+    match added {
+        Found::At(_, _) => added,
+        Found::Nothing => places.replacing,
     }
 }
 

@@ -7,7 +7,7 @@ use mathlib.Core.List.{List, [], _++_, append-assoc}
 use mathlib.Core.Option.{Option, none, some}
 use lib.ListN.{length, take, drop, length-append, length-take, length-drop}
 use lib.Seq.{take-all}
-use Rattle.model.specs.Lists.{part, onSome, orElse}
+use Rattle.model.specs.Lists.{part, onSome}
 use Rattle.model.specs.Name.{Key}
 use Rattle.model.specs.Entry.{headerSize, stateAt, Value, keyOf, headerFront, headerRest}
 use Rattle.model.specs.Walk as walk
@@ -20,6 +20,7 @@ use Rattle.values.specs.Found.{foundOf, elseFound}
 use Rattle.values.specs.declared.Found.{Found}
 use Rattle.values.specs.declared.Found.the-variants.{At, Nothing}
 use Rattle.values.specs.declared.Places.{Places}
+use Rattle.values.proofs.Finds.{found-else}
 use Rattle.writes.specs.Listed.{onFound, standingOf, markFound, leftoverOf, removeFound, deleteOf, replaceOf, headOf, writtenOf, retireOf}
 use Rattle.writes.specs.Ready.{Lies}
 
@@ -137,15 +138,11 @@ unfolding removeFound
 remove-some (some e) = refl
 remove-some none = refl
 
-standing-found : (a r : Option walk.Entry) → elseFound (foundOf a) (foundOf r) ≡ foundOf (orElse a r)
-standing-found (some a) r = refl
-standing-found none r = refl
-
 -- what was found of a name is what the entries hold of it
 module _ (places : Places) (k : Key) (es : List walk.Entry) (is-added : places .added ≡ foundOf (added k es)) (is-replacing : places .replacing ≡ foundOf (replacing k es)) where
   pub standing-is : standingOf places ≡ foundOf (standing k es)
   unfolding standing
-  standing-is = ap₂ elseFound is-added is-replacing ∙ standing-found (added k es) (replacing k es)
+  standing-is = ap₂ elseFound is-added is-replacing ∙ sym (found-else (added k es) (replacing k es))
 
   leftover-is : leftoverOf places ≡ leftover k es
   unfolding leftoverOf leftover

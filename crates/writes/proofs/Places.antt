@@ -1,28 +1,27 @@
 -- A clean region with what was found in it is as the stores ask: each entry of the walk lies below the tail, its state stands in its header, and the tail is
 -- blank. The region stands at the image's front, so its offsets are the image's.
 -- Assumes nothing.
-use Prim.Native.Nat.{ℕ, _+_, _*_, _-_, _%_, _≤_, _<_}
+use Prim.Native.Nat.{ℕ, _+_, _≤_, _<_}
 use native.Mathlib.Omega.{arith}
 use mathlib.Core.Path.{_≡_, refl, sym, ap, _∙_, subst}
 use mathlib.Core.Bool.{true}
 use mathlib.Core.List.{List, _++_}
 use mathlib.Core.Option.{Option, none, some}
-use lib.ListN.{length, drop, getD, length-append, length-drop, getD-replicate, List·getD-append}
-use lib.Seq.{getD-drop}
+use lib.ListN.{length, getD, length-append, List·getD-append}
 use lib.Dec.{eqb}
 use borrow.Author.Tests.{eqb-true, leb-true}
 use Rattle.model.specs.Lists.{first, allFF}
 use Rattle.model.specs.Name.{Key, sameKey}
-use Rattle.model.specs.Image.{block, rightLength, region}
+use Rattle.model.specs.Image.{rightLength, region}
 use Rattle.model.specs.Entry.{headerSize, stateAt, Value, entrySize}
 use Rattle.model.specs.Walk.{Entry, stateOf, entryKey}
 use Rattle.model.specs.Region.{entries, tailAt, tail, sound, clean, isEntry, added, replacing}
 use Rattle.model.specs.Set.{fitsTail}
 use Rattle.model.proofs.Tests.{and-split}
 use Rattle.model.proofs.Parts.{Image, right-parts, parts-region}
-use Rattle.model.proofs.Chunks.{Made, made-entries, made-length, made-tailAt, sound-chunked, spot, state-byte}
+use Rattle.model.proofs.Chunks.{Made, made-entries, made-length, made-tailAt, region-chunked, spot, state-byte}
 use Rattle.model.proofs.Values.{found}
-use Rattle.model.proofs.Encode.{allFF-blank}
+use Rattle.model.proofs.Encode.{clean-tail}
 use Rattle.values.specs.Found.{foundOf}
 use Rattle.values.specs.declared.Found.{Found}
 use Rattle.values.specs.declared.Places.{Places}
@@ -53,10 +52,6 @@ module _ {r t : List ℕ} {cs : List (List ℕ)} (m : Made r cs t) (rest : List 
 
 -- ---- of an image
 
-block-four : (b : ℕ) → block * b % 4 ≡ 0
-unfolding block
-block-four b = omega arith
-
 module _ (img : List ℕ) (right : rightLength img ≡ true) (cleaned : clean (region img) ≡ true) where
   abbrev whole : Image img
   whole = right-parts img right
@@ -79,8 +74,7 @@ module _ (img : List ℕ) (right : rightLength img ≡ true) (cleaned : clean (r
   places-ready places k p q =
       let r = region img in
       let sounds = and-split (sound r) (allFF (tail r)) cleaned .0 in
-      let n : length r % 4 ≡ 0 = ap (λ (l : List ℕ). length l % 4) its-region ∙ ap (λ (n : ℕ). n % 4) (whole .parts .region-long) ∙ block-four (whole .b) in
-      let m = sound-chunked r n sounds .made in
+      let m = region-chunked (whole .b) (ap length its-region ∙ whole .parts .region-long) sounds .made in
       let x = found-lies m rest 0x3F k (places .added) (first (isEntry 0x3F k) (entries r)) refl p in
       let y = found-lies m rest 0x3E k (places .replacing) (first (isEntry 0x3E k) (entries r)) refl q in (
         record { added = x .0; replacing = y .0 },
@@ -89,19 +83,7 @@ module _ (img : List ℕ) (right : rightLength img ≡ true) (cleaned : clean (r
 
   -- a byte of the tail
   pub tail-free : (i : ℕ) → tailAt (region img) ≤ i → i < length (region img) → getD img i 0 ≡ 0xFF
-  unfolding clean tail
-  tail-free i l h =
-      let r = region img in
-      let n = tailAt r in
-      let ff : allFF (drop n r) ≡ true = and-split (sound r) (allFF (drop n r)) cleaned .1 in
-      let j : i ≡ n + (i - n) = omega arith in
-      let inside : i - n < length (drop n r) = rw length-drop (omega arith) in
-      ap (λ (x : List ℕ). getD x i 0) split
-      ∙ List·getD-append r rest 0 i h
-      ∙ ap (λ (j : ℕ). getD r j 0) j
-      ∙ sym (getD-drop n r (i - n) 0)
-      ∙ ap (λ (s : List ℕ). getD s (i - n) 0) (allFF-blank (drop n r) ff)
-      ∙ getD-replicate (length (drop n r)) (i - n) 0xFF 0 inside
+  tail-free i l h = ap (λ (x : List ℕ). getD x i 0) split ∙ clean-tail (region img) rest cleaned i l h
 
   -- an entry that fits the tail lies in the image, and its state is still FF
   pub tail-ready : (v : Value) → fitsTail (region img) v ≡ true

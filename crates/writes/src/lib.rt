@@ -9,17 +9,7 @@ ghost use Rattle.writes.specs.Ready.{Fits, States, Differs, Below, State
 use flash::Progress;
 use values::Found;
 use values::Places;
-
-// A name's value: its 3F entry, else its 3E entry.
-pub fn standing(places: Places) -> Found
-    ensures { λ r. ⌜ r ≡ standingOf places ⌝ }
-{
-    let added = places.added;
-    match added {
-        Found::At(_, _) => added,
-        Found::Nothing => places.replacing,
-    }
-}
+use values::lookup;
 
 // The state of an entry becomes v, where one was found.
 fn mark_found(image: &mut [u8], found: Found, v: u8, p: Progress) -> Progress
@@ -106,7 +96,7 @@ fn retire(image: &mut [u8], places: Places, p: Progress) -> Progress
         × (p .made < p .limit → States (now image) 0x3E (standingOf places)) ⌝ }
     ensures { λ r. ⌜ Made (retireOf places) p (now (image .entry)) (now (image .exit)) r ⌝ }
 {
-    let old = standing(places);
+    let old = lookup::standing(places);
     mark_found(image, old, 0x3C, p)
 }
 

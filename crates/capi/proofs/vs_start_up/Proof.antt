@@ -16,7 +16,7 @@ same-length : tie.Need-same-length
 same-length c = search needs
 
 returns : tie.Need-returns
-returns c = let e = c .before .before .before .before .start-up .ensures in (c .numbers .ensures ∙ ap numbersOf (e .0), e .1, e .2)
+returns c = let e = c .before .before .before .before .start-up .ensures in (c .numbers .ensures ∙ ap numbersOf (e .0 .0), e .1, e .0 .1)
 
 pub vs-start-up-spec : {M : Type 1} → statement M
 vs-start-up-spec = tie.close (tie.spec start-up-requires numbers-requires same-length returns)

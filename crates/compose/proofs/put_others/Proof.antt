@@ -6,7 +6,7 @@ use native.Mathlib.Omega.{arith}
 use mathlib.Core.Path.{_≡_, refl, sym, _∙_}
 use lib.ListN.{length}
 use denote.Ref.{now}
-use Rattle.region.specs.Walk.{keyed}
+use Rattle.model.specs.Name.{keyed}
 use Rattle.values.proofs.Stands.{listed-nothing}
 use Rattle.values.proofs.Next.{next-value}
 use Rattle.compose.proofs.Carried.{Carried, carried-none, carried-next, carried-all}

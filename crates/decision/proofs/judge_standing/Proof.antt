@@ -6,11 +6,11 @@ use mathlib.Core.Bool.{Bool}
 use mathlib.Core.List.{List}
 use denote.Ref.{now}
 use Rattle.model.specs.Lists.{isSome}
+use Rattle.model.specs.Name.{keyed}
 use Rattle.model.specs.Region.{entries, standing}
 use Rattle.model.specs.Request.{keyPK}
 use Rattle.model.specs.Session.{atRuntime}
 use Rattle.model.specs.Rules.{firstBroken}
-use Rattle.region.specs.Walk.{keyed}
 use Rattle.policy.specs.Descriptor.{stampOf}
 use Rattle.policy.specs.Verdict.{wantedBy}
 use Rattle.session.proofs.Phases.{runtime-phase}

@@ -2,7 +2,7 @@
 -- Assumes nothing.
 use mathlib.Core.Path.{sym, _∙_}
 use denote.Ref.{now}
-use Rattle.region.specs.Walk.{keyed}
+use Rattle.model.specs.Name.{keyed}
 use Rattle.query.proofs.Seen.{sought-dead, sought-other, sought-named}
 use borrow.Author.Needs.{needs}
 use Rattle.query.proofs.is_sought.Statement.{statement}

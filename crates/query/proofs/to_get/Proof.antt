@@ -7,10 +7,9 @@ use mathlib.Core.Path.{_≡_, sym, ap, _∙_}
 use lib.ListN.{length}
 use denote.Ref.{now}
 use Rattle.model.specs.Lists.{first}
-use Rattle.model.specs.Name.{sameKey}
+use Rattle.model.specs.Name.{keyed, sameKey}
 use Rattle.model.specs.Walk.{entryKey}
 use Rattle.model.specs.Region.{entries}
-use Rattle.region.specs.Walk.{keyed}
 use Rattle.region.proofs.Turns.{turned, stopped}
 use Rattle.query.specs.Query.{entryToGet}
 use Rattle.query.proofs.Seen.{seenFrom, get-from, seen-none, get-here, get-next}

@@ -7,8 +7,8 @@ use mathlib.Core.Path.{_≡_, sym, ap, _∙_}
 use lib.ListN.{length}
 use denote.Ref.{now}
 use mathlib.Core.Bool.{Bool}
+use Rattle.model.specs.Name.{keyed}
 use Rattle.model.specs.Region.{entries}
-use Rattle.region.specs.Walk.{keyed}
 use Rattle.region.proofs.Turns.{turned, stopped}
 use Rattle.query.specs.Query.{goingOn, entryToName}
 use Rattle.query.proofs.Seen.{seenFrom, name-from, seen-none, going-none, name-here, name-next, name-before}

@@ -1,10 +1,9 @@
 -- `decision::rules::user_mode` meets its contract: what is looked up is PK. Assumes nothing.
 use mathlib.Core.Path.{sym, ap, ap₂, _∙_}
 use denote.Ref.{now}
-use Rattle.model.specs.Name.{Key}
+use Rattle.model.specs.Name.{Key, keyed}
 use Rattle.model.specs.Region.{entries, standing}
 use Rattle.model.specs.Request.{keyPK}
-use Rattle.region.specs.Walk.{keyed}
 use Rattle.values.specs.Found.{foundOf}
 use Rattle.decision.specs.Parts.{stands}
 use Rattle.decision.proofs.Old.{found-some}

@@ -2,8 +2,8 @@
 use mathlib.Core.Path.{sym, ap, _∙_}
 use mathlib.Core.Bool.{Bool}
 use denote.Ref.{now}
+use Rattle.model.specs.Name.{keyed}
 use Rattle.model.specs.Request.{keyVerdicts}
-use Rattle.region.specs.Walk.{keyed}
 use Rattle.policy.specs.Verdict.{wantedBy}
 use borrow.Author.Needs.{needs}
 use Rattle.decision.proofs.rules.wanted.Statement.{statement}

@@ -4,9 +4,9 @@ use native.Mathlib.Omega.{arith}
 use mathlib.Core.Path.{sym, ap, refl, _∙_}
 use lib.ListN.{length}
 use denote.Ref.{now}
+use Rattle.model.specs.Name.{keyed}
 use Rattle.model.specs.Region.{entries, values, valuesOf}
 use Rattle.model.specs.Rules.{gotBytes, valueToGet}
-use Rattle.region.specs.Walk.{keyed}
 use Rattle.query.specs.Query.{getAt}
 use Rattle.engine.proofs.Opened.{opens, refuses}
 use Rattle.engine.proofs.Reading.{read-found, read-refused, read-as, region-get, get-answered}

@@ -4,10 +4,11 @@ use native.Mathlib.Omega.{arith}
 use mathlib.Core.Path.{ap}
 use lib.ListN.{length}
 use denote.Ref.{now}
+use Rattle.model.specs.Name.{keyed}
 use Rattle.model.specs.Walk.{entryValue}
 use Rattle.model.specs.Region.{entries, values}
 use Rattle.model.specs.Rules.{gotBytes}
-use Rattle.region.specs.Walk.{entryAt, keyed}
+use Rattle.region.specs.Walk.{entryAt}
 use Rattle.query.specs.Query.{entryToGet, getAt}
 use Rattle.query.proofs.Held.{get-value}
 use Rattle.engine.proofs.Reading.{answered-absent, answered-found, value-found, value-none, entry-attributes, short-data}

@@ -4,9 +4,9 @@ use native.Mathlib.Omega.{arith}
 use mathlib.Core.Path.{sym, ap, refl, _∙_}
 use lib.ListN.{length}
 use denote.Ref.{now}
+use Rattle.model.specs.Name.{keyed}
 use Rattle.model.specs.Region.{entries, values}
 use Rattle.model.specs.Rules.{namedBytes}
-use Rattle.region.specs.Walk.{keyed}
 use Rattle.query.specs.Query.{nameAt}
 use Rattle.engine.specs.Read.{nextAt}
 use Rattle.engine.proofs.Opened.{opens, refuses}

@@ -5,10 +5,11 @@ use mathlib.Core.Path.{ap, ap₂, refl, _∙_}
 use mathlib.Core.List.{_++_}
 use lib.ListN.{length}
 use denote.Ref.{now}
+use Rattle.model.specs.Name.{keyed}
 use Rattle.model.specs.Walk.{entryValue}
 use Rattle.model.specs.Region.{entries, values}
 use Rattle.model.specs.Rules.{namedBytes}
-use Rattle.region.specs.Walk.{entryAt, keyed}
+use Rattle.region.specs.Walk.{entryAt}
 use Rattle.query.specs.Query.{entryToName, nameAt}
 use Rattle.query.proofs.Held.{name-value}
 use Rattle.engine.proofs.Reading.{answered-absent, answered-found, value-found, value-none, entry-vendor, short-name, short-vendor}

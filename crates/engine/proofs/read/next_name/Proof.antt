@@ -1,7 +1,7 @@
 -- `engine::read::next_name` meets its contract: it hands on what `name_behind` answers.
 -- Assumes nothing.
 use denote.Ref.{now}
-use Rattle.region.specs.Walk.{keyed}
+use Rattle.model.specs.Name.{keyed}
 use Rattle.engine.proofs.Reading.{next-answered}
 use borrow.Author.Needs.{needs}
 use Rattle.engine.proofs.read.next_name.Statement.{statement}

@@ -6,9 +6,9 @@ use mathlib.Core.List.{List}
 use denote.Ref.{now}
 use borrow.Author.Needs.{needs}
 use Rattle.model.specs.Lists.{any}
+use Rattle.model.specs.Name.{keyed}
 use Rattle.model.specs.Region.{isEntry}
 use Rattle.model.specs.Region.{from}
-use Rattle.region.specs.Walk.{keyed}
 use Rattle.region.proofs.Scanning.{doubled-live, doubled-dead}
 use Rattle.region.proofs.judge.is_doubled.Statement.{statement}
 use Rattle.region.proofs.judge.is_doubled.Tie as tie

@@ -8,9 +8,9 @@ use lib.ListN.{length}
 use denote.Ref.{now}
 use borrow.Author.Needs.{needs}
 use Rattle.model.specs.Lists.{first}
+use Rattle.model.specs.Name.{keyed}
 use Rattle.model.specs.Region.{isEntry}
 use Rattle.model.specs.Region.{from}
-use Rattle.region.specs.Walk.{keyed}
 use Rattle.region.proofs.Turns.{turned, stopped}
 use Rattle.values.specs.Found.{foundOf}
 use Rattle.values.proofs.Finds.{found-none, found-here, found-next}

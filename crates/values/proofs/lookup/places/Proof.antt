@@ -8,9 +8,10 @@ use lib.ListN.{length}
 use denote.Ref.{now}
 use borrow.Author.Needs.{needs}
 use Rattle.model.specs.Lists.{first}
+use Rattle.model.specs.Name.{keyed}
 use Rattle.model.specs.Region.{entries, isEntry, added, replacing}
 use Rattle.model.specs.Region.{from}
-use Rattle.region.specs.Walk.{entryAt, keyed}
+use Rattle.region.specs.Walk.{entryAt}
 use Rattle.region.proofs.Turns.{turned, stopped}
 use Rattle.values.specs.Found.{foundOf, elseFound}
 use Rattle.values.proofs.Finds.{found-hit, found-miss, else-none, one-state}
