@@ -38,6 +38,7 @@ fn before_stamp(state: u8, attributes: u32) -> [u8; 16]
     ensures { λ r. ⌜ r ≡ beforeStamp state attributes ⌝ }
 {
     let a = bytes32(attributes as usize);
+    let count: u8 = 0;
     [
         0xAA,
         0x55,
@@ -47,14 +48,14 @@ fn before_stamp(state: u8, attributes: u32) -> [u8; 16]
         a[1],
         a[2],
         a[3],
-        0,
-        0,
-        0,
-        0,
-        0,
-        0,
-        0,
-        0,
+        count,
+        count,
+        count,
+        count,
+        count,
+        count,
+        count,
+        count,
     ]
 }
 

@@ -32,7 +32,7 @@ fn tidy_up(c: Context, image: &mut [u8], b: usize) -> Answer
     let p = flash::begin(c.limit);
     let spared = tidy::tidy_spare(image, b, p);
     let rested = tidy::tidy_work(image, b, spared);
-    if rested.limit < rested.made {
+    if flash::is_stopped(rested) {
         return Answer::Stopped;
     }
     flash::answer(tidy::tidy_tail(image, b, rested))

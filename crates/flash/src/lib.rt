@@ -5,7 +5,7 @@ ghost use mathlib.Core.List.{[], _∷_};
 ghost use mathlib.Core.Logic.{_⊎_};
 ghost use Prim.Native.Nat.{_+_, _*_, _-_, _^_, _≤_, _<_, min};
 ghost use lib.ListN.{length, getD, replicate};
-ghost use lib.Dec.{leb};
+ghost use lib.Dec.{leb, ltb};
 ghost use Rattle.model.specs.Lists.{part};
 ghost use Rattle.model.specs.Image.{block};
 ghost use Rattle.model.specs.Stores.{byte, erase, apply, run, erases, difference};
@@ -13,10 +13,11 @@ ghost use Rattle.model.specs.Answers.{done, stopped, answerOf};
 ghost use Rattle.flash.specs.Made.{Made, begun, more};
 use model::Answer;
 
-// Progress of a call's stores: how many were asked for so far, also past the limit, and the limit n.
+// Progress of a call's stores: how many were asked for so far, also past the limit, and the limit n. Only this crate reads them: what a function elsewhere asks to be stored, and in
+// which order, cannot go by the stores that are left, so that n only ends a call's stores.
 pub struct Progress {
-    pub made: u64,
-    pub limit: u64,
+    made: u64,
+    limit: u64,
 }
 
 // Before a call's first store.
@@ -168,6 +169,13 @@ pub fn mark(image: &mut [u8], at: usize, new: u8, p: Progress) -> Progress
         }
     }
     marked
+}
+
+// Whether a store was asked for past the limit: no more are made then.
+pub fn is_stopped(p: Progress) -> bool
+    ensures { λ r. ⌜ r ≡ ltb (p .limit) (p .made) ⌝ }
+{
+    p.limit < p.made
 }
 
 // The answer of a call that asked for all its stores: "stopped exactly if its list of stores is longer than n".

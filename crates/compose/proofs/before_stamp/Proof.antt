@@ -9,17 +9,17 @@ use Rattle.compose.proofs.before_stamp.Tie as tie
 bytes32-requires : tie.Need-bytes32-requires
 bytes32-requires c κs = search needs
 
-array-read-t8 : tie.Need-array-read-t8
-array-read-t8 c = search needs
+array-read-t9 : tie.Need-array-read-t9
+array-read-t9 c = search needs
 
-array-read-t11 : tie.Need-array-read-t11
-array-read-t11 c = search needs
+array-read-t12 : tie.Need-array-read-t12
+array-read-t12 c = search needs
 
-array-read-t14 : tie.Need-array-read-t14
-array-read-t14 c = search needs
+array-read-t15 : tie.Need-array-read-t15
+array-read-t15 c = search needs
 
-array-read-t17 : tie.Need-array-read-t17
-array-read-t17 c = search needs
+array-read-t18 : tie.Need-array-read-t18
+array-read-t18 c = search needs
 
 returns : tie.Need-returns
 unfolding beforeStamp headerFront
@@ -28,4 +28,4 @@ returns c = rw (c .bytes32 .ensures)
 pub before-stamp-spec : {M : Type 1} → statement M
 before-stamp-spec =
     tie.close
-    (tie.spec bytes32-requires array-read-t8 array-read-t11 array-read-t14 array-read-t17 returns)
+    (tie.spec bytes32-requires array-read-t9 array-read-t12 array-read-t15 array-read-t18 returns)
