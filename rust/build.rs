@@ -5,10 +5,6 @@ use std::path::{Path, PathBuf};
 fn main() {
     println!("cargo:rerun-if-changed=build.rs");
     println!("cargo:rerun-if-env-changed=VARSTORE_LIB");
-    let wanted = ["READ", "WRITE", "STARTUP"].iter().any(|call| env::var_os(format!("CARGO_FEATURE_{call}")).is_some());
-    if !wanted {
-        return;
-    }
     let folder = env::var_os("VARSTORE_LIB")
         .map(PathBuf::from)
         .unwrap_or_else(|| Path::new(&env::var_os("CARGO_MANIFEST_DIR").unwrap()).join("../target/staticlib"));

@@ -1,5 +1,6 @@
 //! Both implementations as tables of calls, so that tests and benchmarks run on either.
 
+use crate::engine;
 use crate::interface::{Answer, Checked, Context, Key, Listed, Reply, Request, Session, Started};
 use crate::paper;
 
@@ -34,43 +35,18 @@ pub const PAPER: Calls = Calls {
     start_up: paper::start_up,
 };
 
-/// The engine's calls; those that are switched off are the paper's.
-mod linked {
-    #[cfg(feature = "startup")]
-    pub use crate::engine::start_up;
-    #[cfg(feature = "read")]
-    pub use crate::engine::{check, get, lock, next_name, phase, session_new};
-    #[cfg(feature = "write")]
-    pub use crate::engine::{format, set};
-    #[cfg(not(feature = "startup"))]
-    pub use crate::paper::start_up;
-    #[cfg(not(feature = "read"))]
-    pub use crate::paper::{check, get, lock, next_name, phase, session_new};
-    #[cfg(not(feature = "write"))]
-    pub use crate::paper::{format, set};
-}
-
 pub const ENGINE: Calls = Calls {
     who: "engine",
-    check: linked::check,
-    session_new: linked::session_new,
-    phase: linked::phase,
-    lock: linked::lock,
-    get: linked::get,
-    next_name: linked::next_name,
-    set: linked::set,
-    format: linked::format,
-    start_up: linked::start_up,
+    check: engine::check,
+    session_new: engine::session_new,
+    phase: engine::phase,
+    lock: engine::lock,
+    get: engine::get,
+    next_name: engine::next_name,
+    set: engine::set,
+    format: engine::format,
+    start_up: engine::start_up,
 };
 
-/// Whether any call is the engine's own.
-pub const LINKED: bool = cfg!(any(feature = "read", feature = "write", feature = "startup"));
-
-/// The implementations to try: the paper's, and the engine's where it is linked.
-pub fn implementations() -> &'static [Calls] {
-    if LINKED {
-        &[PAPER, ENGINE]
-    } else {
-        &[PAPER]
-    }
-}
+/// Both, for what is to hold of either.
+pub const BOTH: [Calls; 2] = [PAPER, ENGINE];

@@ -1,6 +1,6 @@
 //! The proved engine behind the same calls as `paper`: the declarations of `c/varstore.h`, and thin wrappers over them. All unsafe code is here.
 
-use crate::interface::{Answer, Rule};
+use crate::interface::{Answer, Checked, Context, Guid, Key, Listed, Reply, Request, Rule, Session, Started};
 
 /// The C structures that are not part of the interface as they stand.
 #[derive(Clone, Copy)]
@@ -22,132 +22,98 @@ impl RawAnswer {
     }
 }
 
-#[cfg(feature = "read")]
-pub use reading::{check, get, lock, next_name, phase, session_new};
+#[repr(C)]
+struct RawReply {
+    answer: RawAnswer,
+    size: u32,
+    attributes: u32,
+    needed: u32,
+}
 
-#[cfg(feature = "read")]
-mod reading {
-    use super::RawAnswer;
-    use crate::interface::{Checked, Context, Guid, Key, Listed, Reply, Session};
+#[repr(C)]
+struct RawListed {
+    answer: RawAnswer,
+    session: Session,
+}
 
-    #[repr(C)]
-    struct RawReply {
-        answer: RawAnswer,
-        size: u32,
-        attributes: u32,
-        needed: u32,
-    }
+#[repr(C)]
+struct RawChecked {
+    answer: RawAnswer,
+    blocks: u32,
+    tail: u32,
+}
 
-    #[repr(C)]
-    struct RawListed {
-        answer: RawAnswer,
-        session: Session,
-    }
+#[repr(C)]
+struct RawStarted {
+    answer: RawAnswer,
+    session: Session,
+}
 
-    #[repr(C)]
-    struct RawChecked {
-        answer: RawAnswer,
-        blocks: u32,
-        tail: u32,
-    }
+#[rustfmt::skip]
+extern "C" {
+    fn vs_check(image: *const u8, image_len: usize) -> RawChecked;
+    fn vs_session_new(custom: u32, reserve: u32) -> Session;
+    fn vs_phase(session: Session, phase: u32) -> Session;
+    fn vs_lock(session: Session, name: *const u8, name_len: usize, vendor: *const Guid) -> RawListed;
+    fn vs_get(context: Context, session: Session, image: *const u8, image_len: usize, name: *const u8, name_len: usize,
+              vendor: *const Guid, buffer: *mut u8, buffer_len: usize) -> RawReply;
+    fn vs_next_name(context: Context, session: Session, image: *const u8, image_len: usize, name: *const u8, name_len: usize,
+                    vendor: *const Guid, buffer: *mut u8, buffer_len: usize) -> RawReply;
+    fn vs_set(context: Context, session: Session, image: *mut u8, image_len: usize, name: *const u8, name_len: usize,
+              vendor: *const Guid, attributes: u32, data: *const u8, data_len: usize, presence: u32, verdict: u32) -> RawAnswer;
+    fn vs_format(context: Context, image: *mut u8, image_len: usize) -> RawAnswer;
+    fn vs_start_up(context: Context, image: *mut u8, image_len: usize, custom: u32, reserve: u32) -> RawStarted;
+}
 
-    #[rustfmt::skip]
-    extern "C" {
-        fn vs_check(image: *const u8, image_len: usize) -> RawChecked;
-        fn vs_session_new(custom: u32, reserve: u32) -> Session;
-        fn vs_phase(session: Session, phase: u32) -> Session;
-        fn vs_lock(session: Session, name: *const u8, name_len: usize, vendor: *const Guid) -> RawListed;
-        fn vs_get(context: Context, session: Session, image: *const u8, image_len: usize, name: *const u8, name_len: usize,
-                  vendor: *const Guid, buffer: *mut u8, buffer_len: usize) -> RawReply;
-        fn vs_next_name(context: Context, session: Session, image: *const u8, image_len: usize, name: *const u8, name_len: usize,
-                        vendor: *const Guid, buffer: *mut u8, buffer_len: usize) -> RawReply;
-    }
-
-    impl RawReply {
-        fn reply(self) -> Reply {
-            Reply { answer: self.answer.answer(), size: self.size, attributes: self.attributes, needed: self.needed }
-        }
-    }
-
-    pub fn check(image: &[u8]) -> Checked {
-        let raw = unsafe { vs_check(image.as_ptr(), image.len()) };
-        Checked { answer: raw.answer.answer(), blocks: raw.blocks, tail: raw.tail }
-    }
-
-    pub fn session_new(custom: u32, reserve: u32) -> Session {
-        unsafe { vs_session_new(custom, reserve) }
-    }
-
-    pub fn phase(session: Session, to: u32) -> Session {
-        unsafe { vs_phase(session, to) }
-    }
-
-    pub fn lock(session: Session, key: Key) -> Listed {
-        let raw = unsafe { vs_lock(session, key.name.as_ptr(), key.name.len(), key.vendor) };
-        Listed { answer: raw.answer.answer(), session: raw.session }
-    }
-
-    pub fn get(context: Context, session: &Session, image: &[u8], key: Key, buffer: &mut [u8]) -> Reply {
-        let (name, size) = (key.name.as_ptr(), key.name.len());
-        let (front, length) = (buffer.as_mut_ptr(), buffer.len());
-        unsafe { vs_get(context, *session, image.as_ptr(), image.len(), name, size, key.vendor, front, length) }.reply()
-    }
-
-    pub fn next_name(context: Context, session: &Session, image: &[u8], key: Key, buffer: &mut [u8]) -> Reply {
-        let (name, size) = (key.name.as_ptr(), key.name.len());
-        let (front, length) = (buffer.as_mut_ptr(), buffer.len());
-        unsafe { vs_next_name(context, *session, image.as_ptr(), image.len(), name, size, key.vendor, front, length) }.reply()
+impl RawReply {
+    fn reply(self) -> Reply {
+        Reply { answer: self.answer.answer(), size: self.size, attributes: self.attributes, needed: self.needed }
     }
 }
 
-#[cfg(feature = "write")]
-pub use writing::{format, set};
-
-#[cfg(feature = "write")]
-mod writing {
-    use super::RawAnswer;
-    use crate::interface::{Answer, Context, Guid, Request, Session};
-
-    #[rustfmt::skip]
-    extern "C" {
-        fn vs_set(context: Context, session: Session, image: *mut u8, image_len: usize, name: *const u8, name_len: usize,
-                  vendor: *const Guid, attributes: u32, data: *const u8, data_len: usize, presence: u32, verdict: u32) -> RawAnswer;
-        fn vs_format(context: Context, image: *mut u8, image_len: usize) -> RawAnswer;
-    }
-
-    pub fn set(context: Context, session: &Session, image: &mut [u8], request: &Request) -> Answer {
-        let Request { key, attributes, data, presence, verdict } = *request;
-        let (name, size) = (key.name.as_ptr(), key.name.len());
-        let (bytes, length) = (data.as_ptr(), data.len());
-        let (first, whole) = (image.as_mut_ptr(), image.len());
-        unsafe { vs_set(context, *session, first, whole, name, size, key.vendor, attributes, bytes, length, presence, verdict) }.answer()
-    }
-
-    pub fn format(context: Context, image: &mut [u8]) -> Answer {
-        unsafe { vs_format(context, image.as_mut_ptr(), image.len()) }.answer()
-    }
+pub fn check(image: &[u8]) -> Checked {
+    let raw = unsafe { vs_check(image.as_ptr(), image.len()) };
+    Checked { answer: raw.answer.answer(), blocks: raw.blocks, tail: raw.tail }
 }
 
-#[cfg(feature = "startup")]
-pub use starting::start_up;
+pub fn session_new(custom: u32, reserve: u32) -> Session {
+    unsafe { vs_session_new(custom, reserve) }
+}
 
-#[cfg(feature = "startup")]
-mod starting {
-    use super::RawAnswer;
-    use crate::interface::{Context, Session, Started};
+pub fn phase(session: Session, to: u32) -> Session {
+    unsafe { vs_phase(session, to) }
+}
 
-    #[repr(C)]
-    struct RawStarted {
-        answer: RawAnswer,
-        session: Session,
-    }
+pub fn lock(session: Session, key: Key) -> Listed {
+    let raw = unsafe { vs_lock(session, key.name.as_ptr(), key.name.len(), key.vendor) };
+    Listed { answer: raw.answer.answer(), session: raw.session }
+}
 
-    extern "C" {
-        fn vs_start_up(context: Context, image: *mut u8, image_len: usize, custom: u32, reserve: u32) -> RawStarted;
-    }
+pub fn get(context: Context, session: &Session, image: &[u8], key: Key, buffer: &mut [u8]) -> Reply {
+    let (name, size) = (key.name.as_ptr(), key.name.len());
+    let (front, length) = (buffer.as_mut_ptr(), buffer.len());
+    unsafe { vs_get(context, *session, image.as_ptr(), image.len(), name, size, key.vendor, front, length) }.reply()
+}
 
-    pub fn start_up(context: Context, image: &mut [u8], custom: u32, reserve: u32) -> Started {
-        let raw = unsafe { vs_start_up(context, image.as_mut_ptr(), image.len(), custom, reserve) };
-        Started { answer: raw.answer.answer(), session: raw.session }
-    }
+pub fn next_name(context: Context, session: &Session, image: &[u8], key: Key, buffer: &mut [u8]) -> Reply {
+    let (name, size) = (key.name.as_ptr(), key.name.len());
+    let (front, length) = (buffer.as_mut_ptr(), buffer.len());
+    unsafe { vs_next_name(context, *session, image.as_ptr(), image.len(), name, size, key.vendor, front, length) }.reply()
+}
+
+pub fn set(context: Context, session: &Session, image: &mut [u8], request: &Request) -> Answer {
+    let Request { key, attributes, data, presence, verdict } = *request;
+    let (name, size) = (key.name.as_ptr(), key.name.len());
+    let (bytes, length) = (data.as_ptr(), data.len());
+    let (first, whole) = (image.as_mut_ptr(), image.len());
+    unsafe { vs_set(context, *session, first, whole, name, size, key.vendor, attributes, bytes, length, presence, verdict) }.answer()
+}
+
+pub fn format(context: Context, image: &mut [u8]) -> Answer {
+    unsafe { vs_format(context, image.as_mut_ptr(), image.len()) }.answer()
+}
+
+pub fn start_up(context: Context, image: &mut [u8], custom: u32, reserve: u32) -> Started {
+    let raw = unsafe { vs_start_up(context, image.as_mut_ptr(), image.len(), custom, reserve) };
+    Started { answer: raw.answer.answer(), session: raw.session }
 }

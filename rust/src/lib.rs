@@ -2,8 +2,6 @@
 //! library. Tests compare the two call by call.
 
 pub mod calls;
+pub mod engine;
 pub mod interface;
 pub mod paper;
-
-#[cfg(any(feature = "read", feature = "write", feature = "startup"))]
-pub mod engine;

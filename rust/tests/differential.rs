@@ -11,7 +11,7 @@ use std::collections::BTreeMap;
 use common::generate::{self, Asked, Name, BLOCK};
 use common::random::Random;
 use common::same_bytes;
-use varstore::calls::{Read, ENGINE, LINKED, PAPER};
+use varstore::calls::{Read, ENGINE, PAPER};
 use varstore::interface::{Answer, Context, Reply, Session};
 use varstore::paper;
 
@@ -153,11 +153,10 @@ fn same_session(ours: &Session, theirs: &Session) {
     same_bytes("lock list", &ours.locks, &theirs.locks);
 }
 
-/// Runs a round again and again, with 4 seconds for it; without the engine, briefly.
+/// Runs a round again and again, with 4 seconds for it.
 fn rounds(round: fn(&mut Random, &mut Tally)) -> Tally {
     let mut tally = Tally::new();
-    let seconds = if LINKED { 4 } else { 1 };
-    let rounds = common::rounds::rounds(seconds, |r| round(r, &mut tally));
+    let rounds = common::rounds::rounds(4, |r| round(r, &mut tally));
     let calls: usize = tally.values().sum();
     println!("{calls} calls in {rounds} rounds: {tally:?}");
     tally

@@ -13,7 +13,7 @@ use common::generate::{self, Asked, Name, BLOCK};
 use common::random::Random;
 use common::rounds::{once, rounds, soak};
 use common::{same_bytes, signed};
-use varstore::calls::{ENGINE, LINKED, PAPER};
+use varstore::calls::{ENGINE, PAPER};
 use varstore::interface::{Answer, Context, Guid, Key, Rule};
 use varstore::paper::request::PK;
 
@@ -492,7 +492,7 @@ fn kind(what: &'static str, answer: Answer) -> &'static str {
 #[test]
 fn any_call_of_a_run() {
     let mut tally = Tally::new();
-    rounds(if LINKED { 15 } else { 5 }, |r| {
+    rounds(15, |r| {
         let (image, blocks) = some_image(r);
         let mut former = generate::filled(r, blocks);
         (PAPER.start_up)(Context::NO_LIMIT, &mut former, 0, 0);

@@ -15,7 +15,7 @@ use std::path::Path;
 use std::process::{Command, Stdio};
 
 use common::digest::{crc32, sha256};
-use varstore::calls::{implementations, Calls, LINKED};
+use varstore::calls::{Calls, BOTH};
 use varstore::interface::{Answer, Context, Guid, Key, Reply, Request, Rule, Session};
 use varstore::paper::{self, Stores};
 
@@ -167,9 +167,7 @@ impl Bench {
     fn varlist(&mut self, line: &Line) {
         let written = |text: &str| text.replace(' ', "_").replace('\n', "|");
         line.expect("text", &written(&paper::varlist(&self.image)));
-        if let Some(text) = varlist_program(&self.image) {
-            line.expect("text", &written(&text));
-        }
+        line.expect("text", &written(&varlist_program(&self.image)));
     }
 
     fn expect_state(&self, line: &Line) {
@@ -218,23 +216,21 @@ fn expect_list(line: &Line, answer: Answer, list: Result<Stores, Rule>) {
     }
 }
 
-/// What the built program `varlist` prints, where there is one.
-fn varlist_program(image: &[u8]) -> Option<String> {
+/// What the built program `varlist` prints.
+fn varlist_program(image: &[u8]) -> String {
     let program = Path::new(env!("CARGO_MANIFEST_DIR")).join("../target/bin/varlist");
-    if !LINKED || !program.exists() {
-        return None;
-    }
+    assert!(program.exists(), "run `rt check varlist` first: {} is missing", program.display());
     let mut child = Command::new(program).stdin(Stdio::piped()).stdout(Stdio::piped()).spawn().expect("varlist starts");
     // A program that refuses the length may close its input early.
     let _ = child.stdin.take().expect("piped").write_all(image);
     let output = child.wait_with_output().expect("varlist ends");
-    Some(String::from_utf8(output.stdout).expect("varlist prints text"))
+    String::from_utf8(output.stdout).expect("varlist prints text")
 }
 
 fn run_file(name: &str) {
     let path = Path::new(env!("CARGO_MANIFEST_DIR")).join("vectors").join(name);
     let text = std::fs::read_to_string(&path).unwrap_or_else(|error| panic!("{}: {error}", path.display()));
-    for &calls in implementations() {
+    for calls in BOTH {
         let mut bench = Bench::new(calls);
         for (index, content) in text.lines().enumerate() {
             bench.run(&Line::new(format!("{} on vectors/{name}:{}", calls.who, index + 1), content));

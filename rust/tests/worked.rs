@@ -3,7 +3,7 @@
 mod common;
 
 use common::signed;
-use varstore::calls::{implementations, Calls};
+use varstore::calls::{Calls, BOTH};
 use varstore::interface::{Answer, Context, Guid, Key, Reply, Request, Rule, Session, AFTER_END_OF_DXE, RUNTIME};
 use varstore::paper::{self, request};
 
@@ -29,7 +29,7 @@ struct Station {
 }
 
 fn empty_stores() -> impl Iterator<Item = Station> {
-    implementations().iter().map(|&calls| {
+    BOTH.into_iter().map(|calls| {
         println!("implementation: {}", calls.who);
         let mut image = vec![0; 3 * 4096];
         assert_eq!((calls.format)(Context::NO_LIMIT, &mut image), Answer::Done(31));

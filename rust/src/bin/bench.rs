@@ -9,7 +9,7 @@ use std::env;
 use std::hint::black_box;
 use std::time::{Duration, Instant};
 
-use varstore::calls::{Calls, ENGINE, LINKED, PAPER};
+use varstore::calls::{Calls, ENGINE, PAPER};
 use varstore::interface::{Answer, Context, Guid, Key, Request, Rule, Session};
 use varstore::paper::entry::{self, Contents, GONE, STATE};
 use varstore::paper::region;
@@ -176,9 +176,6 @@ fn wall() {
         case.check();
         let [engine, paper] = case.best().map(|time| time.as_secs_f64() * 1e6);
         println!("{:<30}{engine:>12.2}{paper:>12.2}{:>8.2}", case.name, engine / paper);
-    }
-    if !LINKED {
-        println!("the engine is not linked: both sides are the paper's implementation");
     }
 }
 
