@@ -1,6 +1,6 @@
 # make test: the gate. Every step's output is printed; the last line is rt ci's own tally, and the exit status is non-zero if any step failed.
 .SILENT:
-.PHONY: demo test check fmt lib host host-test rust-test soak bench
+.PHONY: demo test check fmt lib host host-test stack rust-test soak bench
 
 CC = cc
 CFLAGS = -std=c11 -O2 -Wall -Wextra -Werror
@@ -24,8 +24,12 @@ demo:
 lib:
 	rt staticlib capi
 
+# for those who begin with another target than lib
+$(LIB):
+	rt staticlib capi
+
 # the host that a firmware engineer can start from
-host:
+host: $(LIB)
 	$(CC) $(CFLAGS) c/host.c $(LIB) -o target/host
 
 host-test: host
@@ -33,16 +37,21 @@ host-test: host
 	target/host >>target/host.out
 	cmp target/host.out c/host.expected
 
+# how much stack the calls take
+stack: $(LIB)
+	$(CC) $(CFLAGS) c/stack.c $(LIB) -o target/stack
+	target/stack
+
 # the second implementation, and its comparison with the engine
-rust-test:
+rust-test: $(LIB)
 	$(CARGO) test --release --manifest-path rust/Cargo.toml
 
-# power cuts for ten minutes (SOAK=seconds for another time)
-soak:
+# every random power-cut test for ten minutes (SOAK=seconds for another time), and a cut at every store of the others
+soak: $(LIB)
 	SOAK=$${SOAK:-600} $(CARGO) test --release --manifest-path rust/Cargo.toml --test power_cuts -- --nocapture
 
 # the engine against the second implementation: time and instruction counts, as ratios
-bench:
+bench: $(LIB)
 	$(CARGO) build --release --manifest-path rust/Cargo.toml
 	tools/bench
 

@@ -1,16 +1,13 @@
 -- An answer and a check, told in numbers: by the case of the answer, and by what the check found.
 -- Assumes nothing.
 use Prim.Native.Nat.{ℕ}
-use mathlib.Core.Path.{_≡_, refl, sym, ap, _∙_}
+use mathlib.Core.Path.{_≡_, refl}
 use mathlib.Core.List.{List}
-use mathlib.Core.Option.{Option, some, none}
 use Rattle.model.specs.declared.Rule.{Rule}
 use Rattle.model.specs.declared.Answer.{Answer}
 use Rattle.model.specs.declared.Answer.the-variants.{Done, Stopped, Refused}
-use Rattle.model.specs.Image.{blocks, region}
-use Rattle.model.specs.Region.{tailAt}
-use Rattle.model.specs.Rules.{firstBroken, imageRules}
-use Rattle.model.specs.Answers.{answerOf, ruleNumber, done, refused}
+use Rattle.model.specs.Image.{blocks}
+use Rattle.model.specs.Answers.{answerOf, ruleNumber}
 use Rattle.image.specs.Check.{callOf}
 use Rattle.image.specs.declared.Check.the-variants as call
 use Rattle.image.proofs.Ready.{refused-rule, is-ready}

@@ -8,13 +8,12 @@ use native.Mathlib.Omega.{arith}
 use mathlib.Core.Path.{_≡_, refl, sym, ap, _∙_}
 use mathlib.Core.Bool.{Bool, true, false, not, cond, _&&_, false≢true}
 use mathlib.Core.List.{List, [], _∷_, _++_, map, append-assoc, append-nil}
-use lib.ListN.{length, take, drop, length-take, drop-of-length-le}
-use lib.Seq.{drop-drop, drop-nil, take-nil}
+use lib.ListN.{length, drop, length-take}
 use lib.Dec.{leb}
 use borrow.Author.Tests.{eq-eqb}
 use Rattle.model.specs.Lists.{part, same, all, keep, among}
 use Rattle.model.specs.Name.{Key, keyed, sameKey, zeroEnded, wellNamed}
-use Rattle.model.specs.Entry.{rounded, headerFields, Value, keyOf, entrySize, entryBytes}
+use Rattle.model.specs.Entry.{rounded, Value, keyOf, entrySize, entryBytes}
 use Rattle.model.specs.Walk as walk
 use Rattle.model.specs.Region.{entries, live, rightHeader, knownState, within, rightLive, isEntry, undoubled, sound, isValue, values, storedAttributes, maxData}
 use Rattle.model.specs.Change.{without}
@@ -22,8 +21,8 @@ use Rattle.model.specs.Compact.{joined}
 use Rattle.model.proofs.Tests.{and-split}
 use Rattle.model.proofs.Encode.{value-live}
 use Rattle.layout.specs.declared.Entry as numbers
-use Rattle.region.specs.Walk.{entryAt, vendorAt}
-use Rattle.region.proofs.Entries.{vendor as vendor-part}
+use Rattle.region.specs.Walk.{entryAt, stampAt, vendorAt}
+use Rattle.region.proofs.Entries.{stamp as stamp-part, vendor as vendor-part}
 use Rattle.values.proofs.Listed.{listed, listed-all}
 use Rattle.values.proofs.Sizes.{lengths}
 use Rattle.values.proofs.Next.{Next}
@@ -31,26 +30,18 @@ use Rattle.text.specs.Text.{Wrote}
 use Rattle.text.proofs.Writing.{wrote-none, wrote-append, wrote-as}
 use Rattle.compose.proofs.Headers.{entry-short}
 
--- ---- an entry's stamp, and its value by what is read of it
-
-pub stamp-part : (r : List ℕ) (at : ℕ) → part (at + 16) 16 r ≡ headerFields (drop at r) .stamp
-unfolding headerFields
-stamp-part r at = ap (take 16) (sym (drop-drop 16 at r))
-
-pub stamp-past : (r : List ℕ) (at : ℕ) → length r ≤ at → [] ≡ headerFields (drop at r) .stamp
-unfolding headerFields
-stamp-past r at h = rw (drop-of-length-le r h, drop-nil 16, take-nil 16)
+-- ---- an entry's value by what is read of it
 
 part-short : (r : List ℕ) (i n : ℕ) → length (part i n r) ≤ n
 part-short r i n = rw (length-take n (drop i r)) (min-le-left n (length (drop i r)))
 
 module _ (r : List ℕ) (a : ℕ) (e : numbers.Entry) {stamp name vendor bytes : List ℕ}
-    (s : stamp ≡ headerFields (drop a r) .stamp) (n : name ≡ entryAt r a e .name) (v : vendor ≡ vendorAt r a) (b : bytes ≡ entryAt r a e .bytes) where
+    (s : stamp ≡ stampAt r a) (n : name ≡ entryAt r a e .name) (v : vendor ≡ vendorAt r a) (b : bytes ≡ entryAt r a e .bytes) where
   abbrev read : Value
   read = record { name = name; vendor = vendor; attributes = e .attributes; stamp = stamp; bytes = bytes }
 
   pub entry-value : entryBytes 0x3F read ≡ entryBytes 0x3F (walk.entryValue (entryAt r a e))
-  unfolding entryAt walk.placed vendorAt
+  unfolding entryAt walk.placed stampAt vendorAt
   entry-value = rw (s, n, v, b)
 
   -- and how long its parts can be
@@ -66,7 +57,7 @@ module _ (r : List ℕ) (a : ℕ) (e : numbers.Entry) {stamp name vendor bytes :
       let l = lengths r a e in
       let k = ap length n in
       let d = ap length b in
-      let ms : length stamp ≤ 16 = rw (s, ← stamp-part r a) (part-short r (a + 16) 16) in
+      let ms : length stamp ≤ 16 = rw (s, stamp-part r a) (part-short r (a + 16) 16) in
       let mv : length vendor ≤ 16 = rw (v, vendor-part r a) (part-short r (a + 44) 16) in
       record {
         stamp-short = ms;

@@ -3,11 +3,11 @@
 ghost use mathlib.Core.Path.{_≡_};
 ghost use Prim.Native.Nat.{_+_, _-_, _^_, _<_, _≤_};
 ghost use mathlib.Core.List.{[], _∷_, _++_};
-ghost use lib.ListN.{length, replicate, drop};
+ghost use lib.ListN.{length, replicate};
 ghost use Rattle.model.specs.Lists.{bytes32};
 ghost use Rattle.model.specs.Name.{keyed};
 ghost use Rattle.model.specs.Image.{regionHeader};
-ghost use Rattle.model.specs.Entry.{rounded, headerFields, entrySize, entryBytes};
+ghost use Rattle.model.specs.Entry.{rounded, entrySize, entryBytes};
 ghost use Rattle.model.specs.Walk.{entryValue};
 ghost use Rattle.model.specs.Region.{entries, values};
 ghost use Rattle.model.specs.Change.{without};
@@ -144,22 +144,12 @@ pub fn put_entry(
     put_padding(out, next, 60 + name.len() + bytes.len())
 }
 
-// The time stamp of the entry at an offset.
-fn stamp_of(region: &[u8], at: usize) -> &[u8]
-    ensures { λ r. ⌜ now r ≡ headerFields (drop at (now (region .entry))) .stamp ⌝ }
-{
-    if region.len() < at {
-        return &region[..0];
-    }
-    slices::cut(region, at + 16, 16)
-}
-
 // The entry of a value that is carried over: its stamp is kept.
 fn put_value(out: &mut [u8], at: usize, region: &[u8], place: usize, e: Entry) -> usize
     requires { ⌜ (at < 2 ^ 62) × (length (now region) ≤ 28672) ⌝ }
     ensures { λ r. ⌜ Wrote (entryBytes 0x3F (entryValue (entryAt (now (region .entry)) place e))) at (now (out .entry)) (now (out .exit)) r × (r ≤ at + entrySize (entryValue (entryAt (now (region .entry)) place e))) ⌝ }
 {
-    let stamp = stamp_of(region, place);
+    let stamp = walk::stamp_of(region, place);
     let name = walk::name_of(region, place, e);
     let vendor = walk::vendor_of(region, place);
     let data = lookup::data_of(region, place, e);

@@ -9,17 +9,17 @@ use mathlib.Core.Bool.{Bool, true, false, cond, _||_}
 use mathlib.Core.List.{List, _++_, append-assoc}
 use mathlib.Core.Option.{Option, none, some}
 use lib.ListN.{length}
-use borrow.Author.Tests.{ltb-false, not-false}
+use borrow.Author.Tests.{ltb-false}
 use Rattle.model.specs.declared.Session.{Session}
 use Rattle.model.specs.declared.Rule.{Rule}
-use Rattle.model.specs.Lists.{isSome, onSome, orElse}
+use Rattle.model.specs.Lists.{onSome, orElse}
 use Rattle.model.specs.Image.{regionSize}
 use Rattle.model.specs.Entry.{Value}
 use Rattle.model.specs.Region.{maxData, valuesOf, find}
 use Rattle.model.specs.Session.{reserved}
 use Rattle.model.specs.Request.{Request, requestKey}
 use Rattle.model.specs.Change.{Change, nothing, remove, put, deletes, emptyAppend, equalTo, newValue, changeOf, changeIn, step, spaceOf}
-use Rattle.model.specs.Rules.{firstBroken, rule11, rule12, rule13, removesAbsent, imageRules, requestRules, standingRules, resultRules, roomRules, setBroken}
+use Rattle.model.specs.Rules.{firstBroken, rule12, rule13, imageRules, requestRules, standingRules, resultRules, roomRules, setBroken}
 use Rattle.model.proofs.Requests.{broken-append, unbroken}
 use Rattle.decision.specs.declared.Decision.{Decision}
 use Rattle.decision.specs.declared.Decision.the-variants.{Nothing, Remove, Put}
@@ -104,12 +104,6 @@ module _ (s : Session) (q : Request) (size : ℕ) (vs : List Value) where
   pub remove-change : decisionOf s q size vs ≡ Remove → changeIn q vs ≡ remove (requestKey q)
   unfolding changeIn
   remove-change h = kind-remove q (find (requestKey q) vs) (unbroken-rules Remove refl h .1)
-
-  pub remove-stands : decisionOf s q size vs ≡ Remove → isSome (find (requestKey q) vs) ≡ true
-  unfolding requestRules standingRules resultRules rule11 removesAbsent
-  remove-stands h =
-      let t : rule11 q vs ≡ false = unbroken _ 8 (unbroken-rules Remove refl h .0) in
-      not-false (isSome (find (requestKey q) vs)) (rw (remove-change h) at t)
 
   -- the value to put
   abbrev pub new : Value

@@ -24,8 +24,7 @@ use Rattle.model.specs.Rules.{firstBroken, rule3, rule4, rule5, rule6, rule7Ove
 use Rattle.model.proofs.Requests.{broken-append}
 use Rattle.model.proofs.Chunks.{sound-parts}
 use Rattle.model.proofs.Encode as encode
-use Rattle.layout.specs.declared.Entry as numbers
-use Rattle.region.specs.Walk.{entryAt}
+use Rattle.region.specs.Walk.{entryAt, stampAt}
 use Rattle.values.specs.Found.{foundOf}
 use Rattle.values.specs.declared.Found.{Found}
 use Rattle.values.specs.declared.Found.the-variants as found
@@ -37,7 +36,7 @@ use Rattle.policy.proofs.Plain.{rule7-plain, rule8-plain, proper-plain, stamp-p
 use Rattle.decision.specs.declared.Decision.{Decision}
 use Rattle.decision.specs.declared.Decision.the-variants.{Broken, Nothing, Remove, Put}
 use Rattle.decision.specs.Decision.{requestOf, kindOf, decided, decisionOf}
-use Rattle.decision.specs.Parts.{onFound, valueAt, stands, standingBy, stampAt, notLater, verdictBy, equalBy, kindBy, newSize, oldSpace, roomBy, resultBy, outcomeBy}
+use Rattle.decision.specs.Parts.{onFound, valueAt, stands, standingBy, notLater, verdictBy, equalBy, kindBy, newSize, oldSpace, roomBy, resultBy, outcomeBy}
 use Rattle.decision.proofs.Broken.{fourth-broken}
 use Rattle.decision.proofs.Old.{stands-some, old-value, mode-standing, stamp-read}
 use Rattle.decision.proofs.Space.{sizeOf, put-space, room-shift}

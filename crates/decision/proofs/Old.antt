@@ -5,10 +5,10 @@ use Prim.Native.Nat.{ℕ, _+_, _≤_}
 use native.Mathlib.Omega.{arith}
 use mathlib.Core.Path.{_≡_, refl, sym, ap, _∙_}
 use mathlib.Core.Bool.{true}
-use mathlib.Core.List.{List, []}
+use mathlib.Core.List.{List}
 use mathlib.Core.Option.{Option, none, some}
-use lib.ListN.{length, take, drop, length-take, length-drop, drop-of-length-le}
-use lib.Seq.{take-all, drop-drop}
+use lib.ListN.{length, drop, length-take, length-drop}
+use lib.Seq.{take-all}
 use Rattle.model.specs.Lists.{isSome, onSome, part}
 use Rattle.model.specs.Name.{Key}
 use Rattle.model.specs.Entry.{headerSize, headerFields}
@@ -18,6 +18,7 @@ use Rattle.model.specs.Request.{keyPK, userMode}
 use Rattle.model.proofs.Chunks.{soundEntries, sound-parts}
 use Rattle.model.proofs.Values.{find-standing}
 use Rattle.layout.specs.declared.Entry as numbers
+use Rattle.region.specs.Walk.{stampAt}
 use Rattle.values.specs.Found.{foundOf}
 use Rattle.values.specs.declared.Found.{Found}
 use Rattle.values.specs.declared.Found.the-variants.{At, Nothing}
@@ -25,7 +26,7 @@ use Rattle.values.proofs.Sizes.{lengths}
 use Rattle.values.proofs.Stands.{standing-stands, nothing-first}
 use Rattle.policy.specs.Descriptor.{stampIn}
 use Rattle.policy.proofs.Descriptor.{stamp-whole}
-use Rattle.decision.specs.Parts.{valueAt, stands, stampAt, oldSpace}
+use Rattle.decision.specs.Parts.{valueAt, stands, oldSpace}
 
 pub stands-some : (r : List ℕ) (old : Found) → stands old ≡ isSome (valueAt r old)
 stands-some r (At at e) = refl
@@ -64,15 +65,6 @@ stamp-read r k at e h =
     let long : 16 ≤ length (part 16 16 (drop at r)) = simp (length-take, length-drop) (omega arith) in
     let short : length (part 16 16 (drop at r)) ≤ 16 = simp (length-take, length-drop) (omega arith) in
     stamp-whole (part 16 16 (drop at r)) long ∙ take-all 16 (part 16 16 (drop at r)) short
-
--- the stamp of an entry as a part of the region
-pub stamp-part : (r : List ℕ) (at : ℕ) → stampAt r at ≡ part (at + 16) 16 r
-unfolding stampAt headerFields
-stamp-part r at = ap (take 16) (drop-drop 16 at r)
-
-pub stamp-past : (r : List ℕ) (at : ℕ) → length r ≤ at → stampAt r at ≡ []
-unfolding stampAt headerFields
-stamp-past r at h = rw (drop-of-length-le r h)
 
 -- an entry takes no more than the region and its header
 pub old-least : (r : List ℕ) (old : Found) → oldSpace r old ≤ length r + 63

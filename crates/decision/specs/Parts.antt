@@ -3,18 +3,18 @@ use Prim.Native.Nat.{ℕ, _+_}
 use mathlib.Core.Bool.{Bool, true, false, not, cond, _&&_, _||_}
 use mathlib.Core.List.{List, [], _∷_}
 use mathlib.Core.Option.{Option, none, some}
-use lib.ListN.{length, drop}
+use lib.ListN.{length}
 use lib.Dec.{ltb}
 use Rattle.model.specs.declared.Rule.{Rule}
 use Rattle.model.specs.declared.Rule.the-variants.{Standing, Descriptor, Verdict, Stamp, Absent, DataSize, Room}
 use Rattle.model.specs.Lists.{isEmpty}
-use Rattle.model.specs.Entry.{Value, headerSize, headerFields, rounded, entrySize}
+use Rattle.model.specs.Entry.{Value, headerSize, rounded, entrySize}
 use Rattle.model.specs.Walk.{entryValue}
 use Rattle.model.specs.Region.{maxData, entries, values}
 use Rattle.model.specs.Request.{appends, later}
 use Rattle.model.specs.Change.{spaceOf}
 use Rattle.layout.specs.declared.Entry as numbers
-use Rattle.region.specs.Walk.{entryAt}
+use Rattle.region.specs.Walk.{entryAt, stampAt}
 use Rattle.values.specs.declared.Found.{Found}
 use Rattle.values.specs.declared.Found.the-variants as found
 use Rattle.policy.specs.Rules.{rule7Of, rule8Of}
@@ -48,10 +48,6 @@ stands old = onFound old (λ at e. true) false
 unfoldable pub standingBy : Bool → ℕ → List ℕ → Found → List (Rule × Bool)
 standingBy runtime a bytes old =
     (Standing, onFound old (λ at e. rule7Of runtime a (e .attributes)) false) ∷ (Descriptor, rule8Of a bytes) ∷ []
-
--- the stamp of the entry at an offset
-unfoldable pub stampAt : List ℕ → ℕ → List ℕ
-stampAt r at = headerFields (drop at r) .stamp
 
 -- the stamp is not later than that of the value that stands
 unfoldable pub notLater : List ℕ → Found → List ℕ → Bool

@@ -10,12 +10,13 @@ ghost use Rattle.model.specs.Rules.{firstBroken, requestRules};
 ghost use Rattle.policy.specs.Rules.{rule7Of};
 ghost use Rattle.policy.specs.Verdict.{verdictsOf, wantedBy};
 ghost use Rattle.decision.specs.Decision.{requestOf};
-ghost use Rattle.decision.specs.Parts.{judgedOf, onFound, standingBy, stampAt, notLater, verdictBy};
+ghost use Rattle.decision.specs.Parts.{judgedOf, onFound, standingBy, notLater, verdictBy};
 use crate::Judged;
 use layout::fixed;
 use model::Rule;
 use model::Session;
 use policy::Wanted;
+use region::walk;
 use values::Found;
 use values::lookup;
 
@@ -99,23 +100,13 @@ pub fn wanted(
     policy::other_verdicts(attributes, stands)
 }
 
-// The stamp of the entry at an offset.
-fn stamp_of(region: &[u8], at: usize) -> &[u8]
-    ensures { λ r. ⌜ now r ≡ stampAt (now (region .entry)) at ⌝ }
-{
-    if region.len() < at {
-        return &region[..0];
-    }
-    slices::cut(region, at + 16, 16)
-}
-
 // Whether the stamp is not later than that of the value that stands.
 fn not_later(region: &[u8], old: Found, stamp: &[u8; 16]) -> bool
     ensures { λ r. ⌜ r ≡ notLater (now (region .entry)) old (now (stamp .entry)) ⌝ }
 {
     match old {
         Found::At(at, _) => {
-            let own = policy::stamp_in(stamp_of(region, at));
+            let own = policy::stamp_in(walk::stamp_of(region, at));
             !policy::later(stamp, &own)
         }
         Found::Nothing => false,

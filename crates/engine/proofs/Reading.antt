@@ -18,7 +18,7 @@ use Rattle.model.specs.Walk.{Entry, entryValue, placed}
 use Rattle.model.specs.Region.{entries, values, valuesOf}
 use Rattle.model.specs.Session.{countedPhase, atRuntime}
 use Rattle.model.specs.Rules.{firstBroken, rule3, rule3Next, rule11Read, rule14, seen, valueToGet, valueToName, gotBytes, getBroken, nextBroken}
-use Rattle.model.specs.Answers.{ruleNumber, refusal, written, answerOf, done, refused, outcome, getReply, nextReply, getPlan, nextPlan}
+use Rattle.model.specs.Answers.{ruleNumber, refusal, written, done, refused, outcome, getReply, nextReply, getPlan, nextPlan}
 use Rattle.model.specs.Book as book
 use Rattle.recovery.specs.Interface.{Returned}
 use Rattle.model.specs.Set.{refuse, make}

@@ -46,10 +46,6 @@ made-past s p img h =
     let e : p .limit - p .made ≡ 0 = omega arith in
     record { made = refl; limit = refl; image = rw e (sym (after-none (s ∷ []) img)) }
 
--- past the limit the image stays
-pub made-stopped : {ss : List Store} {p q : Progress} {i j : List ℕ} → p .limit ≤ p .made → Made ss p i j q → j ≡ i
-made-stopped {ss} {p} {q} {i} h m = let e : p .limit - p .made ≡ 0 = omega arith in m .image ∙ rw e (after-none ss i)
-
 -- within the limit all are made
 pub made-all : {ss : List Store} {p q : Progress} {i j : List ℕ} → p .made + length ss ≤ p .limit → Made ss p i j q → j ≡ applyAll ss i
 made-all {ss} {p} {q} {i} h m = m .image ∙ after-all (p .limit - p .made) ss i (omega arith)

@@ -11,7 +11,7 @@ use Rattle.model.specs.Entry.{Value}
 use Rattle.model.specs.Walk.{Entry, entryKey, entryValue}
 use Rattle.model.specs.Region.{isValue, values, find}
 use Rattle.model.specs.Request.{runtimeAccess}
-use Rattle.model.specs.Rules.{following, seen, valueToGet, valueToName}
+use Rattle.model.specs.Rules.{following, seen, valueToGet}
 use Rattle.model.specs.Session.{atRuntime}
 use Rattle.model.specs.declared.Session.{Session}
 use Rattle.query.specs.Query.{seenAt, isSeen, entryToGet, entryFollowing, entryToName, getAt, nameAt}
@@ -83,7 +83,3 @@ name-value runtime k es = go (same (k .name) emptyName)
 pub session-get : (s : Session) (k : Key) (vs : List Value) → getAt (atRuntime s) k vs ≡ valueToGet s k vs
 unfolding getAt seenAt valueToGet seen
 session-get s k vs = refl
-
-pub session-name : (s : Session) (k : Key) (vs : List Value) → nameAt (atRuntime s) k vs ≡ valueToName s k vs
-unfolding nameAt seenAt valueToName seen
-session-name s k vs = refl

@@ -1,7 +1,7 @@
 -- A set that breaks no rule, however cut: the values before hold up to its deciding store, the values after the change from there on; done, it leaves the image ready.
 -- In the tail by marks and a write, a delete by marks, otherwise by a compaction with the change folded in.
 -- Assumes nothing.
-use Prim.Native.Nat.{ℕ, _+_, _*_, _-_, _%_, _≤_}
+use Prim.Native.Nat.{ℕ, _+_, _*_, _-_, _≤_}
 use native.Mathlib.Omega.{arith}
 use mathlib.Core.Path.{_≡_, refl, sym, ap, _∙_, subst}
 use mathlib.Core.Logic.{inl}

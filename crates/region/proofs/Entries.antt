@@ -18,7 +18,7 @@ use Rattle.model.specs.Walk as walk
 use Rattle.model.specs.Region.{isEntry}
 use Rattle.slices.proofs.Same.{same-lengths}
 use Rattle.layout.specs.declared.Entry as numbers
-use Rattle.region.specs.Walk.{entryAt, vendorAt}
+use Rattle.region.specs.Walk.{entryAt, stampAt, vendorAt}
 
 part-of : (r : List ℕ) (at i n : ℕ) → part i n (drop at r) ≡ part (at + i) n r
 part-of r at i n = ap (take n) (drop-drop i at r)
@@ -37,6 +37,14 @@ named r at e h = rw (ne-eqb (e .state) 0xFF h) (part-of r at 60 (e .name))
 pub name-past : (r : List ℕ) (at : ℕ) (e : numbers.Entry) → e .state ≢ 0xFF → length r ≤ at → entryAt r at e .name ≡ []
 unfolding entryAt walk.placed
 name-past r at e h k = rw (ne-eqb (e .state) 0xFF h) (part-past r at 60 (e .name) k)
+
+pub stamp : (r : List ℕ) (at : ℕ) → stampAt r at ≡ part (at + 16) 16 r
+unfolding stampAt headerFields
+stamp r at = part-of r at 16 16
+
+pub stamp-past : (r : List ℕ) (at : ℕ) → length r ≤ at → stampAt r at ≡ []
+unfolding stampAt headerFields
+stamp-past r at k = part-past r at 16 16 k
 
 pub vendor : (r : List ℕ) (at : ℕ) → vendorAt r at ≡ part (at + 44) 16 r
 unfolding vendorAt headerFields

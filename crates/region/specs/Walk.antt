@@ -2,7 +2,6 @@
 use Prim.Native.Nat.{ℕ, _+_}
 use mathlib.Core.List.{List, []}
 use lib.ListN.{drop}
-use Rattle.model.specs.Name.{Key}
 use Rattle.model.specs.Entry.{Header, headerSize, headerFields, readHeader}
 use Rattle.model.specs.Walk as walk
 use Rattle.layout.specs.Head.{headOf}
@@ -31,7 +30,11 @@ strideOf e = walk.stride headerSize readHeader (headerOf e [])
 unfoldable pub entryAt : List ℕ → ℕ → numbers.Entry → walk.Entry
 entryAt r at e = walk.placed headerSize readHeader at (headerOf e (drop at r)) (drop at r)
 
--- the GUID of the entry at an offset
+-- the stamp of the entry at an offset
+unfoldable pub stampAt : List ℕ → ℕ → List ℕ
+stampAt r at = headerFields (drop at r) .stamp
+
+-- its GUID
 unfoldable pub vendorAt : List ℕ → ℕ → List ℕ
 vendorAt r at = headerFields (drop at r) .vendor
 

@@ -3,7 +3,7 @@ ghost use mathlib.Core.Path.{_≡_};
 ghost use Prim.Native.Nat.{_+_, _<_, _^_};
 ghost use Rattle.model.specs.Name.{keyed};
 ghost use Rattle.model.specs.Region.{tailAt, isEntry};
-ghost use Rattle.region.specs.Walk.{strideOf, entryAt, vendorAt, turnOf};
+ghost use Rattle.region.specs.Walk.{strideOf, entryAt, stampAt, vendorAt, turnOf};
 use crate::Turn;
 use layout::Entry;
 use layout::Head;
@@ -59,7 +59,17 @@ pub fn name_of(region: &[u8], at: usize, e: Entry) -> &[u8]
     slices::cut(region, at + 60, e.name as usize)
 }
 
-// The GUID of the entry at an offset.
+// The stamp of the entry at an offset.
+pub fn stamp_of(region: &[u8], at: usize) -> &[u8]
+    ensures { λ r. ⌜ now r ≡ stampAt (now (region .entry)) at ⌝ }
+{
+    if region.len() < at {
+        return &region[..0];
+    }
+    slices::cut(region, at + 16, 16)
+}
+
+// Its GUID.
 pub fn vendor_of(region: &[u8], at: usize) -> &[u8]
     ensures { λ r. ⌜ now r ≡ vendorAt (now (region .entry)) at ⌝ }
 {

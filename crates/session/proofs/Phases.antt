@@ -4,11 +4,11 @@
 use Prim.Native.Nat.{ℕ, min}
 use native.Mathlib.Omega.{arith}
 use mathlib.Core.Path.{_≡_, refl}
-use mathlib.Core.Bool.{Bool, true, false, not, cond}
+use mathlib.Core.Bool.{Bool, true, false, cond}
 use lib.Dec.{eqb, leb}
 use borrow.Author.Tests.{eq-eqb, ne-eqb, eqb-true, eqb-false, leb-true, leb-false}
 use Rattle.model.specs.declared.Session.{Session}
-use Rattle.model.specs.Session.{countedPhase, countedReserve, inBoot, atRuntime, customMode, reserved}
+use Rattle.model.specs.Session.{countedPhase, countedReserve, inBoot, atRuntime, reserved}
 
 pub boot-phase : (s : Session) → inBoot s ≡ eqb (countedPhase (s .phase)) 0
 unfolding inBoot
@@ -17,10 +17,6 @@ boot-phase s = refl
 pub runtime-phase : (s : Session) → atRuntime s ≡ eqb (countedPhase (s .phase)) 2
 unfolding atRuntime
 runtime-phase s = refl
-
-pub custom-number : (s : Session) → customMode s ≡ not (eqb (s .custom) 0)
-unfolding customMode
-custom-number s = refl
 
 pub reserved-numbers : (s : Session) → reserved s ≡ cond (eqb (countedPhase (s .phase)) 2) (countedReserve (s .reserve)) 0
 unfolding reserved atRuntime

@@ -1,6 +1,5 @@
 // Byte slices: compared, cut, tested.
 ghost use mathlib.Core.Path.{_≡_};
-ghost use lib.ListN.{length};
 ghost use Rattle.model.specs.Lists.{same, part, allFF};
 ghost use Rattle.model.specs.Name.{wellNamed};
 

@@ -2,10 +2,9 @@
 -- Assumes nothing.
 use Prim.Native.Nat.{ℕ}
 use native.Mathlib.Omega.{arith}
-use mathlib.Core.Path.{_≡_, ap}
+use mathlib.Core.Path.{ap}
 use lib.ListN.{length}
 use denote.Ref.{now}
-use Rattle.model.specs.Region.{entries, values}
 use Rattle.text.proofs.Writing.{wrote-append, wrote-as}
 use Rattle.report.specs.Varlist.{summaryLine}
 use Rattle.values.proofs.Next.{few-values}

@@ -1,7 +1,7 @@
 -- `slices::is_named` meets its contract. The loop's invariant: the name is zero-ended just if its characters from `i` on are. Assumes nothing.
-use Prim.Native.Nat.{ℕ, _+_, _-_, _≤_}
+use Prim.Native.Nat.{_+_, _-_, _≤_}
 use native.Mathlib.Omega.{arith}
-use mathlib.Core.Path.{_≡_, refl, sym, _∙_}
+use mathlib.Core.Path.{_≡_, sym, _∙_}
 use mathlib.Core.Logic.{⊎-elim}
 use lib.ListN.{length, drop, getD}
 use denote.Ref.{now}

@@ -1,10 +1,9 @@
 -- `text::put_hex` meets its contract: after i turns the text of the first i bytes is written.
 -- Assumes nothing.
-use Prim.Native.Nat.{ℕ, _+_, _*_, _-_, _≤_}
+use Prim.Native.Nat.{_+_, _*_, _-_, _≤_}
 use native.Mathlib.Omega.{arith}
 use mathlib.Core.Path.{_≡_, refl, ap, _∙_}
-use mathlib.Core.List.{[], _∷_}
-use lib.ListN.{length, take, getD}
+use lib.ListN.{length, take}
 use lib.Seq.{take-all}
 use Rattle.text.specs.Text.{Wrote, hexOf}
 use Rattle.text.proofs.Writing.{wrote-none, wrote-as, wrote-hex}

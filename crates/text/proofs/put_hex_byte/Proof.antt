@@ -3,7 +3,7 @@
 use Prim.Native.Nat.{ℕ}
 use mathlib.Core.Path.{ap}
 use mathlib.Core.List.{[], _∷_}
-use Rattle.text.specs.Text.{Wrote, digit, hexOf}
+use Rattle.text.specs.Text.{digit, hexOf}
 use Rattle.text.proofs.Writing.{wrote-append, wrote-as}
 use borrow.Author.Needs.{needs}
 use Rattle.text.proofs.put_hex_byte.Statement.{statement}

@@ -1,7 +1,7 @@
 -- `cases::fields::bytes` meets its contract: of a part of n bytes there are at most n. Assumes nothing.
 use native.Mathlib.Nat.{min-le-left}
 use denote.Ref.{now}
-use lib.ListN.{length, take, drop, length-take}
+use lib.ListN.{length, drop, length-take}
 use borrow.Author.Needs.{needs}
 use Rattle.cases.proofs.fields.bytes.Statement.{statement}
 use Rattle.cases.proofs.fields.bytes.Tie as tie

@@ -5,7 +5,6 @@ use mathlib.Core.Path.{sym}
 use denote.Ref.{now}
 use lib.ListN.{length}
 use lib.Seq.{length-take-le}
-use borrow.Author.Needs.{needs}
 use Rattle.cases.proofs.fields.least.Statement.{statement}
 use Rattle.cases.proofs.fields.least.Tie as tie
 

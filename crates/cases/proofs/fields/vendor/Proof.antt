@@ -1,8 +1,7 @@
 -- `cases::fields::vendor` ends and stays within the sixteen bytes. Assumes nothing.
 use Prim.Native.Nat.{_≤_, _-_}
-use native.Mathlib.Omega.{arith}
-use mathlib.Core.Path.{_≡_, _∙_}
-use lib.ListN.{length, length-set}
+use mathlib.Core.Path.{_≡_}
+use lib.ListN.{length}
 use borrow.Author.Needs.{needs}
 use Rattle.cases.proofs.fields.vendor.Statement.{statement}
 use Rattle.cases.proofs.fields.vendor.Tie as tie

@@ -1,5 +1,5 @@
 -- `layout::fixed::is_database` meets its contract: the three keys have one vendor, so it is compared once. Assumes nothing.
-use mathlib.Core.Path.{_≡_, sym, ap, _∙_}
+use mathlib.Core.Path.{sym, ap, _∙_}
 use denote.Ref.{now}
 use Rattle.model.specs.Lists.{same}
 use Rattle.model.specs.Request.{keydb, keydbx, keydbt, isDatabase}

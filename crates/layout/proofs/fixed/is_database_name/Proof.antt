@@ -1,5 +1,5 @@
 -- `layout::fixed::is_database_name` meets its contract: the first name that is the same decides. Assumes nothing.
-use mathlib.Core.Path.{_≡_, sym, ap, _∙_}
+use mathlib.Core.Path.{sym, ap, _∙_}
 use denote.Ref.{now}
 use Rattle.model.specs.Lists.{same}
 use borrow.Author.Needs.{needs}

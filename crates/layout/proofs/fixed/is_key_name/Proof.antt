@@ -1,5 +1,5 @@
 -- `layout::fixed::is_key_name` meets its contract: PK, KEK and the databases are asked in turn. Assumes nothing.
-use mathlib.Core.Path.{_≡_, sym, _∙_}
+use mathlib.Core.Path.{sym, _∙_}
 use Rattle.model.specs.Request.{isKeyName}
 use borrow.Author.Needs.{needs}
 use Rattle.layout.proofs.fixed.is_key_name.Statement.{statement}

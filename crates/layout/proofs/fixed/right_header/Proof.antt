@@ -1,5 +1,5 @@
 -- `layout::fixed::right_header` meets its contract: the first 28 bytes are compared with the header of the region's length. Assumes nothing.
-use mathlib.Core.Path.{_≡_, ap₂, _∙_}
+use mathlib.Core.Path.{ap₂, _∙_}
 use Rattle.model.specs.Lists.{same}
 use Rattle.model.specs.Region.{rightHeader}
 use borrow.Author.Needs.{needs}
