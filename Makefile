@@ -46,13 +46,12 @@ stack: $(LIB)
 rust-test: $(LIB)
 	$(CARGO) test --release --manifest-path rust/Cargo.toml
 
-# every random power-cut test for ten minutes (SOAK=seconds for another time), and a cut at every store of the others
+# each of the four random power-cut tests for ten minutes (SOAK=seconds for another time)
 soak: $(LIB)
 	SOAK=$${SOAK:-600} $(CARGO) test --release --manifest-path rust/Cargo.toml --test power_cuts -- --nocapture
 
 # the engine against the second implementation: time and instruction counts, as ratios
 bench: $(LIB)
-	$(CARGO) build --release --manifest-path rust/Cargo.toml
 	tools/bench
 
 # prove what has changed, and run the programs

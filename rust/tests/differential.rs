@@ -8,6 +8,7 @@ mod common;
 
 use std::collections::BTreeMap;
 
+use common::cuts::places;
 use common::generate::{self, Asked, Name, BLOCK};
 use common::random::Random;
 use common::same_bytes;
@@ -112,7 +113,7 @@ impl Pair<'_> {
     fn set_with_stops(&mut self, r: &mut Random, asked: &Asked) {
         let before = self.image.clone();
         if let Ok(list) = paper::set_stores(&self.session, &self.image, &asked.request()) {
-            for limit in limits(r, &list, BLOCK) {
+            for limit in limits(r, &list) {
                 self.image.copy_from_slice(&before);
                 self.set(asked, limit);
             }
@@ -124,7 +125,7 @@ impl Pair<'_> {
     fn start_up_with_stops(&mut self, r: &mut Random) {
         let before = self.image.clone();
         if let Ok(list) = paper::start_up_stores(&self.image) {
-            for limit in limits(r, &list, BLOCK) {
+            for limit in limits(r, &list) {
                 self.image.copy_from_slice(&before);
                 self.start_up(limit, 0, 0);
             }
@@ -134,17 +135,8 @@ impl Pair<'_> {
     }
 }
 
-fn limits(r: &mut Random, list: &paper::Stores, block: usize) -> Vec<u64> {
-    let length = list.len();
-    if length <= 200 {
-        return (0..=length as u64 + 1).collect();
-    }
-    let mut limits = vec![0, 1, 2, 3, length - 1, length, length + 1];
-    for turn in [list.deciding().unwrap_or(0), block, 2 * block, length - block] {
-        limits.extend(turn.saturating_sub(2)..turn + 3);
-    }
-    limits.extend((0..12).map(|_| r.below(length)));
-    limits.into_iter().map(|limit| limit as u64).collect()
+fn limits(r: &mut Random, list: &paper::Stores) -> Vec<u64> {
+    places(list, 701, r).into_iter().chain([list.len() + 1]).map(|limit| limit as u64).collect()
 }
 
 fn same_session(ours: &Session, theirs: &Session) {
@@ -153,10 +145,10 @@ fn same_session(ours: &Session, theirs: &Session) {
     same_bytes("lock list", &ours.locks, &theirs.locks);
 }
 
-/// Runs a round again and again, with 4 seconds for it.
-fn rounds(round: fn(&mut Random, &mut Tally)) -> Tally {
+/// Runs a round again and again, so many times at least, with 4 seconds for it.
+fn rounds(least: u64, round: fn(&mut Random, &mut Tally)) -> Tally {
     let mut tally = Tally::new();
-    let rounds = common::rounds::rounds(4, |r| round(r, &mut tally));
+    let rounds = common::rounds::rounds(4, least, |r| round(r, &mut tally));
     let calls: usize = tally.values().sum();
     println!("{calls} calls in {rounds} rounds: {tally:?}");
     tally
@@ -175,7 +167,7 @@ fn buffer(r: &mut Random, needed: usize) -> Vec<u8> {
 
 fn limit(r: &mut Random) -> u64 {
     match r.below(4) {
-        0 => r.pick(&[0, 1, 2, 59, 60, 75, 4096, 8197]),
+        0 => r.pick(&[0, 1, 2, 59, 60, 75, 4096, 8197, 1 << 32, (1 << 32) + 75]),
         1 => r.below(9000) as u64,
         _ => u64::MAX,
     }
@@ -230,7 +222,7 @@ fn random_call(pair: &mut Pair, r: &mut Random) {
 /// Any call on any image in any session.
 #[test]
 fn any_call() {
-    let tally = rounds(|r, tally| {
+    let tally = rounds(1000, |r, tally| {
         let image = generate::image(r).0;
         let mut pair = Pair { image, session: generate::session(r), tally };
         pair.check();
@@ -239,22 +231,20 @@ fn any_call() {
         }
         enumerate(&mut pair, r);
     });
-    if tally.values().sum::<usize>() > 10_000 {
-        expect_seen(&tally, "set", &["done", "done without stores", "stopped"]);
-        for rule in 2..=13 {
-            expect_seen(&tally, "set", &[&format!("refused {rule}")]);
-        }
-        expect_seen(&tally, "get", &["done without stores", "refused 2", "refused 3", "refused 11", "refused 14"]);
-        expect_seen(&tally, "next", &["done without stores", "refused 2", "refused 3", "refused 11", "refused 14"]);
-        expect_seen(&tally, "startup", &["done", "done without stores", "stopped", "refused 2"]);
-        expect_seen(&tally, "lock", &["done without stores", "refused 3", "refused 15", "refused 16"]);
+    expect_seen(&tally, "set", &["done", "done without stores", "stopped"]);
+    for rule in 2..=13 {
+        expect_seen(&tally, "set", &[&format!("refused {rule}")]);
     }
+    expect_seen(&tally, "get", &["done without stores", "refused 2", "refused 3", "refused 11", "refused 14"]);
+    expect_seen(&tally, "next", &["done without stores", "refused 2", "refused 3", "refused 11", "refused 14"]);
+    expect_seen(&tally, "startup", &["done", "done without stores", "stopped", "refused 2"]);
+    expect_seen(&tally, "lock", &["done without stores", "refused 3", "refused 15", "refused 16"]);
 }
 
 /// The same image with one more damage each time: whether a call may use it, what a start-up makes of it, and what is read.
 #[test]
 fn damaged_images() {
-    rounds(|r, tally| {
+    let tally = rounds(100, |r, tally| {
         let (image, blocks) = generate::image(r);
         let mut pair = Pair { image: image.clone(), session: (PAPER.session_new)(0, 0), tally };
         for _ in 0..20 {
@@ -272,12 +262,15 @@ fn damaged_images() {
             pair.check();
         }
     });
+    expect_seen(&tally, "check", &["done without stores", "refused 2"]);
+    expect_seen(&tally, "startup", &["done", "done without stores", "stopped", "refused 2"]);
+    expect_seen(&tally, "get", &["done without stores", "refused 2", "refused 11"]);
 }
 
 /// Sequences of sets, each stopped at every n of a short list and at many n of a long one, with start-ups between.
 #[test]
 fn stops() {
-    rounds(|r, tally| {
+    let tally = rounds(200, |r, tally| {
         let blocks = if r.once_in(4) { 2 } else { 1 };
         let image = if r.once_in(2) { generate::filled(r, blocks) } else { generate::crafted(r, blocks) };
         let mut pair = Pair { image, session: (PAPER.session_new)(1, 0), tally };
@@ -292,12 +285,14 @@ fn stops() {
             }
         }
     });
+    expect_seen(&tally, "set", &["done", "done without stores", "stopped", "refused 2"]);
+    expect_seen(&tally, "startup", &["done", "done without stores", "stopped", "refused 2"]);
 }
 
 /// Key names and other authenticated names, in all modes, with all verdicts, presence and custom mode, and descriptors right and damaged.
 #[test]
 fn authenticated_names() {
-    let tally = rounds(|r, tally| {
+    let tally = rounds(200, |r, tally| {
         let mut pair = Pair { image: generate::empty(1), session: (PAPER.session_new)(0, 0), tally };
         for _ in 0..60 {
             let mut asked = generate::asked(r);
@@ -308,9 +303,7 @@ fn authenticated_names() {
             pair.set(&asked, u64::MAX);
         }
     });
-    if tally.values().sum::<usize>() > 10_000 {
-        expect_seen(&tally, "set", &["done", "refused 7", "refused 8", "refused 9", "refused 10", "refused 11"]);
-    }
+    expect_seen(&tally, "set", &["done", "refused 7", "refused 8", "refused 9", "refused 10", "refused 11"]);
 }
 
 /// Descriptors with every byte of the form changed, every length cut, and lengths around the data's.
@@ -372,8 +365,10 @@ fn lengths() {
                 pair.set(&generate::asked(&mut r), u64::MAX);
             }
             pair.start_up(u64::MAX, 3, 5000);
-            pair.format(17);
-            pair.format(u64::MAX);
+            for n in (0..=44).chain([u64::MAX]) {
+                pair.image.fill(0);
+                pair.format(n);
+            }
             pair.check();
         }
     }

@@ -1,8 +1,7 @@
 //! Power cuts: a call is cut after each number of its stores, whole or with the next store begun; then a start-up is done, the image's list of
 //! values equals the book, and a second start-up makes no stores. Each test's name says what is cut.
 //!
-//! Of lists longer than 300 stores, byte runs are cut at every seventh store; with `SOAK` at every one. `SOAK` is the time in seconds of each random test,
-//! and a failure prints its seed: `SEED=n cargo test --release --test power_cuts` begins with it.
+//! `SOAK` is the time in seconds of each random test, and a failure prints its seed: `SEED=n cargo test --release --test power_cuts` begins with it.
 
 mod common;
 
@@ -11,19 +10,14 @@ use std::collections::BTreeMap;
 use common::cuts::{begun, places, Begun, Call, Cut, Garbage, Run, START_UP};
 use common::generate::{self, Asked, Name, BLOCK};
 use common::random::Random;
-use common::rounds::{once, rounds, soak};
-use common::{same_bytes, signed};
+use common::rounds::{once, rounds};
+use common::{same_bytes, signed, A, B, NEW, OLD, RATE, VENDOR};
 use varstore::calls::{ENGINE, PAPER};
-use varstore::interface::{Answer, Context, Guid, Key, Rule};
+use varstore::interface::{Answer, Context, Key, Rule};
 use varstore::paper::request::PK;
 
-const VENDOR: Guid = [1, 2, 3, 4, 5, 6, 7, 8, 9, 10, 11, 12, 13, 14, 15, 16];
-const RATE: Key = Key { name: b"R\0A\0T\0E\0\0\0", vendor: &VENDOR };
-const A: Key = Key { name: b"A\0\0\0", vendor: &VENDOR };
-const B: Key = Key { name: b"B\0\0\0", vendor: &VENDOR };
 const C: Key = Key { name: b"C\0\0\0", vendor: &VENDOR };
-const OLD: &[u8] = &[0x64, 0, 0, 0];
-const NEW: &[u8] = &[0x65, 0, 0, 0];
+const S: Key = Key { name: b"S\0\0\0", vendor: &VENDOR };
 
 fn asked(key: Key, attributes: u32, data: &[u8]) -> Asked {
     Asked { name: Name { name: key.name.to_vec(), vendor: *key.vendor }, attributes, data: data.to_vec(), presence: 0, verdict: 3 }
@@ -84,16 +78,15 @@ impl Made for Run {
 /// The call is cut everywhere, each time followed by a start-up. `count` is the number of its stores. A begun byte store leaves all that it may
 /// in a short list, and in a sample of a long one.
 fn cut_everywhere(run: &Run, call: &Call, count: usize) {
-    let (stride, sample) = if soak().is_some() { (1, 128) } else { (7, 64) };
     once(|r| {
         let list = run.stores(call).expect("an accepted call");
         assert_eq!(list.len(), count);
-        for after in places(&list, stride, r) {
+        for after in 0..=count {
             let mut cut = run.clone();
             cut.cut(call, Cut { after, begun: None }, r);
             cut.clone().recover();
             let Some(store) = list.get(after) else { continue };
-            for left in begun(store, &cut.image, count <= 300 || r.once_in(sample)) {
+            for left in begun(store, &cut.image, count <= 300 || r.once_in(64)) {
                 let mut torn = cut.clone();
                 torn.begin(store, left, r);
                 torn.cuts = vec![Cut { after, begun: Some(left) }];
@@ -182,9 +175,11 @@ fn delete_of_a_value_being_replaced() {
     cut_everywhere(&being_replaced(), &delete(RATE), 1);
 }
 
-/// A region whose tail has no room for more than some bytes: deleted entries, a leftover beside its 3F, and a 3E alone are in it.
+/// A region whose tail has no room for more than some bytes: deleted entries, a leftover beside its 3F, a 3E alone, and
+/// a value with a stamp are in it.
 fn crowded(blocks: usize) -> Run {
-    let run = empty(blocks).with(RATE, OLD).stopped(&set(RATE, NEW), 76).with(C, OLD).stopped(&set(C, NEW), 1);
+    let mut run = empty(blocks).with(RATE, OLD).stopped(&set(RATE, NEW), 76).with(C, OLD).stopped(&set(C, NEW), 1);
+    run.whole(&Call::Set(asked(S, 0x27, &signed(2024, OLD))));
     let more = (0..2 * blocks as u8 - 1).fold(run.with(A, &[1; 700]), |run, turn| run.with(B, &[turn; 2000]));
     more.with(A, &[2; 600])
 }
@@ -311,6 +306,15 @@ fn start_up_that_compacts_a_dirty_tail_behind_a_torn_work_block() {
     }
 }
 
+/// A start-up's compaction was stopped while it filled the spare.
+#[test]
+fn start_up_that_erases_the_spare_and_compacts_a_dirty_tail() {
+    for blocks in [1, 2] {
+        cut_everywhere(&with_dirty_tail(blocks).stopped(&START_UP, 3000), &START_UP, blocks + 3 + 2 * blocks * (BLOCK + 1));
+    }
+    cut_everywhere(&with_dirty_tail(1).recorded(64).stopped(&START_UP, 3000), &START_UP, 8198);
+}
+
 /// A cut of a call: where its list turns most often, anywhere else; the next store begun half of the times.
 fn random_cut(run: &Run, call: &Call, r: &mut Random) -> Cut {
     let Ok(list) = run.stores(call) else { return Cut { after: 0, begun: None } };
@@ -344,7 +348,7 @@ fn cases() -> Vec<(Run, Call)> {
 /// A cut call, then so many cut start-ups, then one that is done.
 fn cut_start_ups(deep: usize, seconds: u64) {
     let cases = cases();
-    let count = rounds(seconds, |r| {
+    let count = rounds(seconds, 20, |r| {
         for (run, call) in &cases {
             let mut run = run.clone();
             let cut = random_cut(&run, call, r);
@@ -392,8 +396,11 @@ fn get(run: &Run, name: &Name) -> Answer {
 
 /// The same of next-name.
 fn next_name(run: &Run, name: &Name) -> Answer {
-    let mut buffer = vec![0xA5; 144];
+    let (mut buffer, mut expected) = (vec![0xA5; 144], vec![0xA5; 144]);
     let reply = (ENGINE.next_name)(Context { limit: 0 }, &run.session, &run.image, name.key(), &mut buffer);
+    let other = (PAPER.next_name)(Context { limit: 0 }, &run.session, &run.image, name.key(), &mut expected);
+    assert_eq!(reply, other, "next-name after {name:X?}");
+    same_bytes("buffer", &expected, &buffer);
     let booked = run.book.next(&run.session, name.key()).map(|name| [&name.vendor[..], &name.name].concat());
     match reply.answer {
         Answer::Done(_) => assert!(booked.as_deref() == Some(&buffer[..reply.size as usize]), "next-name after {name:X?} is not the book's"),
@@ -460,7 +467,9 @@ fn random_step(run: &mut Run, r: &mut Random, tally: &mut Tally) {
         let before = run.book.clone();
         run.cut(&call, cut, r);
         *tally.entry(if cut.begun.is_some() { "store begun" } else { "cut between stores" }).or_default() += 1;
-        *tally.entry(if before == run.book { "cut before deciding" } else { "cut when decided" }).or_default() += 1;
+        if what == "set" {
+            *tally.entry(if before == run.book { "set cut before deciding" } else { "set cut when decided" }).or_default() += 1;
+        }
         return;
     }
     let answer = run.make(&call, u64::MAX);
@@ -492,7 +501,7 @@ fn kind(what: &'static str, answer: Answer) -> &'static str {
 #[test]
 fn any_call_of_a_run() {
     let mut tally = Tally::new();
-    rounds(15, |r| {
+    rounds(15, 200, |r| {
         let (image, blocks) = some_image(r);
         let mut former = generate::filled(r, blocks);
         (PAPER.start_up)(Context::NO_LIMIT, &mut former, 0, 0);
@@ -509,7 +518,7 @@ fn any_call_of_a_run() {
     let whole = ["set done", "set done without stores", "set done by compaction", "set refused", "set refused before a start-up"];
     let started = ["start-up without stores", "start-up that erases", "start-up that compacts or resumes"];
     let read = ["get done", "get refused", "next-name done", "next-name refused"];
-    let cut = ["store begun", "cut between stores", "cut before deciding", "cut when decided"];
+    let cut = ["store begun", "cut between stores", "set cut before deciding", "set cut when decided"];
     for thing in [&whole[..], &started, &read, &cut].concat() {
         assert!(tally.contains_key(thing), "no {thing} in the runs");
     }

@@ -25,9 +25,18 @@ struct Line<'a> {
     fields: HashMap<&'a str, &'a str>,
 }
 
+/// What a line may give; every field that is not an argument is checked.
+const ARGUMENTS: &str = "op len rle off slot phase custom reserve count sizes locks name guid attrs data presence verdict n buflen fill to";
+const EXPECTED: &str =
+    "answer rule stores list deciding size attrs_out buf_sha256 text sha256 crc32 s_phase s_custom s_reserve s_count s_sizes s_locks";
+
 impl<'a> Line<'a> {
     fn new(place: String, text: &'a str) -> Line<'a> {
-        let fields = text.split(' ').map(|field| field.split_once('=').unwrap_or_else(|| panic!("{place}: no field: {field}"))).collect();
+        let fields: HashMap<_, _> =
+            text.split(' ').map(|field| field.split_once('=').unwrap_or_else(|| panic!("{place}: no field: {field}"))).collect();
+        for key in fields.keys() {
+            assert!([ARGUMENTS, EXPECTED].iter().any(|known| known.split(' ').any(|word| word == *key)), "{place}: what is {key}?");
+        }
         Line { place, fields }
     }
 
@@ -82,16 +91,16 @@ fn unpacked(text: &str) -> Option<Vec<u8>> {
 }
 
 /// One implementation's current image, session and slots.
-struct Bench {
+struct Player {
     calls: Calls,
     image: Vec<u8>,
     session: Session,
     slots: [Vec<u8>; 8],
 }
 
-impl Bench {
-    fn new(calls: Calls) -> Bench {
-        Bench { calls, image: Vec::new(), session: (calls.session_new)(0, 0), slots: Default::default() }
+impl Player {
+    fn new(calls: Calls) -> Player {
+        Player { calls, image: Vec::new(), session: (calls.session_new)(0, 0), slots: Default::default() }
     }
 
     fn run(&mut self, line: &Line) {
@@ -227,25 +236,26 @@ fn varlist_program(image: &[u8]) -> String {
     String::from_utf8(output.stdout).expect("varlist prints text")
 }
 
-fn run_file(name: &str) {
+fn run_file(name: &str, lines: usize) {
     let path = Path::new(env!("CARGO_MANIFEST_DIR")).join("vectors").join(name);
     let text = std::fs::read_to_string(&path).unwrap_or_else(|error| panic!("{}: {error}", path.display()));
+    assert_eq!(text.lines().count(), lines, "lines of {name}");
     for calls in BOTH {
-        let mut bench = Bench::new(calls);
+        let mut player = Player::new(calls);
         for (index, content) in text.lines().enumerate() {
-            bench.run(&Line::new(format!("{} on vectors/{name}:{}", calls.who, index + 1), content));
+            player.run(&Line::new(format!("{} on vectors/{name}:{}", calls.who, index + 1), content));
         }
     }
 }
 
 #[test]
 fn directed() {
-    run_file("directed.txt");
+    run_file("directed.txt", 1400);
 }
 
 #[test]
 fn random() {
-    run_file("random.txt");
+    run_file("random.txt", 1101);
 }
 
 #[test]

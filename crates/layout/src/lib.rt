@@ -1,7 +1,7 @@
 // The layout of an entry; the fixed byte strings of the format stand in `fixed`.
 ghost use mathlib.Core.Path.{_≡_};
-ghost use Prim.Native.Nat.{_+_, _≤_, _<_};
-ghost use lib.ListN.{length};
+ghost use Prim.Native.Nat.{_<_};
+ghost use lib.ListN.{getD};
 ghost use Rattle.model.specs.Lists.{u16At, u32At};
 ghost use Rattle.layout.specs.Head.{headOf};
 
@@ -27,18 +27,31 @@ fn wide(x: u8) -> u32
     x as u32
 }
 
-// Little-endian fields.
-fn u16_at(s: &[u8], i: usize) -> u32
-    requires { ⌜ i + 2 ≤ length (now s) ⌝ }
-    ensures { λ r. ⌜ (r ≡ u16At (now (s .entry)) i) × (r < 65536) ⌝ }
+// Little-endian fields; bytes past the end count as 0.
+fn byte_at(s: &[u8], i: usize) -> u32
+    ensures { λ r. ⌜ (r ≡ getD (now (s .entry)) i 0) × (r < 256) ⌝ }
 {
-    wide(s[i]) + 256 * wide(s[i + 1])
+    if i < s.len() {
+        return wide(s[i]);
+    }
+    0
 }
 
-fn u32_at(s: &[u8], i: usize) -> u32
-    requires { ⌜ i + 4 ≤ length (now s) ⌝ }
+pub fn u16_at(s: &[u8], i: usize) -> u32
+    ensures { λ r. ⌜ (r ≡ u16At (now (s .entry)) i) × (r < 65536) ⌝ }
+{
+    if s.len() <= i {
+        return 0;
+    }
+    byte_at(s, i) + 256 * byte_at(s, i + 1)
+}
+
+pub fn u32_at(s: &[u8], i: usize) -> u32
     ensures { λ r. ⌜ r ≡ u32At (now (s .entry)) i ⌝ }
 {
+    if s.len() <= i {
+        return 0;
+    }
     u16_at(s, i) + 65536 * u16_at(s, i + 2)
 }
 

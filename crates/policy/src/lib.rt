@@ -3,8 +3,8 @@ ghost use mathlib.Core.Path.{_≡_};
 ghost use mathlib.Core.Bool.{not};
 ghost use mathlib.Core.List.{_∷_};
 ghost use Prim.Native.Nat.{_<_};
-ghost use lib.ListN.{length, getD};
-ghost use Rattle.model.specs.Lists.{among, isEmpty, u16At, u32At};
+ghost use lib.ListN.{length};
+ghost use Rattle.model.specs.Lists.{among, isEmpty};
 ghost use Rattle.model.specs.Name.{keyed};
 ghost use Rattle.model.specs.Region.{storedAttributes};
 ghost use Rattle.model.specs.Request.{runtimeAccess, timeBased, appends, withoutAppend, rightDescriptor, later, keyVerdicts};
@@ -117,41 +117,11 @@ pub fn standing_broken(runtime: bool, attributes: u32, stored: u32) -> bool
     false
 }
 
-fn wide(x: u8) -> u32
-    ensures { λ r. ⌜ (r ≡ x) × (r < 256) ⌝ }
-{
-    x as u32
-}
-
-// Little-endian fields; bytes past the end count as 0.
-fn byte_at(s: &[u8], i: usize) -> u32
-    ensures { λ r. ⌜ (r ≡ getD (now (s .entry)) i 0) × (r < 256) ⌝ }
-{
-    if i < s.len() {
-        return wide(s[i]);
-    }
-    0
-}
-
-fn u16_at(s: &[u8], i: usize) -> u32
-    requires { ⌜ i < 64 ⌝ }
-    ensures { λ r. ⌜ (r ≡ u16At (now (s .entry)) i) × (r < 65536) ⌝ }
-{
-    byte_at(s, i) + 256 * byte_at(s, i + 1)
-}
-
-fn u32_at(s: &[u8], i: usize) -> u32
-    requires { ⌜ i < 32 ⌝ }
-    ensures { λ r. ⌜ r ≡ u32At (now (s .entry)) i ⌝ }
-{
-    u16_at(s, i) + 65536 * u16_at(s, i + 2)
-}
-
 // The descriptor's length is 24 or more, counted from behind the stamp, and the data hold it.
 fn size_right(bytes: &[u8]) -> bool
     ensures { λ r. ⌜ r ≡ rightSize (now (bytes .entry)) ⌝ }
 {
-    let length = u32_at(bytes, 16);
+    let length = layout::u32_at(bytes, 16);
     if length < 24 {
         return false;
     }
@@ -162,10 +132,10 @@ fn size_right(bytes: &[u8]) -> bool
 fn kind_right(bytes: &[u8]) -> bool
     ensures { λ r. ⌜ r ≡ rightKind (now (bytes .entry)) ⌝ }
 {
-    if u16_at(bytes, 20) != 0x0200 {
+    if layout::u16_at(bytes, 20) != 0x0200 {
         return false;
     }
-    if u16_at(bytes, 22) != 0x0EF1 {
+    if layout::u16_at(bytes, 22) != 0x0EF1 {
         return false;
     }
     let guid = fixed::certificate();
@@ -200,7 +170,7 @@ pub fn proper(attributes: u32, bytes: &[u8]) -> &[u8]
     ensures { λ r. ⌜ now r ≡ properOf attributes (now (bytes .entry)) ⌝ }
 {
     if time_based(attributes) {
-        return slices::cut(bytes, 16 + u32_at(bytes, 16) as usize, bytes.len());
+        return slices::cut(bytes, 16 + layout::u32_at(bytes, 16) as usize, bytes.len());
     }
     bytes
 }
@@ -240,8 +210,8 @@ pub fn stamp(attributes: u32, bytes: &[u8]) -> [u8; 16]
 pub fn later(a: &[u8; 16], b: &[u8; 16]) -> bool
     ensures { λ r. ⌜ r ≡ later (now (a .entry)) (now (b .entry)) ⌝ }
 {
-    let year = u16_at(a, 0);
-    let other = u16_at(b, 0);
+    let year = layout::u16_at(a, 0);
+    let other = layout::u16_at(b, 0);
     if year != other {
         return other < year;
     }

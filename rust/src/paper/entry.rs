@@ -117,7 +117,8 @@ impl<'a> Entry<'a> {
         Key { name: self.name(), vendor: self.vendor() }
     }
 
-    /// For a well-formed name, by characters: names are short and differ early, more often than GUIDs.
+    /// For a well-formed name, by characters, which is quicker than by slices: names are short and differ early, more often than GUIDs. (Of an odd name the last
+    /// byte would not be compared; a well-formed one is even.)
     pub fn is_for(&self, key: Key) -> bool {
         self.name_size() == key.name.len() && self.name().chunks_exact(2).eq(key.name.chunks_exact(2)) && self.vendor() == key.vendor
     }

@@ -224,7 +224,7 @@ pub struct Wanting {
     pub compact: bool,
 }
 
-/// Erase the spare's blocks, the work block, and compact with no change. `used` records stand if the work block is not erased.
+/// Erase the spare's blocks, the work block, and compact with no change. `used` records stand by then.
 pub fn clearing(parts: &Parts, used: usize, wanting: Wanting) -> Stores {
     let mut stores = Stores::default();
     if wanting.erase_spare {
@@ -234,7 +234,7 @@ pub fn clearing(parts: &Parts, used: usize, wanting: Wanting) -> Stores {
         stores.erase(work_block(parts));
     }
     if wanting.compact {
-        compact(&mut stores, parts, if wanting.erase_work { 0 } else { used }, None);
+        compact(&mut stores, parts, used, None);
     }
     stores
 }

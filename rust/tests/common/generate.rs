@@ -5,7 +5,7 @@ use super::random::Random;
 use varstore::calls::PAPER;
 use varstore::interface::{Answer, Context, Guid, Key, Request, Session, PLACE, PLACES};
 use varstore::paper::image::Parts;
-use varstore::paper::region::values;
+use varstore::paper::region::{self, values};
 use varstore::paper::request::{DB, DBT, DBX, KEK, PK};
 
 const PLAIN_VENDOR: Guid = [1, 2, 3, 4, 5, 6, 7, 8, 9, 10, 11, 12, 13, 14, 15, 16];
@@ -257,8 +257,10 @@ fn crafted_region(r: &mut Random, blocks: usize, small: bool) -> Vec<u8> {
     let mut region = empty(blocks)[..BLOCK * blocks].to_vec();
     let mut at = 28;
     let many = r.below(if small { 700 } else { 12 * blocks });
+    let mut last = name(r);
     for index in 0..many {
-        let mut name = name(r);
+        // one name's entries together: a 3E entry beside a 3F entry
+        let mut name = if r.once_in(3) { last } else { name(r) };
         if small {
             name.name = spelt(&[1 + index as u16 / 2]);
         }
@@ -270,6 +272,7 @@ fn crafted_region(r: &mut Random, blocks: usize, small: bool) -> Vec<u8> {
         }
         let state = r.pick(&[0x3F, 0x3F, 0x3F, 0x3E, 0x3E, 0x3D, 0x3C, 0x7F, 0xFF]);
         region[at..at + 60].copy_from_slice(&crafted_header(r, state, &name, bytes.len()));
+        last = name.clone();
         if state == 0xFF {
             at += 60;
             continue;
@@ -350,9 +353,9 @@ pub fn crafted(r: &mut Random, blocks: usize) -> Vec<u8> {
     [region, work, spare].concat()
 }
 
-/// Where entries begin, found by their start ids at multiples of 4.
+/// Where the entries of the walk begin.
 fn entry_places(image: &[u8], length: usize) -> Vec<usize> {
-    (28..length - 60).step_by(4).filter(|&at| image[at..at + 2] == [0xAA, 0x55]).collect()
+    region::walk(&image[..length]).map(|entry| entry.at).collect()
 }
 
 /// Damages one place: header, an entry's field, the tail, the work block or the spare.

@@ -8,6 +8,16 @@ pub mod generate;
 pub mod random;
 pub mod rounds;
 
+use varstore::interface::{Guid, Key};
+
+/// The paper's variable and data, other names, other data.
+pub const VENDOR: Guid = [1, 2, 3, 4, 5, 6, 7, 8, 9, 10, 11, 12, 13, 14, 15, 16];
+pub const RATE: Key = Key { name: b"R\0A\0T\0E\0\0\0", vendor: &VENDOR };
+pub const A: Key = Key { name: b"A\0\0\0", vendor: &VENDOR };
+pub const B: Key = Key { name: b"B\0\0\0", vendor: &VENDOR };
+pub const OLD: &[u8] = &[0x64, 0, 0, 0];
+pub const NEW: &[u8] = &[0x65, 0, 0, 0];
+
 /// The descriptor with a year, then the data proper.
 pub fn signed(year: u16, data: &[u8]) -> Vec<u8> {
     let mut bytes = year.to_le_bytes().to_vec();

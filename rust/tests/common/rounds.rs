@@ -7,12 +7,8 @@ use std::time::{Duration, Instant};
 use super::random::Random;
 
 fn variable(name: &str) -> Option<u64> {
-    std::env::var(name).ok()?.parse().ok()
-}
-
-/// The time asked for, if any.
-pub fn soak() -> Option<u64> {
-    variable("SOAK")
+    let text = std::env::var(name).ok()?;
+    Some(text.parse().unwrap_or_else(|_| panic!("{name}={text} is not a number")))
 }
 
 /// One round, with the first seed.
@@ -27,13 +23,13 @@ fn seeded(seed: u64, round: impl FnOnce(&mut Random)) {
     }
 }
 
-/// Runs a round again and again, each time with the next seed, at least 20 times and until the time is over. Gives the number of rounds.
-pub fn rounds(seconds: u64, mut round: impl FnMut(&mut Random)) -> u64 {
+/// Runs a round again and again, each time with the next seed, so many times at least and until the time is over. Gives the number of rounds.
+pub fn rounds(seconds: u64, least: u64, mut round: impl FnMut(&mut Random)) -> u64 {
     let first = variable("SEED").unwrap_or(1);
-    let time = Duration::from_secs(soak().unwrap_or(seconds));
+    let time = Duration::from_secs(variable("SOAK").unwrap_or(seconds));
     let begin = Instant::now();
     let mut seed = first;
-    while seed - first < 20 || begin.elapsed() < time {
+    while seed - first < least || begin.elapsed() < time {
         seeded(seed, &mut round);
         seed += 1;
     }

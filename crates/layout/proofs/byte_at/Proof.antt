@@ -1,11 +1,11 @@
--- `policy::byte_at` meets its contract: past the end the byte counts as 0. Assumes nothing.
+-- `layout::byte_at` meets its contract: past the end the byte counts as 0. Assumes nothing.
 use native.Mathlib.Omega.{arith}
 use mathlib.Core.Path.{sym}
 use lib.ListN.{List·getD-eq-default}
 use denote.Ref.{now}
 use borrow.Author.Needs.{needs}
-use Rattle.policy.proofs.byte_at.Statement.{statement}
-use Rattle.policy.proofs.byte_at.Tie as tie
+use Rattle.layout.proofs.byte_at.Statement.{statement}
+use Rattle.layout.proofs.byte_at.Tie as tie
 
 shared-slice-read-wide : tie.Need-shared-slice-read-wide
 shared-slice-read-wide c = search needs

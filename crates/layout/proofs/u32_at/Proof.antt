@@ -1,0 +1,41 @@
+-- `layout::u32_at` meets its contract: past the end all four bytes count as 0. Assumes nothing.
+use Prim.Native.Nat.{_+_, _≤_}
+use native.Mathlib.Omega.{arith}
+use lib.ListN.{length, List·getD-eq-default}
+use denote.Ref.{now}
+use borrow.Author.Needs.{needs}
+use Rattle.layout.proofs.u32_at.Statement.{statement}
+use Rattle.layout.proofs.u32_at.Tie as tie
+
+returns : tie.Need-returns
+returns c =
+    let s = now (c .before .before .args .s) in
+    let i = c .before .before .args .i in
+    let h : length s ≤ i = c .if1 .taken in
+    let k : length s ≤ i + 1 = omega arith in
+    let l : length s ≤ i + 2 = omega arith in
+    let m : length s ≤ i + 2 + 1 = omega arith in
+    rw (List·getD-eq-default s 0 h, List·getD-eq-default s 0 k, List·getD-eq-default s 0 l, List·getD-eq-default s 0 m)
+
+u16-at-requires : tie.Need-u16-at-requires
+u16-at-requires c κs = search needs
+
+add-u16-at : tie.Need-add-u16-at
+add-u16-at c = search needs
+
+u16-at-requires-2 : tie.Need-u16-at-requires-2
+u16-at-requires-2 c κs = search needs
+
+mul-result : tie.Need-mul-result
+mul-result c = search needs
+
+add-result : tie.Need-add-result
+add-result c = search needs
+
+returns-2 : tie.Need-returns-2
+returns-2 c = search needs
+
+pub u32-at-spec : {M : Type 1} → statement M
+u32-at-spec =
+    tie.close
+    (tie.spec returns u16-at-requires add-u16-at u16-at-requires-2 mul-result add-result returns-2)
