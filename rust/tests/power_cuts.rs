@@ -12,8 +12,8 @@ use common::generate::{self, Asked, Name, BLOCK};
 use common::random::Random;
 use common::rounds::{once, rounds};
 use common::{same_bytes, signed, A, B, NEW, OLD, RATE, VENDOR};
-use varstore::calls::{ENGINE, PAPER};
-use varstore::interface::{Answer, Context, Key, Rule};
+use varstore::calls::{Calls, Read, BOTH, ENGINE, PAPER};
+use varstore::interface::{Answer, Context, Key, Reply, Rule};
 use varstore::paper::request::PK;
 
 const C: Key = Key { name: b"C\0\0\0", vendor: &VENDOR };
@@ -378,13 +378,21 @@ fn start_ups_three_deep() {
     cut_start_ups(3, 3);
 }
 
+/// What a call that reads hands out, alike in both implementations: the reply and the whole buffer.
+fn read(run: &Run, name: &Name, call: fn(Calls) -> Read, length: usize) -> (Reply, Vec<u8>) {
+    let [paper, engine] = BOTH.map(|calls| {
+        let mut buffer = vec![0xA5; length];
+        let reply = call(calls)(Context { limit: 0 }, &run.session, &run.image, name.key(), &mut buffer);
+        (reply, buffer)
+    });
+    assert_eq!(engine.0, paper.0, "reply for {name:X?}");
+    same_bytes("buffer", &paper.1, &engine.1);
+    engine
+}
+
 /// A get answers from the book wherever it is accepted, also before a start-up.
 fn get(run: &Run, name: &Name) -> Answer {
-    let (mut buffer, mut expected) = (vec![0xA5; 2048], vec![0xA5; 2048]);
-    let reply = (ENGINE.get)(Context { limit: 0 }, &run.session, &run.image, name.key(), &mut buffer);
-    let other = (PAPER.get)(Context { limit: 0 }, &run.session, &run.image, name.key(), &mut expected);
-    assert_eq!(reply, other, "get of {name:X?}");
-    same_bytes("buffer", &expected, &buffer);
+    let (reply, buffer) = read(run, name, |calls| calls.get, 2048);
     let booked = run.book.get(&run.session, name.key());
     match reply.answer {
         Answer::Done(_) => assert!(booked == Some((reply.attributes, &buffer[..reply.size as usize])), "get of {name:X?} is not in the book"),
@@ -396,11 +404,7 @@ fn get(run: &Run, name: &Name) -> Answer {
 
 /// The same of next-name.
 fn next_name(run: &Run, name: &Name) -> Answer {
-    let (mut buffer, mut expected) = (vec![0xA5; 144], vec![0xA5; 144]);
-    let reply = (ENGINE.next_name)(Context { limit: 0 }, &run.session, &run.image, name.key(), &mut buffer);
-    let other = (PAPER.next_name)(Context { limit: 0 }, &run.session, &run.image, name.key(), &mut expected);
-    assert_eq!(reply, other, "next-name after {name:X?}");
-    same_bytes("buffer", &expected, &buffer);
+    let (reply, buffer) = read(run, name, |calls| calls.next_name, 144);
     let booked = run.book.next(&run.session, name.key()).map(|name| [&name.vendor[..], &name.name].concat());
     match reply.answer {
         Answer::Done(_) => assert!(booked.as_deref() == Some(&buffer[..reply.size as usize]), "next-name after {name:X?} is not the book's"),
