@@ -6,6 +6,8 @@ CC = cc
 CFLAGS = -std=c11 -O2 -Wall -Wextra -Werror
 CARGO = CARGO_NET_OFFLINE=true CARGO_TARGET_DIR=$(CURDIR)/target/rust cargo
 LIB = target/staticlib/libcapi.a
+# what the library is made of
+SOURCES := crates.txt tools/lib $(shell find crates -path '*/src/*' -type f -o -path '*/specs/*' -type f -o -path '*/proofs/*' -type f)
 
 test:
 	sh tools/gate
@@ -13,20 +15,18 @@ test:
 # prove the library and varlist, list a sample store, and play power cuts in a compaction
 demo:
 	rt check varlist
-	rt staticlib capi
+	$(MAKE) -s lib
 	echo
 	target/bin/varlist <crates/varlist/stdin
 	echo
 	$(MAKE) -s host
 	target/host
 
-# the static library for C and Rust hosts: target/staticlib/libcapi.a, to be used with c/varstore.h
-lib:
-	rt staticlib capi
+# the static library for firmware and other hosts: target/staticlib/libcapi.a, to be used with c/varstore.h
+lib: $(LIB)
 
-# for those who begin with another target than lib
-$(LIB):
-	rt staticlib capi
+$(LIB): $(SOURCES)
+	tools/lib
 
 # the host that a firmware engineer can start from
 host: $(LIB)

@@ -1,4 +1,4 @@
-//! Links `libcapi.a`, which `rt staticlib capi` writes to `target/staticlib`; the variable `VARSTORE_LIB` names another folder.
+//! Links `libcapi.a`, which `make lib` writes to `target/staticlib`; the variable `VARSTORE_LIB` names another folder.
 use std::env;
 use std::path::{Path, PathBuf};
 
@@ -11,7 +11,7 @@ fn main() {
     let library = folder.join("libcapi.a");
     println!("cargo:rerun-if-changed={}", library.display());
     if !library.exists() {
-        panic!("run `rt staticlib capi` first: {} is missing", library.display());
+        panic!("run `make lib` first: {} is missing", library.display());
     }
     println!("cargo:rustc-link-search=native={}", folder.display());
     println!("cargo:rustc-link-lib=static=capi");
