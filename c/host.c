@@ -3,14 +3,18 @@
  *   host         a small flash part: set, append, delete, and power cuts in a compaction
  *   host IMAGE   lists the variables of an image file
  *
- * It shows how a firmware's variable driver is built on varstore.h: start up at every power-on, keep the session, ask with an empty buffer first, and carry the
- * stores of a call to the part in their order.
+ * It shows how a firmware's variable driver is built on varstore.h: start up at every power-on, keep the session, ask with an empty buffer first, and carry
+ * out on the part what a call has planned.
  */
 #include <stdio.h>
 #include <stdlib.h>
 #include <string.h>
 
 #include "varstore.h"
+
+#if VS_INTERFACE != 2
+#error "this host knows the operations of interface 2"
+#endif
 
 static const vs_context no_limit = {VS_NO_LIMIT};
 
@@ -121,51 +125,134 @@ static int list_file(const char *path)
     return list(session, image, length);
 }
 
-/* ---- a flash part, and how the stores of a call reach it
+/* ---- a flash part
  *
- * The library stores into memory that it is lent, and that must be ordinary memory: compiled code joins and reorders writes. So the image is a copy of
- * the part, and the host carries the stores over one by one. What a call with limit n leaves is the image after its first n stores; two neighbouring n
- * differ by one store.
+ * In a driver `program` and `erase` are commands to the part. They return when it has completed them, and tell whether it has.
+ * This part is played: its power fails when so many stores are complete, before the next one begins or inside it.
  */
 
 enum { BLOCK = VS_BLOCK, PART = BLOCK * 3, PLAIN = VS_NV | VS_BOOT_ACCESS | VS_RUNTIME_ACCESS };
 
-/* In a driver these two are commands to the part, each complete before the next begins. */
-static uint8_t part[PART];
+static struct {
+    uint8_t bytes[PART];
+    uint64_t programs, erases; /* that are complete */
+    uint64_t power;            /* stores until the power fails */
+    int inside;                /* whether it fails inside a store */
+} part = {.power = UINT64_MAX};
 
-static void program(size_t at, uint8_t byte)
+/* Bits only fall. A byte store that has begun has left one or more of them: here the lowest that was to fall. */
+static int program(size_t at, uint8_t byte)
 {
-    part[at] &= byte;
+    uint8_t to_fall = part.bytes[at] & (uint8_t)~byte;
+    if (part.power == 0) {
+        uint8_t lowest = to_fall & (uint8_t)-to_fall;
+        part.bytes[at] ^= part.inside ? to_fall ^ lowest : 0;
+        return 0;
+    }
+    part.bytes[at] ^= to_fall;
+    part.programs++;
+    part.power--;
+    return 1;
 }
 
-static void erase(size_t block)
+/* An erase that has begun may have left anything in its block. */
+static int erase(size_t block)
 {
-    memset(part + BLOCK * block, 0xFF, BLOCK);
+    uint8_t *bytes = part.bytes + BLOCK * block;
+    if (part.power == 0) {
+        for (size_t i = 0; part.inside && i < BLOCK; i++) {
+            bytes[i] ^= (uint8_t)(37 * i);
+        }
+        return 0;
+    }
+    memset(bytes, 0xFF, BLOCK);
+    part.erases++;
+    part.power--;
+    return 1;
 }
 
-/* One store: a byte whose bits only fell was programmed; where a bit rose its block was erased; where nothing differs there is nothing to do. */
-static void carry_store(const uint8_t *before, const uint8_t *after)
+/* ---- the driver: a copy of the part in memory, on which calls are planned, and plans carried out
+ *
+ * The copy is what the library is lent; the part itself it never sees. Each store is complete on the part before it is made on the copy, so that the two
+ * are the same when the plan is carried out. Where a store fails, the copy is of no use any more: the part is read again and a start-up carried out, as at
+ * power-on.
+ */
+
+static uint8_t image[PART], content[VS_CONTENT];
+
+/* Bytes of the content, or one that marks a state, in rising order. */
+static int store(size_t at, const uint8_t *bytes, size_t len)
 {
-    for (size_t at = 0; at < PART; at++) {
-        if (after[at] & ~before[at]) {
-            erase(at / BLOCK);
-            return;
+    for (size_t i = 0; i < len; i++) {
+        if (!program(at + i, bytes[i])) {
+            return 0;
         }
-        if (after[at] != before[at]) {
-            program(at, after[at]);
-            return;
+        image[at + i] &= bytes[i];
+    }
+    return 1;
+}
+
+static int erase_blocks(size_t first, size_t count)
+{
+    for (size_t block = first; block < first + count; block++) {
+        if (!erase(block)) {
+            return 0;
         }
+        memset(image + BLOCK * block, 0xFF, BLOCK);
+    }
+    return 1;
+}
+
+static int operate(const vs_operation *o)
+{
+    const uint8_t value = (uint8_t)o->from, *bytes = content + o->from;
+    switch (o->kind) {
+    case VS_NOTHING:
+        return 1;
+    case VS_MARK:
+        return store(o->at, &value, 1);
+    case VS_ERASE:
+        return erase_blocks(o->at, o->len);
+    case VS_PROGRAM:
+        return store(o->at, bytes, o->len);
+    case VS_HEADER: /* the third byte is the state */
+        return store(o->at, bytes, 2) && store(o->at + 3, bytes + 3, o->len - 3);
+    default:
+        return 0;
     }
 }
 
-/* A call that stores. */
-typedef struct {
-    enum { FORMAT, START_UP, SET } kind;
-    const char *name; /* of a variable of ours, in ASCII */
-    uint32_t attributes;
-    const void *data;
-    size_t size;
-} request;
+/* A planned call is carried out. Done is told when its last store is complete; the values in the content are then cleared. */
+static vs_answer carry_out(const vs_plan *plan)
+{
+    if (plan->rule != 0) {
+        return (vs_answer){VS_REFUSED, plan->rule, 0};
+    }
+    uint64_t before = part.programs + part.erases;
+    for (size_t i = 0; i < VS_OPERATIONS; i++) {
+        if (!operate(&plan->operations[i])) {
+            return (vs_answer){VS_STOPPED, 0, 0};
+        }
+    }
+    memset(content, 0, sizeof content);
+    return (vs_answer){VS_DONE, 0, part.programs + part.erases - before};
+}
+
+/* Once, when the device is made. */
+static vs_answer format(void)
+{
+    vs_plan plan = vs_plan_format(image, PART, content);
+    return carry_out(&plan);
+}
+
+/* At every power-on, before anything else: the part is read, what a power cut has left is finished, and the session is a new one. */
+static vs_answer power_on(vs_session *session)
+{
+    memcpy(image, part.bytes, PART);
+    *session = vs_session_new(0, 0);
+    vs_plan plan = vs_plan_start_up(image, PART, content);
+    return carry_out(&plan);
+}
 
 static const uint8_t our_vendor[16] = {0x01, 0x02, 0x03, 0x04, 0x05, 0x06, 0x07, 0x08, 0x09, 0x0A, 0x0B, 0x0C, 0x0D, 0x0E, 0x0F, 0x10};
 
@@ -181,60 +268,16 @@ static size_t utf16(const char *text, uint8_t *name)
     }
 }
 
-/* It is made on an image; a start-up's session is the new one. */
-static vs_answer make(const request *r, uint64_t limit, uint8_t *image, vs_session *session)
+/* A variable of ours, its name in ASCII. */
+static vs_answer set(const vs_session *session, const char *text, uint32_t attributes, const void *data, size_t size)
 {
-    vs_context context = {limit};
-    if (r->kind == FORMAT) {
-        return vs_format(context, image, PART);
-    }
-    if (r->kind == START_UP) {
-        vs_started started = vs_start_up(context, image, PART, 0, 0);
-        *session = started.session;
-        return started.answer;
-    }
     uint8_t name[VS_LARGEST_NAME];
-    size_t name_size = utf16(r->name, name);
-    return vs_set(context, *session, image, PART, name, name_size, our_vendor, r->attributes, r->data, r->size, 0, VS_BY_NONE);
-}
-
-/* It is made on the part, store by store, unless the power fails after `cut` of them. Done is told when the last store is complete. */
-static vs_answer carry(const request *r, uint64_t cut, vs_session *session)
-{
-    static uint8_t begun[PART], images[2][PART];
-    memcpy(begun, part, PART);
-    memcpy(images[0], part, PART);
-    for (uint64_t n = 1;; n++) {
-        uint8_t *before = images[(n - 1) % 2], *after = images[n % 2];
-        memcpy(after, begun, PART);
-        vs_answer answer = make(r, n, after, session);
-        if (answer.kind == VS_REFUSED || (answer.kind == VS_DONE && answer.stores < n)) {
-            return answer;
-        }
-        if (n > cut) {
-            return (vs_answer){VS_STOPPED, 0, 0};
-        }
-        carry_store(before, after);
-        if (answer.kind == VS_DONE) {
-            return answer;
-        }
-    }
+    size_t name_size = utf16(text, name);
+    vs_plan plan = vs_plan_set(*session, image, PART, name, name_size, our_vendor, attributes, data, size, 0, VS_BY_NONE, content);
+    return carry_out(&plan);
 }
 
 /* ---- a small story */
-
-static vs_answer set(vs_session *session, uint64_t cut, const char *name, uint32_t attributes, const void *data, size_t size)
-{
-    request r = {SET, name, attributes, data, size};
-    return carry(&r, cut, session);
-}
-
-/* To be done at every power-on: what a power cut has left is finished, and the session is a new one. */
-static vs_answer power_on(vs_session *session)
-{
-    request r = {START_UP, NULL, 0, NULL, 0};
-    return carry(&r, UINT64_MAX, session);
-}
 
 static void print_answer(const char *what, vs_answer answer)
 {
@@ -248,7 +291,7 @@ static int rate(const vs_session *session)
 {
     uint8_t name[VS_LARGEST_NAME], data[4];
     size_t name_size = utf16("RATE", name);
-    vs_reply got = vs_get(no_limit, *session, part, PART, name, name_size, our_vendor, data, sizeof data);
+    vs_reply got = vs_get(no_limit, *session, image, PART, name, name_size, our_vendor, data, sizeof data);
     return got.answer.kind == VS_DONE ? data[0] : -1;
 }
 
@@ -256,62 +299,71 @@ static int rate(const vs_session *session)
 static void first_calls(vs_session *session)
 {
     static const uint8_t old_rate[4] = {100}, note[] = {1, 2, 3};
-    request format = {FORMAT, NULL, 0, NULL, 0};
-    print_answer("format", carry(&format, UINT64_MAX, session));
+    print_answer("format", format());
     print_answer("start-up", power_on(session));
-    print_answer("set RATE", set(session, UINT64_MAX, "RATE", PLAIN, old_rate, sizeof old_rate));
-    print_answer("set RATE to the same", set(session, UINT64_MAX, "RATE", PLAIN, old_rate, sizeof old_rate));
-    print_answer("append to NOTE", set(session, UINT64_MAX, "NOTE", PLAIN | VS_APPEND, note, sizeof note));
-    print_answer("append to NOTE", set(session, UINT64_MAX, "NOTE", PLAIN | VS_APPEND, note, sizeof note));
-    list(*session, part, PART);
-    print_answer("delete NOTE", set(session, UINT64_MAX, "NOTE", 0, note, 0));
-    print_answer("delete NOTE", set(session, UINT64_MAX, "NOTE", 0, note, 0));
+    print_answer("set RATE", set(session, "RATE", PLAIN, old_rate, sizeof old_rate));
+    print_answer("set RATE to the same", set(session, "RATE", PLAIN, old_rate, sizeof old_rate));
+    print_answer("append to NOTE", set(session, "NOTE", PLAIN | VS_APPEND, note, sizeof note));
+    print_answer("append to NOTE", set(session, "NOTE", PLAIN | VS_APPEND, note, sizeof note));
+    list(*session, image, PART);
+    print_answer("delete NOTE", set(session, "NOTE", 0, note, 0));
+    print_answer("delete NOTE", set(session, "NOTE", 0, note, 0));
 }
 
 /* Entries until the free part of the region is too short for one more RATE: the next set must compact. */
-static void fill(vs_session *session)
+static void fill(const vs_session *session)
 {
     uint8_t data[40];
     memset(data, 0xA5, sizeof data);
     unsigned count = 0;
-    while (vs_check(part, PART).tail + 76 <= BLOCK) {
+    while (vs_check(image, PART).tail + 76 <= BLOCK) {
         char text[8];
         snprintf(text, sizeof text, "T%03u", count++);
-        if (told(text, set(session, UINT64_MAX, text, PLAIN, data, sizeof data))) {
+        if (told(text, set(session, text, PLAIN, data, sizeof data))) {
             return;
         }
     }
-    printf("%u more variables: free from %u\n", count, (unsigned)vs_check(part, PART).tail);
+    printf("%u more variables: free from %u\n", count, (unsigned)vs_check(image, PART).tail);
 }
 
-/* RATE is set to 200 and the power fails after `cut` stores; then the power comes back. */
-static void cut_at(const uint8_t *before, const vs_session *booted, uint64_t cut)
+/* RATE is set to 200 on the part as it was, and the power fails when so many stores are complete, or inside the next one; then it comes back. */
+static void cut(const uint8_t *before, uint64_t complete, int inside)
 {
     static const uint8_t new_rate[4] = {200};
-    memcpy(part, before, PART);
-    vs_session session = *booted;
-    vs_answer answer = set(&session, cut, "RATE", PLAIN, new_rate, sizeof new_rate);
+    vs_session session;
+    memcpy(part.bytes, before, PART);
+    power_on(&session);
+    part.power = complete;
+    part.inside = inside;
+    vs_answer answer = set(&session, "RATE", PLAIN, new_rate, sizeof new_rate);
+    part.power = UINT64_MAX;
     if (answer.kind == VS_REFUSED) {
         told("set RATE", answer);
         return;
     }
     vs_answer started = power_on(&session);
-    printf("power fails after store %llu of the set (%s): stores of the start-up %llu, RATE is %d\n", (unsigned long long)cut,
-           answer.kind == VS_STOPPED ? "stopped" : "done", (unsigned long long)started.stores, rate(&session));
+    printf("power fails %s store %llu of the set (%s): stores of the start-up %llu, RATE is %d\n", inside ? "in" : "after",
+           (unsigned long long)(complete + (inside ? 1 : 0)), answer.kind == VS_STOPPED ? "stopped" : "done", (unsigned long long)started.stores,
+           rate(&session));
 }
 
+/* A compaction of one block makes 8,197 stores; number 4,098 decides. */
 static int story(void)
 {
-    static const uint64_t cuts[] = {0, 1, 2000, 4097, 4098, 4099, 6000, 8196, 8197};
+    static const uint64_t after[] = {0, 1, 2000, 4097, 4098, 4099, 6000, 8196, 8197}, in[] = {1, 2000, 4098, 4099, 6000, 8196, 8197};
     static uint8_t full[PART];
     vs_session session = vs_session_new(0, 0);
     first_calls(&session);
     fill(&session);
-    memcpy(full, part, PART);
-    for (size_t i = 0; i < sizeof cuts / sizeof cuts[0]; i++) {
-        cut_at(full, &session, cuts[i]);
+    memcpy(full, part.bytes, PART);
+    for (size_t i = 0; i < sizeof after / sizeof after[0]; i++) {
+        cut(full, after[i], 0);
     }
-    return 0;
+    for (size_t i = 0; i < sizeof in / sizeof in[0]; i++) {
+        cut(full, in[i] - 1, 1);
+    }
+    printf("complete: %llu byte programs, %llu block erases\n", (unsigned long long)part.programs, (unsigned long long)part.erases);
+    return memcmp(image, part.bytes, PART) != 0;
 }
 
 int main(int argc, char **argv)

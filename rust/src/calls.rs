@@ -1,8 +1,11 @@
 //! Both implementations as tables of calls, so that tests and benchmarks run on either.
 
+use std::cell::RefCell;
+
 use crate::engine;
 use crate::interface::{Answer, Checked, Context, Key, Listed, Reply, Request, Session, Started};
 use crate::paper;
+use crate::plan::Content;
 
 /// An implementation of document 01, call by call.
 #[derive(Clone, Copy)]
@@ -43,10 +46,16 @@ pub const ENGINE: Calls = Calls {
     lock: engine::lock,
     get: engine::get,
     next_name: engine::next_name,
-    set: engine::set,
-    format: engine::format,
-    start_up: engine::start_up,
+    set: |context, session, image, request| lent(|content| engine::set(context, session, image, request, content)),
+    format: |context, image| lent(|content| engine::format(context, image, content)),
+    start_up: |context, image, custom, reserve| lent(|content| engine::start_up(context, image, custom, reserve, content)),
 };
+
+/// Lends a call of the engine the content, as the last call has left it.
+pub fn lent<T>(call: impl FnOnce(&mut Content) -> T) -> T {
+    thread_local!(static CONTENT: RefCell<Box<Content>> = RefCell::new(Box::new([0xA5; size_of::<Content>()])));
+    CONTENT.with_borrow_mut(|content| call(content))
+}
 
 /// Both, for what is to hold of either.
 pub const BOTH: [Calls; 2] = [PAPER, ENGINE];

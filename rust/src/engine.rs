@@ -1,6 +1,10 @@
-//! The proved engine behind the same calls as `paper`: the declarations of `c/varstore.h`, and thin wrappers over them. All unsafe code is here.
+//! The proved engine behind the same calls as `paper`, and its planning calls: the declarations of `c/varstore.h`, and thin wrappers over them. All unsafe
+//! code is here.
+
+use std::mem::{offset_of, size_of};
 
 use crate::interface::{Answer, Checked, Context, Guid, Key, Listed, Reply, Request, Rule, Session, Started};
+use crate::plan::{Content, Operation, Plan, OPERATIONS};
 
 /// The C structures that are not part of the interface as they stand.
 #[derive(Clone, Copy)]
@@ -49,6 +53,40 @@ struct RawStarted {
     session: Session,
 }
 
+#[derive(Clone, Copy)]
+#[repr(C)]
+struct RawOperation {
+    kind: u64,
+    at: u64,
+    from: u64,
+    len: u64,
+}
+
+#[repr(C)]
+struct RawPlan {
+    rule: u32,
+    deciding: u64,
+    operations: [RawOperation; OPERATIONS],
+}
+
+/// The layout that `c/varstore.h` asserts: a structure's size, and the offsets of its fields.
+macro_rules! laid_out {
+    ($type:ident $size:literal $($field:ident $offset:literal)*) => {
+        const _: () = assert!(size_of::<$type>() == $size $(&& offset_of!($type, $field) == $offset)*);
+    };
+}
+
+const _: () = assert!(size_of::<usize>() == 8 && size_of::<*const u8>() == 8);
+laid_out!(Context 8 limit 0);
+laid_out!(Session 2384 phase 0 custom 4 reserve 8 count 12 sizes 16 locks 80);
+laid_out!(RawAnswer 16 kind 0 rule 4 stores 8);
+laid_out!(RawReply 32 answer 0 size 16 attributes 20 needed 24);
+laid_out!(RawListed 2400 answer 0 session 16);
+laid_out!(RawChecked 24 answer 0 blocks 16 tail 20);
+laid_out!(RawStarted 2400 answer 0 session 16);
+laid_out!(RawOperation 32 kind 0 at 8 from 16 len 24);
+laid_out!(RawPlan 400 rule 0 deciding 8 operations 16);
+
 #[rustfmt::skip]
 extern "C" {
     fn vs_check(image: *const u8, image_len: usize) -> RawChecked;
@@ -60,14 +98,49 @@ extern "C" {
     fn vs_next_name(context: Context, session: Session, image: *const u8, image_len: usize, name: *const u8, name_len: usize,
                     vendor: *const Guid, buffer: *mut u8, buffer_len: usize) -> RawReply;
     fn vs_set(context: Context, session: Session, image: *mut u8, image_len: usize, name: *const u8, name_len: usize,
-              vendor: *const Guid, attributes: u32, data: *const u8, data_len: usize, presence: u32, verdict: u32) -> RawAnswer;
-    fn vs_format(context: Context, image: *mut u8, image_len: usize) -> RawAnswer;
-    fn vs_start_up(context: Context, image: *mut u8, image_len: usize, custom: u32, reserve: u32) -> RawStarted;
+              vendor: *const Guid, attributes: u32, data: *const u8, data_len: usize, presence: u32, verdict: u32,
+              content: *mut Content) -> RawAnswer;
+    fn vs_format(context: Context, image: *mut u8, image_len: usize, content: *mut Content) -> RawAnswer;
+    fn vs_start_up(context: Context, image: *mut u8, image_len: usize, custom: u32, reserve: u32, content: *mut Content) -> RawStarted;
+    fn vs_plan_set(session: Session, image: *const u8, image_len: usize, name: *const u8, name_len: usize, vendor: *const Guid,
+                   attributes: u32, data: *const u8, data_len: usize, presence: u32, verdict: u32, content: *mut Content) -> RawPlan;
+    fn vs_plan_start_up(image: *const u8, image_len: usize, content: *mut Content) -> RawPlan;
+    fn vs_plan_format(image: *const u8, image_len: usize, content: *mut Content) -> RawPlan;
 }
 
 impl RawReply {
     fn reply(self) -> Reply {
         Reply { answer: self.answer.answer(), size: self.size, attributes: self.attributes, needed: self.needed }
+    }
+}
+
+impl RawOperation {
+    fn operation(self) -> Operation {
+        let [at, from, len] = [self.at, self.from, self.len].map(|number| usize::try_from(number).expect("64 bits"));
+        match (self.kind, u8::try_from(from)) {
+            (0, _) if (at, from, len) == (0, 0, 0) => Operation::Nothing,
+            (1, Ok(value)) if len == 1 => Operation::Mark { at, value },
+            (2, _) if from == 0 => Operation::Erase { first: at, count: len },
+            (3, _) => Operation::Program { at, from, len },
+            (4, _) if len == 60 => Operation::Header { at, from },
+            (kind, _) => panic!("the library planned operation {kind} with {at}, {from}, {len}"),
+        }
+    }
+}
+
+impl RawPlan {
+    /// A refused call has no operation, and none decides.
+    fn plan(self) -> Result<Plan, Rule> {
+        let operations = self.operations.map(RawOperation::operation);
+        let deciding = Some(self.deciding as usize).filter(|&number| number != OPERATIONS);
+        assert!(deciding.is_none_or(|number| matches!(operations.get(number), Some(Operation::Mark { .. }))), "operation {deciding:?} decides");
+        match self.rule {
+            0 => Ok(Plan { deciding, operations }),
+            rule => {
+                assert!(deciding.is_none() && operations == [Operation::Nothing; OPERATIONS], "refused {rule}, and {operations:?}");
+                Err(Rule::numbered(rule).unwrap_or_else(|| panic!("the library planned rule {rule}")))
+            }
+        }
     }
 }
 
@@ -101,19 +174,37 @@ pub fn next_name(context: Context, session: &Session, image: &[u8], key: Key, bu
     unsafe { vs_next_name(context, *session, image.as_ptr(), image.len(), name, size, key.vendor, front, length) }.reply()
 }
 
-pub fn set(context: Context, session: &Session, image: &mut [u8], request: &Request) -> Answer {
+pub fn set(context: Context, session: &Session, image: &mut [u8], request: &Request, content: &mut Content) -> Answer {
     let Request { key, attributes, data, presence, verdict } = *request;
     let (name, size) = (key.name.as_ptr(), key.name.len());
     let (bytes, length) = (data.as_ptr(), data.len());
     let (first, whole) = (image.as_mut_ptr(), image.len());
-    unsafe { vs_set(context, *session, first, whole, name, size, key.vendor, attributes, bytes, length, presence, verdict) }.answer()
+    unsafe { vs_set(context, *session, first, whole, name, size, key.vendor, attributes, bytes, length, presence, verdict, content) }.answer()
 }
 
-pub fn format(context: Context, image: &mut [u8]) -> Answer {
-    unsafe { vs_format(context, image.as_mut_ptr(), image.len()) }.answer()
+pub fn format(context: Context, image: &mut [u8], content: &mut Content) -> Answer {
+    unsafe { vs_format(context, image.as_mut_ptr(), image.len(), content) }.answer()
 }
 
-pub fn start_up(context: Context, image: &mut [u8], custom: u32, reserve: u32) -> Started {
-    let raw = unsafe { vs_start_up(context, image.as_mut_ptr(), image.len(), custom, reserve) };
+pub fn start_up(context: Context, image: &mut [u8], custom: u32, reserve: u32, content: &mut Content) -> Started {
+    let raw = unsafe { vs_start_up(context, image.as_mut_ptr(), image.len(), custom, reserve, content) };
     Started { answer: raw.answer.answer(), session: raw.session }
+}
+
+/// What a set is to store; the operations take their bytes from the content.
+pub fn plan_set(session: &Session, image: &[u8], request: &Request, content: &mut Content) -> Result<Plan, Rule> {
+    let Request { key, attributes, data, presence, verdict } = *request;
+    let (name, size) = (key.name.as_ptr(), key.name.len());
+    let (bytes, length) = (data.as_ptr(), data.len());
+    let (first, whole) = (image.as_ptr(), image.len());
+    unsafe { vs_plan_set(*session, first, whole, name, size, key.vendor, attributes, bytes, length, presence, verdict, content) }.plan()
+}
+
+/// The same of a start-up, whose session is `session_new`'s.
+pub fn plan_start_up(image: &[u8], content: &mut Content) -> Result<Plan, Rule> {
+    unsafe { vs_plan_start_up(image.as_ptr(), image.len(), content) }.plan()
+}
+
+pub fn plan_format(image: &[u8], content: &mut Content) -> Result<Plan, Rule> {
+    unsafe { vs_plan_format(image.as_ptr(), image.len(), content) }.plan()
 }

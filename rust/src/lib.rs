@@ -5,3 +5,4 @@ pub mod calls;
 pub mod engine;
 pub mod interface;
 pub mod paper;
+pub mod plan;

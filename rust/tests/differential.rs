@@ -1,5 +1,6 @@
 //! The paper's implementation against the engine: the same random, boundary and damaged images, sessions and arguments go to both, and answer, size,
-//! attributes, needed, the whole buffer, the session and the whole image have to agree after every call.
+//! attributes, needed, the whole buffer, the session and the whole image have to agree after every call. So have the stores of the engine's plans and the
+//! paper's lists, and what is left of the image when a host carries a plan out.
 //!
 //! Every round has a seed of its own, which a failure prints: `SEED=n cargo test --release --test differential` begins with that round.
 //! `SOAK` is the time of each test in seconds, 4 by default.
@@ -12,9 +13,14 @@ use common::cuts::places;
 use common::generate::{self, Asked, Name, BLOCK};
 use common::random::Random;
 use common::same_bytes;
+use common::stored::{carry_out, Call};
 use varstore::calls::{Read, ENGINE, PAPER};
 use varstore::interface::{Answer, Context, Reply, Session};
 use varstore::paper;
+use varstore::plan::{Content, Operation, Plan};
+
+/// What a call finds in its content: nothing that it may rely on.
+const GARBAGE: [Content; 2] = [[0xA5; size_of::<Content>()], [0; size_of::<Content>()]];
 
 /// How often each call has given each answer.
 type Tally = BTreeMap<(&'static str, String), usize>;
@@ -63,36 +69,60 @@ impl Pair<'_> {
         (reply, first)
     }
 
-    fn set(&mut self, asked: &Asked, limit: u64) -> Answer {
-        let mut other = self.image.clone();
-        let (context, request) = (Context { limit }, asked.request());
-        let ours = (PAPER.set)(context, &self.session, &mut self.image, &request);
-        let theirs = (ENGINE.set)(context, &self.session, &mut other, &request);
-        assert_eq!(ours, theirs, "set up to {limit} in phase {}: {asked:?}", self.session.phase);
-        same_bytes("image after set", &self.image, &other);
-        self.count("set", ours);
+    /// A call that may store, with a content full of other bytes than it needs. Where nothing limits it, its plan is looked at too.
+    fn store(&mut self, what: &'static str, call: &Call, limit: u64) -> Answer {
+        let (before, context) = (self.image.clone(), Context { limit });
+        let (ours, session) = call.by(&PAPER, context, &self.session, &mut self.image);
+        for garbage in GARBAGE {
+            let (mut content, mut other) = (garbage, before.clone());
+            let (theirs, their_session) = call.by_engine(context, &self.session, &mut other, &mut content);
+            assert_eq!(ours, theirs, "{what} up to {limit} in phase {}: {call:?}", self.session.phase);
+            same_session(&session, &their_session);
+            same_bytes(&format!("image after {what}"), &self.image, &other);
+            assert!(!matches!(ours, Answer::Refused(_)) || content == garbage, "the content of a refused {what}");
+            if limit < u64::MAX {
+                break;
+            }
+            self.plan(what, call, &before, garbage);
+        }
+        self.session = session;
+        self.count(what, ours);
         ours
     }
 
+    /// The engine's plan of a call on the image before it: rule, stores and deciding store are the paper's, and carried out they leave the image that the call
+    /// left. A refused call keeps the content.
+    fn plan(&mut self, what: &'static str, call: &Call, before: &[u8], garbage: Content) {
+        let mut content = garbage;
+        let plan = match (call.plan(&self.session, before, &mut content), call.stores(&self.session, before)) {
+            (Ok(plan), Ok(list)) => {
+                assert_eq!((plan.count(), plan.deciding_store()), (list.len(), list.deciding()), "stores and the deciding one of {what}: {call:?}");
+                assert!(plan.stores(&content).eq(list.iter()), "the stores of {what}: {call:?}");
+                plan
+            }
+            (Err(theirs), Err(ours)) => {
+                assert_eq!(ours, theirs, "rule of {what}: {call:?}");
+                assert!(content == garbage, "the content of a refused plan of {what}");
+                return *self.tally.entry(("plan", format!("{what} refused"))).or_default() += 1;
+            }
+            (theirs, ours) => panic!("{what} is planned {theirs:?}, and has {:?} stores: {call:?}", ours.map(|list| list.len())),
+        };
+        let mut part = before.to_vec();
+        carry_out(&plan, &content, u64::MAX, &mut part);
+        same_bytes("image after the plan", &self.image, &part);
+        *self.tally.entry(("plan", format!("{what} that {}", deeds(&plan)))).or_default() += 1;
+    }
+
+    fn set(&mut self, asked: &Asked, limit: u64) -> Answer {
+        self.store("set", &Call::Set(asked.clone()), limit)
+    }
+
     fn format(&mut self, limit: u64) {
-        let mut other = self.image.clone();
-        let ours = (PAPER.format)(Context { limit }, &mut self.image);
-        let theirs = (ENGINE.format)(Context { limit }, &mut other);
-        assert_eq!(ours, theirs, "format up to {limit}");
-        same_bytes("image after format", &self.image, &other);
-        self.count("format", ours);
+        self.store("format", &Call::Format, limit);
     }
 
     fn start_up(&mut self, limit: u64, custom: u32, reserve: u32) -> Answer {
-        let mut other = self.image.clone();
-        let ours = (PAPER.start_up)(Context { limit }, &mut self.image, custom, reserve);
-        let theirs = (ENGINE.start_up)(Context { limit }, &mut other, custom, reserve);
-        assert_eq!(ours.answer, theirs.answer, "start-up up to {limit}");
-        same_session(&ours.session, &theirs.session);
-        same_bytes("image after start-up", &self.image, &other);
-        self.session = ours.session;
-        self.count("startup", ours.answer);
-        ours.answer
+        self.store("startup", &Call::StartUp { custom, reserve }, limit)
     }
 
     fn lock(&mut self, name: &Name) {
@@ -132,6 +162,20 @@ impl Pair<'_> {
         }
         self.image.copy_from_slice(&before);
         self.start_up(u64::MAX, 1, 100);
+    }
+}
+
+/// What a plan does, by the kinds of its operations.
+fn deeds(plan: &Plan) -> &'static str {
+    let any = |kind: fn(&Operation) -> bool| plan.operations.iter().any(kind);
+    let programs = any(|operation| matches!(operation, Operation::Program { .. }));
+    let erases = any(|operation| matches!(operation, Operation::Erase { .. }));
+    match (programs, erases) {
+        (true, true) => "programs and erases",
+        (true, false) => "programs",
+        (false, true) => "erases",
+        (false, false) if plan.count() > 0 => "marks",
+        (false, false) => "does nothing",
     }
 }
 
@@ -239,6 +283,8 @@ fn any_call() {
     expect_seen(&tally, "next", &["done without stores", "refused 2", "refused 3", "refused 11", "refused 14"]);
     expect_seen(&tally, "startup", &["done", "done without stores", "stopped", "refused 2"]);
     expect_seen(&tally, "lock", &["done without stores", "refused 3", "refused 15", "refused 16"]);
+    expect_seen(&tally, "plan", &["set refused", "set that does nothing", "set that marks", "set that programs", "set that programs and erases"]);
+    expect_seen(&tally, "plan", &["startup refused", "startup that does nothing", "startup that erases", "startup that programs and erases"]);
 }
 
 /// The same image with one more damage each time: whether a call may use it, what a start-up makes of it, and what is read.
@@ -374,6 +420,7 @@ fn lengths() {
     }
     expect_seen(&tally, "check", &["done without stores", "refused 1", "refused 2"]);
     expect_seen(&tally, "format", &["done", "stopped", "refused 1"]);
+    expect_seen(&tally, "plan", &["format refused", "format that programs and erases", "set refused", "startup refused"]);
     for call in ["set", "get", "next", "startup"] {
         expect_seen(&tally, call, &["refused 1"]);
     }

@@ -1,5 +1,6 @@
 //! Power cuts: a call is cut after each number of its stores, whole or with the next store begun; then a start-up is done, the image's list of
-//! values equals the book, and a second start-up makes no stores. Each test's name says what is cut.
+//! values equals the book, and a second start-up makes no stores. Each test's name says what is cut. The stores are made by the engine's calls, and
+//! by a host that carries out the engine's plans.
 //!
 //! `SOAK` is the time in seconds of each random test, and a failure prints its seed: `SEED=n cargo test --release --test power_cuts` begins with it.
 
@@ -7,14 +8,17 @@ mod common;
 
 use std::collections::BTreeMap;
 
-use common::cuts::{begun, places, Begun, Call, Cut, Garbage, Run, START_UP};
+use common::cuts::{begun, places, Begun, Cut, Garbage, Run, Way, START_UP};
 use common::generate::{self, Asked, Name, BLOCK};
 use common::random::Random;
 use common::rounds::{once, rounds};
+use common::stored::Call;
 use common::{same_bytes, signed, A, B, NEW, OLD, RATE, VENDOR};
-use varstore::calls::{Calls, Read, BOTH, ENGINE, PAPER};
+use varstore::calls::{lent, Calls, Read, BOTH, ENGINE, PAPER};
 use varstore::interface::{Answer, Context, Key, Reply, Rule};
 use varstore::paper::request::PK;
+use varstore::paper::Stores;
+use varstore::plan::Operation;
 
 const C: Key = Key { name: b"C\0\0\0", vendor: &VENDOR };
 const S: Key = Key { name: b"S\0\0\0", vendor: &VENDOR };
@@ -75,25 +79,33 @@ impl Made for Run {
     }
 }
 
-/// The call is cut everywhere, each time followed by a start-up. `count` is the number of its stores. A begun byte store leaves all that it may
-/// in a short list, and in a sample of a long one.
+/// The call is cut everywhere, each time followed by a start-up. `count` is the number of its stores.
 fn cut_everywhere(run: &Run, call: &Call, count: usize) {
-    once(|r| {
-        let list = run.stores(call).expect("an accepted call");
-        assert_eq!(list.len(), count);
-        for after in 0..=count {
-            let mut cut = run.clone();
-            cut.cut(call, Cut { after, begun: None }, r);
-            cut.clone().recover();
-            let Some(store) = list.get(after) else { continue };
-            for left in begun(store, &cut.image, count <= 300 || r.once_in(64)) {
-                let mut torn = cut.clone();
-                torn.begin(store, left, r);
-                torn.cuts = vec![Cut { after, begun: Some(left) }];
-                torn.recover();
+    cut_after(run, call, count, |list, _| (0..=list.len()).collect());
+}
+
+/// The call is cut after each of some numbers of stores, and inside the next store. A begun byte store leaves all that it may in a short list, and in a
+/// sample of a long one.
+fn cut_after(run: &Run, call: &Call, count: usize, numbers: fn(&Stores, &mut Random) -> Vec<usize>) {
+    for way in Way::BOTH {
+        once(|r| {
+            let run = Run { way, ..run.clone() };
+            let list = run.stores(call).expect("an accepted call");
+            assert_eq!(list.len(), count);
+            for after in numbers(&list, r) {
+                let mut cut = run.clone();
+                cut.cut(call, Cut { after, begun: None }, r);
+                cut.clone().recover();
+                let Some(store) = list.get(after) else { continue };
+                for left in begun(store, &cut.image, count <= 300 || r.once_in(64)) {
+                    let mut torn = cut.clone();
+                    torn.begin(store, left, r);
+                    torn.cuts = vec![Cut { after, begun: Some(left) }];
+                    torn.recover();
+                }
             }
-        }
-    });
+        });
+    }
 }
 
 #[test]
@@ -224,6 +236,28 @@ fn compaction_of_two_blocks_with_64_records_used() {
     cut_compaction(2, 64);
 }
 
+/// At the ends of its operations and many places between them.
+#[test]
+fn compaction_of_seven_blocks() {
+    cut_after(&crowded(7), &compacting(), 57361, |list, r| places(list, 4001, r));
+}
+
+/// One planning call tells all its stores, from operations whose number does not grow with the region; the record's FC decides.
+#[test]
+fn plan_of_a_compaction_of_seven_blocks() {
+    let run = crowded(7);
+    lent(|content| {
+        let plan = compacting().plan(&run.session, &run.image, content).expect("an accepted call");
+        let made: Vec<_> = plan.operations.into_iter().filter(|operation| *operation != Operation::Nothing).collect();
+        let (length, mark) = (7 * BLOCK, |value| Operation::Mark { at: 7 * BLOCK, value });
+        let copy = |at| Operation::Program { at, from: 0, len: length };
+        let erase = |first| Operation::Erase { first, count: 7 };
+        assert_eq!(made, [mark(0xFE), copy(length + BLOCK), mark(0xFC), erase(0), copy(0), mark(0xF8), erase(8)]);
+        assert_eq!(plan.deciding.map(|number| plan.operations[number]), Some(mark(0xFC)));
+        assert_eq!((plan.stores(content).count(), plan.deciding_store()), (57361, Some(28673)));
+    });
+}
+
 /// "Full as above, first value replaced by 2,048 other bytes": the region is full before and after.
 #[test]
 fn compaction_of_a_full_region() {
@@ -350,7 +384,7 @@ fn cut_start_ups(deep: usize, seconds: u64) {
     let cases = cases();
     let count = rounds(seconds, 20, |r| {
         for (run, call) in &cases {
-            let mut run = run.clone();
+            let mut run = Run { way: r.pick(&Way::BOTH), ..run.clone() };
             let cut = random_cut(&run, call, r);
             run.cut(call, cut, r);
             for _ in 0..deep {
@@ -514,6 +548,7 @@ fn any_call_of_a_run() {
             if r.once_in(10) && (PAPER.check)(&run.image).answer == Answer::Done(0) {
                 run.former = run.image[..blocks * BLOCK].to_vec();
             }
+            run.way = r.pick(&Way::BOTH);
             random_step(&mut run, r, &mut tally);
         }
         run.recover();

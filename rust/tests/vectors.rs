@@ -15,9 +15,11 @@ use std::path::Path;
 use std::process::{Command, Stdio};
 
 use common::digest::{crc32, sha256};
-use varstore::calls::{Calls, BOTH};
-use varstore::interface::{Answer, Context, Guid, Key, Reply, Request, Rule, Session};
-use varstore::paper::{self, Stores};
+use common::generate::{Asked, Name};
+use common::stored::Call;
+use varstore::calls::{lent, Calls, BOTH, PAPER};
+use varstore::interface::{Answer, Context, Guid, Key, Reply, Rule, Session};
+use varstore::paper;
 
 /// The fields of one line, and where it stands.
 struct Line<'a> {
@@ -117,7 +119,7 @@ impl Player {
             "get" => self.read(line, self.calls.get),
             "next" => self.read(line, self.calls.next_name),
             "startup" => self.start_up(line),
-            "format" => self.format(line),
+            "format" => self.store(line, &Call::Format),
             "lock" => self.lock(line),
             "phase" => self.session = (self.calls.phase)(self.session, line.number("to")),
             "varlist" => self.varlist(line),
@@ -132,29 +134,29 @@ impl Player {
     }
 
     fn set(&mut self, line: &Line) {
-        let (name, vendor, data) = (line.bytes("name"), line.guid(), line.bytes("data"));
-        let key = Key { name: &name, vendor: &vendor };
+        let name = Name { name: line.bytes("name"), vendor: line.guid() };
         let (attributes, presence, verdict) = (line.number("attrs"), line.number("presence"), line.number("verdict"));
-        let request = Request { key, attributes, data: &data, presence, verdict };
-        let list = paper::set_stores(&self.session, &self.image, &request);
-        let answer = (self.calls.set)(line.context(), &self.session, &mut self.image, &request);
-        expect_answer(line, answer);
-        expect_list(line, answer, list);
-    }
-
-    fn format(&mut self, line: &Line) {
-        let list = paper::format_stores(&self.image);
-        let answer = (self.calls.format)(line.context(), &mut self.image);
-        expect_answer(line, answer);
-        expect_list(line, answer, list);
+        self.store(line, &Call::Set(Asked { name, attributes, data: line.bytes("data"), presence, verdict }));
     }
 
     fn start_up(&mut self, line: &Line) {
-        let list = paper::start_up_stores(&self.image);
-        let started = (self.calls.start_up)(line.context(), &mut self.image, line.number("custom"), line.number("reserve"));
-        self.session = started.session;
-        expect_answer(line, started.answer);
-        expect_list(line, started.answer, list);
+        self.store(line, &Call::StartUp { custom: line.number("custom"), reserve: line.number("reserve") });
+    }
+
+    fn store(&mut self, line: &Line, call: &Call) {
+        let list = self.list(call);
+        let (answer, session) = call.by(&self.calls, line.context(), &self.session, &mut self.image);
+        self.session = session;
+        expect_answer(line, answer);
+        expect_list(line, answer, list);
+    }
+
+    /// The length of the paper's list or the engine's plan, and the index of its deciding store.
+    fn list(&self, call: &Call) -> Result<(usize, Option<usize>), Rule> {
+        if self.calls.who == PAPER.who {
+            return call.stores(&self.session, &self.image).map(|list| (list.len(), list.deciding()));
+        }
+        lent(|content| call.plan(&self.session, &self.image, content)).map(|plan| (plan.count(), plan.deciding_store()))
     }
 
     fn read(&mut self, line: &Line, call: fn(Context, &Session, &[u8], Key, &mut [u8]) -> Reply) {
@@ -215,9 +217,9 @@ fn expect_answer(line: &Line, answer: Answer) {
     line.expect("stores", &stores.to_string());
 }
 
-/// The list's length and deciding store are the paper's; any implementation is stopped exactly if the list is longer than n.
-fn expect_list(line: &Line, answer: Answer, list: Result<Stores, Rule>) {
-    let (length, deciding) = list.as_ref().map_or((0, None), |list| (list.len(), list.deciding()));
+/// The list's length and deciding store; the call is stopped exactly if the list is longer than n.
+fn expect_list(line: &Line, answer: Answer, list: Result<(usize, Option<usize>), Rule>) {
+    let (length, deciding) = list.unwrap_or((0, None));
     line.expect("list", &length.to_string());
     line.expect("deciding", &deciding.map_or("-1".into(), |index| index.to_string()));
     if list.is_ok() {

@@ -3,9 +3,11 @@
 mod common;
 
 use common::{signed, A, B, NEW, OLD, RATE, VENDOR};
-use varstore::calls::{Calls, BOTH};
+use varstore::calls::{lent, Calls, BOTH};
+use varstore::engine;
 use varstore::interface::{Answer, Context, Key, Reply, Request, Rule, Session, AFTER_END_OF_DXE, RUNTIME};
 use varstore::paper::{self, request};
+use varstore::plan::{Content, Operation, Plan, OPERATIONS};
 
 /// The offset of the first entry's state, of b = 1's work block, and of its spare.
 const STATE: usize = 28 + 2;
@@ -395,6 +397,53 @@ fn deciding_stores() {
         station.set(A, 0x07, &[1; 2048]);
         assert_eq!(deciding(&station, A, 0x07, &[3; 2048]), (8197, Some(4097), Some(paper::Store::Byte(WORK, 0xFC))));
     });
+}
+
+/// The engine's plan of a call on the store that holds RATE: the operations that are not nothing, and the one that decides.
+fn planned(plan: impl FnOnce(&mut Content) -> Result<Plan, Rule>) -> (Vec<Operation>, Option<Operation>) {
+    let plan = lent(plan).expect("accepted");
+    let operations = plan.operations.into_iter().filter(|operation| *operation != Operation::Nothing).collect();
+    (operations, plan.deciding.map(|number| plan.operations[number]))
+}
+
+/// A plan has one operation for each part of a sentence of the paper: "In the tail ..", "Delete ..", and a compaction's; no operation of a start-up decides.
+#[test]
+fn planned_operations() {
+    on_rate(|mut station| {
+        let Station { session, image, .. } = station.clone();
+        let mark = |at, value| Operation::Mark { at, value };
+        let program = |at, from, len| Operation::Program { at, from, len };
+        let erase = |first, count| Operation::Erase { first, count };
+        let set = |attributes, data| {
+            let request = Request { key: RATE, attributes, data, presence: 0, verdict: 0 };
+            planned(|content| engine::plan_set(&session, &image, &request, content))
+        };
+        let header = [Operation::Header { at: 104, from: 0 }];
+        let written = [mark(106, 0x7F), program(164, 60, 10), program(174, 70, 4), mark(106, 0x3F), mark(STATE, 0x3C)];
+        assert_eq!(set(0x07, NEW), ([&[mark(STATE, 0x3E)], &header[..], &written].concat(), Some(mark(106, 0x3F))));
+        assert_eq!(set(0, &[]), (vec![mark(STATE, 0x3D)], Some(mark(STATE, 0x3D))));
+        assert_eq!(set(0x07, OLD), (vec![], None));
+        assert_eq!(planned(|content| engine::plan_format(&image, content)), (vec![erase(0, 3), program(0, 0, 28)], None));
+        assert_eq!(planned(|content| engine::plan_start_up(&image, content)), (vec![], None));
+        station.image[4000] = 0;
+        let filled = [mark(WORK, 0xFE), program(SPARE, 0, 4096), mark(WORK, 0xFC)];
+        let copied = [erase(0, 1), program(0, 0, 4096), mark(WORK, 0xF8), erase(2, 1)];
+        assert_eq!(planned(|content| engine::plan_start_up(&station.image, content)), ([&filled[..], &copied].concat(), None));
+    });
+}
+
+/// "header bytes in rising order without state": 59 stores.
+#[test]
+fn stores_of_a_header() {
+    let mut content = [0; size_of::<Content>()];
+    (0..).zip(&mut content[..200]).for_each(|(value, byte)| *byte = value);
+    let mut operations = [Operation::Nothing; OPERATIONS];
+    operations[2] = Operation::Header { at: 1000, from: 7 };
+    operations[4] = Operation::Mark { at: 1002, value: 0x7F };
+    let plan = Plan { deciding: Some(4), operations };
+    let header = (0..60).filter(|place| *place != 2).map(|place| paper::Store::Byte(1000 + place, 7 + place as u8));
+    assert!(plan.stores(&content).eq(header.chain([paper::Store::Byte(1002, 0x7F)])));
+    assert_eq!((plan.count(), plan.deciding_store()), (60, Some(59)));
 }
 
 /// "Stopped exactly if its list of stores is longer than n: the image is then as after the first n"; a byte store only clears bits.

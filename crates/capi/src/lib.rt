@@ -6,11 +6,16 @@ ghost use Rattle.model.specs.Set.{setPlan};
 ghost use Rattle.model.specs.StartUp.{startUpPlan, formatPlan};
 ghost use Rattle.model.specs.Answers.{answerOf, outcome, imageAfter, getPlan, nextPlan, getReply, nextReply, lockOutcome, lockSession};
 ghost use Rattle.decision.specs.Decision.{requestOf};
+ghost use Rattle.model.specs.Book as book;
+ghost use Rattle.recovery.specs.Host.{StartUpPlanned, PlannedFor};
+ghost use Rattle.plan.specs.Planned.{Kept};
+ghost use Rattle.plan.specs.Told.{Told};
 ghost use Rattle.capi.specs.Numbers.{numbersOf, checkedOf};
 use image::Check;
 use model::Answer;
 use model::Context;
 use model::Session;
+use plan::HostPlan;
 
 // An answer in numbers: 0 done, 1 stopped, 2 refused; the rule if refused, else 0; the number of stores if done, else 0.
 #[repr(C)]
@@ -129,7 +134,8 @@ pub extern "C" fn vs_get(
     vendor: &[u8; 16],
     buffer: &mut [u8],
 ) -> Reply
-    ensures { λ r. ⌜ (r .answer ≡ numbersOf (outcome (context .limit) (getPlan session (keyed (now (name .entry)) (now (vendor .entry))) (now (buffer .entry)) (now (image .entry)))))
+    ensures { λ r. ⌜ (r .answer
+        ≡ numbersOf (outcome (context .limit) (getPlan session (keyed (now (name .entry)) (now (vendor .entry))) (now (buffer .entry)) (now (image .entry)))))
         × (r .size ≡ getReply session (keyed (now (name .entry)) (now (vendor .entry))) (now (buffer .entry)) (now (image .entry)) .size)
         × (r .attributes ≡ getReply session (keyed (now (name .entry)) (now (vendor .entry))) (now (buffer .entry)) (now (image .entry)) .attributes)
         × (r .needed ≡ getReply session (keyed (now (name .entry)) (now (vendor .entry))) (now (buffer .entry)) (now (image .entry)) .needed)
@@ -154,7 +160,8 @@ pub extern "C" fn vs_next_name(
     vendor: &[u8; 16],
     buffer: &mut [u8],
 ) -> Reply
-    ensures { λ r. ⌜ (r .answer ≡ numbersOf (outcome (context .limit) (nextPlan session (keyed (now (name .entry)) (now (vendor .entry))) (now (buffer .entry)) (now (image .entry)))))
+    ensures { λ r. ⌜ (r .answer
+        ≡ numbersOf (outcome (context .limit) (nextPlan session (keyed (now (name .entry)) (now (vendor .entry))) (now (buffer .entry)) (now (image .entry)))))
         × (r .size ≡ nextReply session (keyed (now (name .entry)) (now (vendor .entry))) (now (buffer .entry)) (now (image .entry)) .size)
         × (r .attributes ≡ 0)
         × (r .needed ≡ nextReply session (keyed (now (name .entry)) (now (vendor .entry))) (now (buffer .entry)) (now (image .entry)) .needed)
@@ -181,9 +188,19 @@ pub extern "C" fn vs_set(
     bytes: &[u8],
     presence: u32,
     verdict: u32,
+    content: &mut [u8; 28672],
 ) -> Answered
-    ensures { λ r. ⌜ (r ≡ numbersOf (outcome (context .limit) (setPlan session (requestOf (now (name .entry)) (now (vendor .entry)) attributes (now (bytes .entry)) presence verdict) (now (image .entry)))))
-        × (now (image .exit) ≡ imageAfter (context .limit) (setPlan session (requestOf (now (name .entry)) (now (vendor .entry)) attributes (now (bytes .entry)) presence verdict) (now (image .entry))) (now (image .entry))) ⌝ }
+    ensures { λ r. ⌜ (r
+        ≡ numbersOf (outcome (context .limit)
+        (setPlan session (requestOf (now (name .entry)) (now (vendor .entry)) attributes (now (bytes .entry)) presence verdict) (now (image .entry)))))
+        × (now (image .exit)
+        ≡ imageAfter (context .limit)
+        (setPlan session (requestOf (now (name .entry)) (now (vendor .entry)) attributes (now (bytes .entry)) presence verdict) (now (image .entry)))
+        (now (image .entry)))
+        × Kept
+        (setPlan session (requestOf (now (name .entry)) (now (vendor .entry)) attributes (now (bytes .entry)) presence verdict) (now (image .entry)))
+        (now (content .entry))
+        (now (content .exit)) ⌝ }
 {
     let answer = engine::write::set(
         context,
@@ -195,16 +212,22 @@ pub extern "C" fn vs_set(
         bytes,
         presence,
         verdict,
+        content,
     );
     numbers(answer)
 }
 
 #[no_mangle]
-pub extern "C" fn vs_format(context: Context, image: &mut [u8]) -> Answered
+pub extern "C" fn vs_format(
+    context: Context,
+    image: &mut [u8],
+    content: &mut [u8; 28672],
+) -> Answered
     ensures { λ r. ⌜ (r ≡ numbersOf (outcome (context .limit) (formatPlan (now (image .entry)))))
-        × (now (image .exit) ≡ imageAfter (context .limit) (formatPlan (now (image .entry))) (now (image .entry))) ⌝ }
+        × (now (image .exit) ≡ imageAfter (context .limit) (formatPlan (now (image .entry))) (now (image .entry)))
+        × Kept (formatPlan (now (image .entry))) (now (content .entry)) (now (content .exit)) ⌝ }
 {
-    let answer = engine::write::format(context, image);
+    let answer = engine::write::format(context, image, content);
     numbers(answer)
 }
 
@@ -214,16 +237,72 @@ pub extern "C" fn vs_start_up(
     image: &mut [u8],
     custom: u32,
     reserve: u32,
+    content: &mut [u8; 28672],
 ) -> Started
     ensures { λ r. ⌜ (r .answer ≡ numbersOf (outcome (context .limit) (startUpPlan (now (image .entry)))))
         × (r .session ≡ freshSession custom reserve)
-        × (now (image .exit) ≡ imageAfter (context .limit) (startUpPlan (now (image .entry))) (now (image .entry))) ⌝ }
+        × (now (image .exit) ≡ imageAfter (context .limit) (startUpPlan (now (image .entry))) (now (image .entry)))
+        × Kept (startUpPlan (now (image .entry))) (now (content .entry)) (now (content .exit)) ⌝ }
 {
-    let started = engine::start::start_up(context, image, custom, reserve);
+    let started = engine::start::start_up(context, image, custom, reserve, content);
     let answer = started.answer;
     let session = started.session;
     Started {
         answer: numbers(answer),
         session,
     }
+}
+
+#[no_mangle]
+pub extern "C" fn vs_plan_set(
+    session: Session,
+    image: &[u8],
+    name: &[u8],
+    vendor: &[u8; 16],
+    attributes: u32,
+    bytes: &[u8],
+    presence: u32,
+    verdict: u32,
+    content: &mut [u8; 28672],
+) -> HostPlan
+    ensures { λ r. ⌜ PlannedFor
+        (book.set session (requestOf (now (name .entry)) (now (vendor .entry)) attributes (now (bytes .entry)) presence verdict))
+        (now (image .entry))
+        (now (content .exit))
+        r
+        × Kept
+        (setPlan session (requestOf (now (name .entry)) (now (vendor .entry)) attributes (now (bytes .entry)) presence verdict) (now (image .entry)))
+        (now (content .entry))
+        (now (content .exit)) ⌝ }
+{
+    let planned = engine::write::plan_set(
+        session,
+        image,
+        name,
+        vendor,
+        attributes,
+        bytes,
+        presence,
+        verdict,
+        content,
+    );
+    plan::in_numbers(planned)
+}
+
+#[no_mangle]
+pub extern "C" fn vs_plan_start_up(image: &[u8], content: &mut [u8; 28672]) -> HostPlan
+    ensures { λ r. ⌜ StartUpPlanned (now (image .entry)) (now (content .exit)) r
+        × Kept (startUpPlan (now (image .entry))) (now (content .entry)) (now (content .exit)) ⌝ }
+{
+    let planned = engine::start::plan_start_up(image, content);
+    plan::in_numbers(planned)
+}
+
+#[no_mangle]
+pub extern "C" fn vs_plan_format(image: &[u8], content: &mut [u8; 28672]) -> HostPlan
+    ensures { λ r. ⌜ Told (formatPlan (now (image .entry))) (now (content .exit)) r
+        × Kept (formatPlan (now (image .entry))) (now (content .entry)) (now (content .exit)) ⌝ }
+{
+    let planned = engine::write::plan_format(image, content);
+    plan::in_numbers(planned)
 }

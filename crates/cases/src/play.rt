@@ -39,14 +39,21 @@ fn print_answer(call: &[u8], a: Answer) {
     print::end();
 }
 
+// Room for what a call composes.
+fn content() -> [u8; 28672] {
+    [0; 28672]
+}
+
 fn format(step: &[u8], image: &mut [u8]) {
-    print_answer(b"format", engine::write::format(context(step), image));
+    let mut content = content();
+    print_answer(b"format", engine::write::format(context(step), image, &mut content));
 }
 
 fn start_up(step: &[u8], image: &mut [u8]) -> Session {
     let custom = fields::byte(step, 5) as u32;
     let reserve = fields::long(step, 6) as u32;
-    let started = engine::start::start_up(context(step), image, custom, reserve);
+    let mut content = content();
+    let started = engine::start::start_up(context(step), image, custom, reserve, &mut content);
     let answer = started.answer;
     print_answer(b"start-up", answer);
     started.session
@@ -56,6 +63,7 @@ fn set(step: &[u8], image: &mut [u8], s: Session) {
     let vendor = fields::vendor(step, 11);
     let size = fields::short(step, 27);
     let attributes = fields::long(step, 5) as u32;
+    let mut content = content();
     let answer = engine::write::set(
         context(step),
         s,
@@ -66,6 +74,7 @@ fn set(step: &[u8], image: &mut [u8], s: Session) {
         slices::cut(step, 33 + size, fields::long(step, 29)),
         fields::byte(step, 9) as u32,
         fields::byte(step, 10) as u32,
+        &mut content,
     );
     print_answer(b"set", answer);
 }

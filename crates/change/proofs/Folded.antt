@@ -3,44 +3,50 @@
 -- Assumes nothing.
 use Prim.Native.Nat.{ℕ, _+_, _*_, _-_, _^_, _≤_, _<_}
 use native.Mathlib.Omega.{arith}
-use mathlib.Core.Path.{_≡_, sym, ap, _∙_}
-use mathlib.Core.Bool.{true}
+use mathlib.Core.Path.{_≡_, refl, sym, ap, _∙_, subst}
+use mathlib.Core.Bool.{true, false}
 use mathlib.Core.List.{List, _++_}
-use lib.ListN.{length, replicate}
+use lib.ListN.{length, take, replicate, length-append, length-replicate}
+use lib.Seq.{length-sets}
 use Rattle.model.specs.Lists.{part}
-use Rattle.model.specs.Image.{block, regionSize, region, regionHeader}
+use Rattle.model.specs.Image.{block, blocks, regionSize, region, work, regionHeader}
 use Rattle.model.specs.Entry.{Value}
 use Rattle.model.specs.Region.{entries, values, valuesOf}
-use Rattle.model.specs.Work.{idle}
+use Rattle.model.specs.Work.{usedRecords}
 use Rattle.model.specs.Change.{put, step, spaceOf}
 use Rattle.model.specs.Compact.{joined, encode, nextRecord, fillSpare, finish, compactTo, compactOn}
+use Rattle.model.specs.Stores.{Store}
+use Rattle.model.specs.Set.{make, fitsTail, putPlan}
+use Rattle.model.specs.Answers.{storesOf}
+use Rattle.model.specs.Book.{ClearsOne, isRecord}
 use Rattle.model.proofs.Chunks.{sound-chunked}
 use Rattle.model.proofs.Encode.{AllValid, sound-valid, put-valid}
+use Rattle.values.specs.declared.Places.{Places}
 use Rattle.text.specs.Text.{Wrote}
-use Rattle.text.proofs.Writing.{wrote-front}
-use Rattle.flash.specs.declared.Progress.{Progress}
-use Rattle.flash.specs.Made.{Made}
-use Rattle.flash.proofs.Made.{made-as}
+use Rattle.text.proofs.Writing.{wrote-append, wrote-front, wrote-length}
 use Rattle.compose.proofs.Encoded.{content-length, encode-content}
-use Rattle.compaction.proofs.Listed.{compact-list}
-use Rattle.change.specs.Asked.{Folds}
-use Rattle.change.proofs.Ready.{image-long, region-size, ready-idle, value-short}
+use Rattle.plan.specs.declared.Op.{Op}
+use Rattle.plan.specs.declared.Step.the-variants.{Nothing}
+use Rattle.plan.specs.declared.Planned.{Planned}
+use Rattle.plan.specs.Plan.{storesOfStep}
+use Rattle.plan.specs.Planned.{accepted}
+use Rattle.plan.proofs.Parts.{accepted-as, accepted-ready}
+use Rattle.compaction.specs.Plans.{compactPlan}
+use Rattle.compaction.proofs.Plans.{compact-to, compact-on}
+use Rattle.compaction.proofs.Ready.{compact-ready}
+use Rattle.change.specs.Asked.{Asked, PutPlanned}
+use Rattle.change.proofs.Ready.{image-long, region-size, value-short}
 
 -- what is composed, of a region's bytes and a value
 abbrev after : List ℕ → Value → List ℕ
 after r v = regionHeader (length r) ++ joined (step (put v) (values (entries r)))
 
--- what is to be stored, without the FF bytes at its end
-pub record Content (img : List ℕ) (b : ℕ) (v : Value) (x : List ℕ) : Type 0 where
-  pub short : length x ≤ block * b
-  pub whole : x ++ replicate (block * b - length x) 0xFF ≡ encode (regionSize img) (step (put v) (valuesOf img))
-
-module _ {img : List ℕ} {b : ℕ} {v : Value} {p : Progress} (a : Folds img b v p) where
+module _ {img : List ℕ} {b : ℕ} {at : ℕ} {places : Places} {v : Value} (a : Asked img b at places v) (vendor : length (v .vendor) ≡ 16) where
   all-valid : AllValid (step (put v) (valuesOf img))
   unfolding valuesOf
   all-valid =
       let c = sound-chunked (region img) (omega (arith, a .ready .long)) (a .ready .sounds) in
-      put-valid v (values (entries (region img))) (a .valid) (sound-valid (region img) c)
+      put-valid v (values (entries (region img))) (a .valid vendor) (sound-valid (region img) c)
 
   after-length : length (after (region img) v) ≡ spaceOf (step (put v) (valuesOf img))
   unfolding valuesOf
@@ -56,7 +62,7 @@ module _ {img : List ℕ} {b : ℕ} {v : Value} {p : Progress} (a : Folds img b 
       let few = a .ready .few in
       let h = value-short v (a .ready) (a .room) in
       let n = after-short in
-      rw (e ∙ a .ready .cut) (omega (arith, a .ready .long), omega arith, omega arith, a .valid .vendor, omega arith)
+      rw (e ∙ a .ready .cut) (omega (arith, a .ready .long), omega arith, omega arith, vendor, omega arith)
 
   whole-content : after (region img) v ++ replicate (block * b - length (after (region img) v)) 0xFF ≡ encode (regionSize img) (step (put v) (valuesOf img))
   unfolding valuesOf block
@@ -67,30 +73,66 @@ module _ {img : List ℕ} {b : ℕ} {v : Value} {p : Progress} (a : Folds img b 
       ∙ encode-content (length (region img)) (step (put v) (values (entries (region img)))) all-valid
       ∙ ap (λ (n : ℕ). encode n (step (put v) (values (entries (region img))))) e
 
-  -- what was composed
-  pub fold-content : {r l l′ x : List ℕ} {n : ℕ} → r ≡ part 0 (4096 * b) img → Wrote (after r v) 0 l l′ n → x ≡ part 0 n l′ → 28672 ≤ length l
-      → Content img b v x
-  unfolding block
-  fold-content {r} {l} {l′} {x} {n} e w f h =
-      let few = a .ready .few in
-      let t = after-short in
-      let same : after r v ≡ after (region img) v = ap (λ (y : List ℕ). after y v) (e ∙ a .ready .cut) in
-      let m : length (after r v) ≡ length (after (region img) v) = ap length same in
-      let is : x ≡ after (region img) v = f ∙ wrote-front w (omega arith) ∙ same in
-      record {
-        short = rw is t;
-        whole = ap (λ (y : List ℕ). y ++ replicate (4096 * b - length y) 0xFF) is ∙ whole-content;
-      }
+  abbrev wanted : List ℕ
+  wanted = encode (regionSize img) (step (put v) (valuesOf img))
 
-  -- what the compaction asks
-  pub fold-asked : {x : List ℕ} → Content img b v x
-      → ((1 ≤ b) × (b ≤ 7) × (length img ≡ block * (2 * b + 1))) × (idle (part (block * b) block img) ≡ true) × (length x ≤ block * b) × (p .made < 2 ^ 60)
-  fold-asked k =
-      let s = image-long img b (a .ready .right) (a .ready .number) in
-      ((s .0, a .ready .few, s .1), ready-idle img b (a .ready .ready) (a .ready .number), k .short, a .early)
+  module _ {r l l₁ : List ℕ} {n : ℕ} (e : r ≡ part 0 (4096 * b) img) (w : Wrote (after r v) 0 l l₁ n) (room : length l ≡ 28672) where
+    same : after r v ≡ after (region img) v
+    same = ap (λ (y : List ℕ). after y v) (e ∙ a .ready .cut)
 
-  pub fold-made : {x j : List ℕ} {q : Progress} → Content img b v x
-      → Made (fillSpare b (part (block * b) block img) (x ++ replicate (block * b - length x) 0xFF) ++ finish b (nextRecord (part (block * b) block img)) (x ++ replicate (block * b - length x) 0xFF)) p img j q
-      → Made (compactTo img (step (put v) (valuesOf img)) ++ compactOn img (step (put v) (valuesOf img))) p img j q
-  fold-made {x} k m =
-      made-as (compact-list img b (x ++ replicate (block * b - length x) 0xFF) (step (put v) (valuesOf img)) (sym (a .ready .number)) (k .whole)) m
+    -- what the padding asks
+    pub pad-asked : (n ≤ 4096 * b) × (n + (4096 * b - n) ≤ length l₁)
+    pad-asked =
+        let k = ap length same in
+        let t = after-short in
+        let few = a .ready .few in
+        let h : n ≤ 4096 * b = omega (arith, w .place) in
+        (h, omega (arith, wrote-length w))
+
+    module _ {c : List ℕ} {m : ℕ} (x : Wrote (replicate (4096 * b - n) 0xFF) n l₁ c m) where
+      -- what was composed
+      pub composed : part 0 (block * b) c ≡ wanted
+      unfolding block
+      composed =
+          let k = ap length same in
+          let h = pad-asked in
+          let few = a .ready .few in
+          let at : n ≡ length (after (region img) v) = omega (arith, w .place) in
+          let long : length (after r v ++ replicate (4096 * b - n) 0xFF) ≡ 4096 * b = length-append (after r v) (replicate (4096 * b - n) 0xFF) ∙ (let z = length-replicate {A = ℕ} (4096 * b - n) 0xFF in omega (arith, w .place, h .0)) in
+          let y = wrote-append w x in
+          let p : m ≡ 4096 * b = omega (arith, y .place) in
+          let f = wrote-front y (omega (arith, room)) in
+          ap (λ (k : ℕ). take k c) (sym p) ∙ f
+          ∙ ap (λ (z : List ℕ). z ++ replicate (4096 * b - n) 0xFF) same
+          ∙ ap (λ (k : ℕ). after (region img) v ++ replicate (4096 * b - k) 0xFF) at
+          ∙ whole-content
+
+      work-is : part (block * b) block img ≡ work img
+      unfolding work regionSize
+      work-is = ap (λ (k : ℕ). part (block * k) block img) (sym (a .ready .number))
+
+      module _ (fit : fitsTail (region img) v ≡ false) where
+        is-plan : putPlan img v ≡ make (fillSpare b (work img) wanted) (finish b (nextRecord (work img)) wanted)
+        unfolding putPlan compactTo compactOn
+        is-plan = rw (fit, a .ready .number)
+
+        -- *what was planned*
+        pub fold-planned : {ops : List Op} {p : Planned} {used : ℕ} → used ≡ usedRecords (part (block * b) block img) → ops ≡ compactPlan Nothing Nothing b used
+            → p ≡ accepted ops 5 → PutPlanned img v c p
+        unfolding storesOf storesOfStep block
+        fold-planned {ops} {p} {used} u o f =
+            let ops′ : List Op = compactPlan Nothing Nothing b (usedRecords (work img)) in
+            let is : ops ≡ ops′ = o ∙ ap (λ (k : ℕ). compactPlan Nothing Nothing b k) (u ∙ ap usedRecords work-is) in
+            let size : regionSize img ≡ 4096 * b = region-size img b (a .ready .number) in
+            let long : length img ≡ 4096 * (2 * b + 1) = image-long img b (a .ready .right) (a .ready .number) .1 in
+            let few = a .ready .few in
+            let held : 4096 * b ≤ length c = omega (arith, wrote-length x, wrote-length w) in
+            record {
+              same =
+                  accepted-as c ops′ 5 (fillSpare b (work img) wanted) (finish b (nextRecord (work img)) wanted) f is (compact-to c b (work img) wanted composed) (compact-on c b (work img) wanted composed)
+                  ∙ sym is-plan;
+              ready = λ states records.
+                  accepted-ready c img ops′ 5 f is
+                  (compact-ready c img Nothing Nothing b (work img) wanted composed size (omega arith) held tt tt tt tt
+                  (subst (λ (ss : List Store). ClearsOne (isRecord img) ss img) (ap storesOf is-plan) records));
+            }

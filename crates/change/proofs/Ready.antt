@@ -15,15 +15,11 @@ use Rattle.model.specs.Entry.{Value, plainSize}
 use Rattle.model.specs.Region.{clean, valuesOf}
 use Rattle.model.specs.Work.{idle, readyForCall}
 use Rattle.model.specs.Change.{put, step, spaceOf}
-use Rattle.model.specs.Answers.{storesOf}
-use Rattle.model.specs.Set.{putPlan}
 use Rattle.model.proofs.Tests.{and-split}
 use Rattle.values.specs.declared.Places.{Places}
+use Rattle.plan.specs.declared.Planned.{Planned}
 use Rattle.image.proofs.Ready.{IsReady}
-use Rattle.flash.specs.declared.Progress.{Progress}
-use Rattle.flash.specs.Made.{Made}
-use Rattle.flash.proofs.Made.{made-as}
-use Rattle.change.specs.Asked.{Asked, Folds}
+use Rattle.change.specs.Asked.{Asked, PutPlanned}
 use Rattle.change.proofs.Composed.{put-space}
 
 -- the length of an image of b blocks
@@ -56,14 +52,9 @@ ready-idle img b h e =
 pub value-short : {img : List ℕ} {b t : ℕ} (v : Value) → IsReady img b t → spaceOf (step (put v) (valuesOf img)) ≤ regionSize img → plainSize v ≤ 28672
 value-short {img} {b} v r h = omega (arith, put-space v (valuesOf img), r .few, region-size img b (r .number))
 
--- what is asked of a compaction with the value folded in
-pub asked-folds : {img : List ℕ} {b at : ℕ} {places : Places} {v : Value} {p : Progress} → Asked img b at places v p → length (v .vendor) ≡ 16 → Folds img b v p
-asked-folds {img} {b} a g =
-    record { ready = subst (λ (t : ℕ). IsReady img b t) (sym (a .ready .tail-at)) (a .ready); valid = a .valid g; room = a .room; early = a .early }
-
 -- the same value by other names
-pub asked-as : {img : List ℕ} {b at : ℕ} {places : Places} {v w : Value} {p : Progress} → v ≡ w → Asked img b at places w p → Asked img b at places v p
-asked-as {img} {b} {at} {places} {p = p} e a = subst (λ (x : Value). Asked img b at places x p) (sym e) a
+pub asked-as : {img : List ℕ} {b at : ℕ} {places : Places} {v w : Value} → v ≡ w → Asked img b at places w → Asked img b at places v
+asked-as {img} {b} {at} {places} e a = subst (λ (x : Value). Asked img b at places x) (sym e) a
 
-pub stored-as : {img j : List ℕ} {v w : Value} {p q : Progress} → v ≡ w → Made (storesOf (putPlan img v)) p img j q → Made (storesOf (putPlan img w)) p img j q
-stored-as {img} e m = made-as (ap (λ (x : Value). storesOf (putPlan img x)) e) m
+pub planned-as : {img c : List ℕ} {v w : Value} {p : Planned} → v ≡ w → PutPlanned img v c p → PutPlanned img w c p
+planned-as {img} {c} {p = p} e a = subst (λ (x : Value). PutPlanned img x c p) e a

@@ -1,79 +1,108 @@
--- A put in the tail. The rounded entry fits where the code finds room for it; the region is clean, so the entries found are in their states and the tail is
--- blank; and the stores made are those of the plan. Where it does not fit the plan is the compaction.
+-- A put in the tail. The rounded entry fits where the code finds room for it; its bytes stand at the content's front; and the plan's stores are those of the definitions.
 -- Assumes nothing.
 use Prim.Native.Nat.{ℕ, _+_, _*_, _^_, _≤_, _<_}
 use native.Mathlib.Omega.{arith}
-use mathlib.Core.Path.{_≡_, sym, ap, _∙_, subst}
+use mathlib.Core.Path.{_≡_, refl, sym, ap, _∙_, subst}
+use mathlib.Core.Logic.{_⊎_, inl, inr}
 use mathlib.Core.Bool.{true, false}
 use mathlib.Core.List.{List, _++_}
-use lib.ListN.{length, getD, take, drop}
-use borrow.Author.Tests.{le-leb, lt-leb}
-use Rattle.model.specs.Image.{region}
-use Rattle.model.specs.Entry.{Value, entrySize}
-use Rattle.model.specs.Region.{entries, tailAt, valuesOf}
-use Rattle.model.specs.Change.{put, step}
-use Rattle.model.specs.Compact.{compactTo, compactOn}
-use Rattle.model.specs.Set.{tailTo, tailOn, fitsTail, putPlan}
+use lib.ListN.{length, take, drop, length-append}
+use lib.Seq.{sets-eq, length-sets}
+use borrow.Author.Tests.{le-leb, lt-leb, leb-true}
+use Rattle.model.specs.Image.{block, region}
+use Rattle.model.specs.Entry.{Value, keyOf, plainSize, entrySize, entryBytes}
+use Rattle.model.specs.Region.{entries, tailAt}
+use Rattle.model.specs.Stores.{Store}
+use Rattle.model.specs.Set.{make, tailTo, tailOn, fitsTail, putPlan}
 use Rattle.model.specs.Answers.{storesOf}
+use Rattle.model.specs.Book.{ClearsOne, isState, isRecord}
 use Rattle.values.specs.declared.Places.{Places}
-use Rattle.flash.specs.declared.Progress.{Progress}
-use Rattle.flash.specs.Made.{Made}
-use Rattle.flash.proofs.Made.{made-as}
-use Rattle.compose.specs.Compose.{headerBytes}
-use Rattle.compose.proofs.Headers.{header-front, header-rest}
-use Rattle.writes.specs.Listed.{replaceOf, writtenOf, retireOf}
-use Rattle.writes.specs.Ready.{Below, Stated}
-use Rattle.writes.proofs.Lists.{tail-write-is}
-use Rattle.writes.proofs.Places.{places-ready, tail-ready}
-use Rattle.change.specs.Asked.{Asked}
-use Rattle.change.proofs.Ready.{ready-clean, value-short}
+use Rattle.text.specs.Text.{Wrote}
+use Rattle.compose.proofs.Headers.{entry-short}
+use Rattle.plan.specs.declared.Op.{Op}
+use Rattle.plan.specs.declared.Planned.{Planned}
+use Rattle.plan.specs.Planned.{accepted}
+use Rattle.plan.proofs.Parts.{accepted-as, accepted-ready}
+use Rattle.writes.specs.Plans.{Below, tailPlan}
+use Rattle.writes.proofs.Plans.{Holds, tail-to, tail-on, entry-holds}
+use Rattle.writes.proofs.Ready.{tail-ready}
+use Rattle.writes.proofs.Found.{places-below}
+use Rattle.change.specs.Asked.{Asked, PutPlanned}
+use Rattle.change.proofs.Ready.{image-long, ready-clean, value-short}
 
-module _ {img : List ℕ} {b at : ℕ} {places : Places} {v : Value} {p : Progress} (a : Asked img b at places v p) where
-  fits : at + entrySize v ≤ 4096 * b → fitsTail (region img) v ≡ true
+-- the size as the code counts it
+pub size-is : (name old own : List ℕ) → 60 + length name + length old + length own + 3 ≡ 60 + length name + length (old ++ own) + 3
+size-is name old own = omega (arith, length-append old own)
+
+module _ {img : List ℕ} {b at : ℕ} {places : Places} {v : Value} (a : Asked img b at places v) where
+  pub fits : at + entrySize v ≤ 4096 * b → fitsTail (region img) v ≡ true
   unfolding fitsTail
   fits h = le-leb (tailAt (region img) + entrySize v) (length (region img)) (omega (arith, a .ready .long, a .ready .tail-at))
 
-  fits-not : 4096 * b < at + entrySize v → fitsTail (region img) v ≡ false
+  pub fits-not : 4096 * b < at + entrySize v → fitsTail (region img) v ≡ false
   unfolding fitsTail
   fits-not h = lt-leb (tailAt (region img) + entrySize v) (length (region img)) (omega (arith, a .ready .long, a .ready .tail-at))
 
-  -- what the tail write asks
-  pub tail-asked : at + entrySize v ≤ 4096 * b
-      → Below at places × (at + 60 + length (v .name) + length (v .bytes) ≤ length img)
-      × (p .made + 64 + length (v .name) + length (v .bytes) < 2 ^ 62)
-      × (p .made < p .limit → Stated img places × (getD img (at + 2) 0 ≡ 0xFF))
-  tail-asked h =
-      let r = a .ready in
-      let c = ready-clean img (r .ready) in
-      let e = r .tail-at in
-      let x = places-ready img (r .right) c places _ (a .added) (a .replacing) in
-      let y = tail-ready img (r .right) c v (fits h) in
-      let s = value-short v r (a .room) in
-      let early = a .early in (
-        subst (λ (n : ℕ). Below n places) e (x .0),
-        omega (arith, y .0),
-        omega arith,
-        λ l. (x .1, ap (λ (n : ℕ). getD img (n + 2) 0) (sym e) ∙ y .1),
-      )
+  -- the places lie below an offset that the region does
+  pub below : (end : ℕ) → 28672 ≤ end ⊎ length img ≤ end → Below end (places .added) × Below end (places .replacing)
+  unfolding block
+  below end h =
+      places-below img (a .ready .right) (ready-clean img (a .ready .ready)) (places .added) (places .replacing) (keyOf v) (a .added) (a .replacing) end (short h)
+    where
+      short : 28672 ≤ end ⊎ length img ≤ end → length (region img) ≤ end
+      short (inl h) = omega (arith, a .ready .long, a .ready .few)
+      short (inr h) = omega (arith, a .ready .long, image-long img b (a .ready .right) (a .ready .number) .1)
 
-  plan-tail : at + entrySize v ≤ 4096 * b → tailTo at v (entries (region img)) ++ tailOn v (entries (region img)) ≡ storesOf (putPlan img v)
-  unfolding putPlan storesOf
-  plan-tail h = rw (fits h) (ap (λ (n : ℕ). tailTo n v (entries (region img)) ++ tailOn v (entries (region img))) (sym (a .ready .tail-at)))
+  module _ (fit : fitsTail (region img) v ≡ true) where
+    tail-room : tailAt (region img) + entrySize v ≤ length (region img)
+    unfolding fitsTail
+    tail-room = leb-true (tailAt (region img) + entrySize v) (length (region img)) fit
 
-  -- what it stores
-  pub tail-made : (s : ℕ) → at + entrySize v ≤ 4096 * b → {header j : List ℕ} {q : Progress}
-      → header ≡ headerBytes s (v .attributes) (v .stamp) (length (v .name)) (length (v .bytes)) (v .vendor)
-      → Made (replaceOf places ++ writtenOf at header (v .name) (v .bytes) ++ retireOf places) p img j q → Made (storesOf (putPlan img v)) p img j q
-  tail-made s h {header} e m =
-      let front = header-front s (v .attributes) (v .stamp) (length (v .name)) (length (v .bytes)) (v .vendor) in
-      let rest = header-rest s v in
-      made-as (tail-write-is places v (entries (region img)) (a .added) (a .replacing) at header (ap (take 2) e ∙ front) (ap (drop 3) e ∙ rest) ∙ plan-tail h) m
+    -- what the planning asks
+    pub tail-asked : Below (2 ^ 62) (places .added) × Below (2 ^ 62) (places .replacing) × (at + length (v .name) + length (v .bytes) < 2 ^ 62)
+    tail-asked =
+        let x = below (2 ^ 62) (inl (omega arith)) in
+        let t = tail-room in
+        (x .0, x .1, omega (arith, a .ready .tail-at, a .ready .long, a .ready .few))
 
-  plan-fold : 4096 * b < at + entrySize v
-      → compactTo img (step (put v) (valuesOf img)) ++ compactOn img (step (put v) (valuesOf img)) ≡ storesOf (putPlan img v)
-  unfolding putPlan storesOf
-  plan-fold h = rw (fits-not h)
+    module _ (vendor : length (v .vendor) ≡ 16) {l c : List ℕ} {n : ℕ} (w : Wrote (entryBytes 0x3F v) 0 l c n) (room : length l ≡ 28672) where
+      entry-fits : length (entryBytes 0x3F v) ≤ length l
+      entry-fits =
+          let s = entry-short 0x3F v (omega (arith, a .valid vendor .stamp)) (omega arith) in
+          let t = tail-room in
+          omega (arith, a .ready .long, a .ready .few)
 
-  pub fold-stored : 4096 * b < at + entrySize v → {j : List ℕ} {q : Progress}
-      → Made (compactTo img (step (put v) (valuesOf img)) ++ compactOn img (step (put v) (valuesOf img))) p img j q → Made (storesOf (putPlan img v)) p img j q
-  fold-stored h m = made-as (plan-fold h) m
+      holds : Holds c v
+      holds =
+          subst (λ (x : List ℕ). Holds x v) (sym (w .buffer ∙ sets-eq (entryBytes 0x3F v) l 0 (let h = entry-fits in omega arith)))
+          (entry-holds 0x3F v (drop (0 + length (entryBytes 0x3F v)) l) (a .valid vendor .stamp) vendor)
+
+      held : 60 + length (v .name) + length (v .bytes) ≤ length c
+      held =
+          let t = tail-room in
+          omega (arith, a .ready .long, a .ready .few, ap length (w .buffer) ∙ length-sets l 0 (entryBytes 0x3F v))
+
+      is-plan : putPlan img v ≡ make (tailTo (tailAt (region img)) v (entries (region img))) (tailOn v (entries (region img)))
+      unfolding putPlan
+      is-plan = rw fit
+
+      -- *what was planned*
+      pub tail-planned : {ops : List Op} {p : Planned} {m : ℕ} → m ≡ length (v .bytes) → ops ≡ tailPlan places at (length (v .name)) m → p ≡ accepted ops 6 → PutPlanned img v c p
+      unfolding storesOf block
+      tail-planned {ops} {p} {m} e o f =
+          let es = entries (region img) in
+          let t = tailAt (region img) in
+          let ops′ : List Op = tailPlan places t (length (v .name)) (length (v .bytes)) in
+          let is : ops ≡ ops′ = o ∙ ap (λ (k : ℕ). tailPlan places at (length (v .name)) k) e ∙ ap (λ (k : ℕ). tailPlan places k (length (v .name)) (length (v .bytes))) (sym (a .ready .tail-at)) in
+          let x = below (length img) (inr (omega arith)) in
+          let long = image-long img b (a .ready .right) (a .ready .number) in
+          let r = tail-room in
+          record {
+            same =
+                accepted-as c ops′ 6 (tailTo t v es) (tailOn v es) f is (tail-to c places v es (a .added) (a .replacing) holds t) (tail-on c places v es (a .added) (a .replacing) t)
+                ∙ sym is-plan;
+            ready = λ states records.
+                accepted-ready c img ops′ 6 f is
+                (tail-ready c img places v (a .added) (a .replacing) (x .0) (x .1) (omega (arith, a .ready .long, long .1)) held holds
+                (subst (λ (ss : List Store). ClearsOne (isState img) ss img) (ap storesOf is-plan) (states fit)));
+          }

@@ -1,13 +1,11 @@
 -- The value to put. The functions that read a set's arguments give its attributes, stamp and data proper; rule 8 is kept, so that the stamp is the descriptor's;
 -- and the data of the entry that stands are those of the name's value, so that an append's are the new data.
 -- Assumes nothing.
-use Prim.Native.Nat.{ℕ, _*_, _≤_}
-use native.Mathlib.Omega.{arith}
-use mathlib.Core.Path.{_≡_, sym, ap, _∙_}
-use mathlib.Core.Bool.{true, false}
+use Prim.Native.Nat.{ℕ, _*_}
+use mathlib.Core.Path.{_≡_, refl, sym, ap, _∙_}
+use mathlib.Core.Bool.{Bool, true, false, cond}
 use mathlib.Core.List.{List, [], _++_}
 use mathlib.Core.Option.{Option, none, some}
-use lib.ListN.{length}
 use Rattle.model.specs.Lists.{part, onSome}
 use Rattle.model.specs.Image.{region}
 use Rattle.model.specs.Name.{Key, keyed}
@@ -21,14 +19,10 @@ use Rattle.model.proofs.Values.{find-standing}
 use Rattle.values.specs.declared.Found.{Found}
 use Rattle.values.specs.declared.Found.the-variants.{At, Nothing}
 use Rattle.values.specs.declared.Places.{Places}
-use Rattle.values.specs.Found.{foundOf}
+use Rattle.values.specs.Found.{foundOf, elseFound}
 use Rattle.values.proofs.Stands.{standing-stands, nothing-first}
-use Rattle.text.specs.Text.{Wrote}
-use Rattle.text.proofs.Writing.{wrote-front}
-use Rattle.flash.specs.declared.Progress.{Progress}
 use Rattle.compose.specs.Compose.{oldData}
-use Rattle.writes.specs.Listed.{standingOf}
-use Rattle.writes.proofs.Lists.{standing-is}
+use Rattle.writes.proofs.Plans.{standing-is}
 use Rattle.policy.specs.Rules.{rule8Of}
 use Rattle.policy.specs.Descriptor.{properOf, stampOf}
 use Rattle.policy.proofs.Plain.{rule8-plain, proper-plain, stamp-plain}
@@ -47,26 +41,6 @@ standing-data r k s Nothing p =
     let i = nothing-first (standing k (entries r)) p in
     sym (ap (λ (o : Option Value). onSome o (λ v. v .bytes) []) (h ∙ ap (λ (o : Option walk.Entry). onSome o (λ x. some (walk.entryValue x)) none) i))
 
--- ---- an append's data
-
-module _ {img : List ℕ} {b at : ℕ} {places : Places} {name vendor : List ℕ} {attributes : ℕ} {stamp : List ℕ} (own : List ℕ) {p : Progress}
-    (a : Asked img b at places (valued name vendor attributes stamp (appended img name vendor own)) p) where
-  old-data : {r : List ℕ} {f : Found} → r ≡ part 0 (4096 * b) img → f ≡ standingOf places → oldData r f ++ own ≡ appended img name vendor own
-  unfolding appended valuesOf
-  old-data {r} {f} e s =
-      let k = keyed name vendor in
-      let is = standing-is places k (entries (region img)) (a .added) (a .replacing) in
-      ap (λ (x : List ℕ). oldData x f ++ own) (e ∙ a .ready .cut)
-      ∙ ap (λ (x : List ℕ). x ++ own) (standing-data (region img) k (a .ready .sounds) f (sym (s ∙ is)))
-
-  pub joined-value : {r l l′ x : List ℕ} {f : Found} {n : ℕ} → r ≡ part 0 (4096 * b) img → f ≡ standingOf places → Wrote (oldData r f ++ own) 0 l l′ n
-      → x ≡ part 0 n l′ → 2048 ≤ length l → valued name vendor attributes stamp x ≡ valued name vendor attributes stamp (appended img name vendor own)
-  joined-value {r} {l} {f = g} e s w f h =
-      let is = old-data e s in
-      let few : length (appended img name vendor own) ≤ 2048 = a .few in
-      let short : length (oldData r g ++ own) ≤ length l = omega (arith, ap length is) in
-      ap (λ (y : List ℕ). valued name vendor attributes stamp y) (f ∙ wrote-front w short ∙ is)
-
 -- ---- the value
 
 module _ (img name vendor : List ℕ) (a : ℕ) (bytes : List ℕ) (keeps : rule8Of a bytes ≡ false) where
@@ -80,10 +54,32 @@ module _ (img name vendor : List ℕ) (a : ℕ) (bytes : List ℕ) (keeps : rule
   stored = stamp-plain r (rule8-plain r ∙ keeps)
 
   module _ {kept : ℕ} {stamp own : List ℕ} (w : kept ≡ withoutAppend a) (s : stamp ≡ stampOf a bytes) (o : own ≡ properOf a bytes) where
-    pub value-plain : appends a ≡ false → valued name vendor kept stamp own ≡ valueToPut img name vendor a bytes
+    value-plain : appends a ≡ false → valued name vendor kept stamp own ≡ valueToPut img name vendor a bytes
     unfolding valueToPut newValue newData
     value-plain n = rw (w, s, o, n, stored, proper-plain r)
 
-    pub value-appended : appends a ≡ true → valued name vendor kept stamp (appended img name vendor own) ≡ valueToPut img name vendor a bytes
+    value-appended : appends a ≡ true → valued name vendor kept stamp (appended img name vendor own) ≡ valueToPut img name vendor a bytes
     unfolding valueToPut newValue newData appended
     value-appended n = rw (w, s, o, n, stored, proper-plain r)
+
+    -- *the value to put*, by the data that are kept
+    module _ {b at : ℕ} {places : Places} (asked : Asked img b at places (valueToPut img name vendor a bytes)) {reg kept-data : List ℕ} (cut : reg ≡ part 0 (4096 * b) img)
+        (k : kept-data ≡ cond (appends a) (oldData reg (elseFound (places .added) (places .replacing))) []) where
+      old-data : oldData reg (elseFound (places .added) (places .replacing)) ++ own ≡ appended img name vendor own
+      unfolding appended valuesOf valueToPut newValue
+      old-data =
+          let key = keyed name vendor in
+          let is = standing-is [] places key (entries (region img)) (asked .added) (asked .replacing) in
+          ap (λ (x : List ℕ). oldData x (elseFound (places .added) (places .replacing)) ++ own) (cut ∙ asked .ready .cut)
+          ∙ ap (λ (x : List ℕ). x ++ own) (standing-data (region img) key (asked .ready .sounds) (elseFound (places .added) (places .replacing)) (sym is))
+
+      pub value-kept : valued name vendor kept stamp (kept-data ++ own) ≡ valueToPut img name vendor a bytes
+      value-kept = go (appends a) refl
+        where
+          go : (t : Bool) → appends a ≡ t → valued name vendor kept stamp (kept-data ++ own) ≡ valueToPut img name vendor a bytes
+          go true n =
+              ap (λ (x : List ℕ). valued name vendor kept stamp (x ++ own)) (k ∙ ap (λ (t : Bool). cond t (oldData reg (elseFound (places .added) (places .replacing))) []) n)
+              ∙ ap (λ (x : List ℕ). valued name vendor kept stamp x) old-data ∙ value-appended n
+          go false n =
+              ap (λ (x : List ℕ). valued name vendor kept stamp (x ++ own)) (k ∙ ap (λ (t : Bool). cond t (oldData reg (elseFound (places .added) (places .replacing))) []) n)
+              ∙ value-plain n

@@ -1,20 +1,26 @@
 -- The value that a put stores, and what the checks of the call leave to it.
-use Prim.Native.Nat.{ℕ, _^_, _≤_, _<_}
+use Prim.Native.Nat.{ℕ, _≤_}
 use mathlib.Core.Path.{_≡_}
+use mathlib.Core.Bool.{true}
 use mathlib.Core.List.{List, [], _++_}
 use lib.ListN.{length}
 use Rattle.model.specs.Lists.{onSome}
 use Rattle.model.specs.Name.{keyed}
 use Rattle.model.specs.Image.{regionSize, region}
 use Rattle.model.specs.Entry.{Value, keyOf}
-use Rattle.model.specs.Region.{maxData, entries, tailAt, valuesOf, added, replacing, find}
+use Rattle.model.specs.Region.{entries, valuesOf, added, replacing, find}
 use Rattle.model.specs.Request.{Request}
 use Rattle.model.specs.Change.{put, newValue, step, spaceOf}
+use Rattle.model.specs.Set.{fitsTail, putPlan}
+use Rattle.model.specs.Answers.{storesOf}
+use Rattle.model.specs.Book.{ClearsOne, isState, isRecord}
 use Rattle.model.proofs.Encode.{Valid}
 use Rattle.values.specs.Found.{foundOf}
 use Rattle.values.specs.declared.Places.{Places}
 use Rattle.image.proofs.Ready.{IsReady}
-use Rattle.flash.specs.declared.Progress.{Progress}
+use Rattle.plan.specs.declared.Planned.{Planned}
+use Rattle.plan.specs.Plan.{Ready}
+use Rattle.plan.specs.Planned.{plannedAs}
 
 -- a value by its fields
 abbrev pub valued : List ℕ → List ℕ → ℕ → List ℕ → List ℕ → Value
@@ -37,18 +43,16 @@ appended img name vendor own = onSome (find (keyed name vendor) (valuesOf img)) 
 
 -- before a value is put: the image is ready, of b blocks and with its tail at an offset, the places are those of the name's entries, and the value is one that a
 -- region can hold (a GUID is 16 bytes by its type) and has room beside the others
-pub record Asked (img : List ℕ) (b tail : ℕ) (places : Places) (v : Value) (p : Progress) : Type 0 where
+pub record Asked (img : List ℕ) (b tail : ℕ) (places : Places) (v : Value) : Type 0 where
   pub ready : IsReady img b tail
   pub added : places .added ≡ foundOf (added (keyOf v) (entries (region img)))
   pub replacing : places .replacing ≡ foundOf (replacing (keyOf v) (entries (region img)))
   pub valid : length (v .vendor) ≡ 16 → Valid v
-  pub few : length (v .bytes) ≤ maxData
   pub room : spaceOf (step (put v) (valuesOf img)) ≤ regionSize img
-  pub early : p .made < 2 ^ 60
 
--- the same for a value that is folded into a compaction, whatever stands of its name
-pub record Folds (img : List ℕ) (b : ℕ) (v : Value) (p : Progress) : Type 0 where
-  pub ready : IsReady img b (tailAt (region img))
-  pub valid : Valid v
-  pub room : spaceOf (step (put v) (valuesOf img)) ≤ regionSize img
-  pub early : p .made < 2 ^ 60
+-- a put was planned over an image, with this content: it is what the definitions plan, and what the executor asks, if every change of state and record clears one bit
+pub record PutPlanned (img : List ℕ) (v : Value) (content : List ℕ) (p : Planned) : Type 0 where
+  pub same : plannedAs content p ≡ putPlan img v
+  pub ready : (fitsTail (region img) v ≡ true → ClearsOne (isState img) (storesOf (putPlan img v)) img)
+      → ClearsOne (isRecord img) (storesOf (putPlan img v)) img
+      → Ready content (p .plan) img

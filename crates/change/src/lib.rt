@@ -1,31 +1,33 @@
-// Carrying out a put: the value that a set asks for is stored in the tail, or with a compaction.
+// The plan of a put: the value that a set asks for is stored in the tail, or with a compaction. What is to be stored is composed in the content.
 ghost use mathlib.Core.Path.{_≡_};
-ghost use mathlib.Core.Bool.{false};
-ghost use mathlib.Core.List.{_++_};
+ghost use mathlib.Core.Bool.{true, false, cond};
+ghost use mathlib.Core.List.{[], _++_};
 ghost use Prim.Native.Nat.{_^_, _≤_, _<_};
 ghost use lib.ListN.{length};
-ghost use Rattle.model.specs.Image.{regionHeader};
-ghost use Rattle.model.specs.Region.{entries, values, valuesOf};
+ghost use Rattle.model.specs.Image.{regionHeader, region};
+ghost use Rattle.model.specs.Region.{entries, values};
 ghost use Rattle.model.specs.Change.{put, step};
-ghost use Rattle.model.specs.Compact.{joined, compactTo, compactOn};
-ghost use Rattle.model.specs.Set.{putPlan};
-ghost use Rattle.model.specs.Answers.{storesOf};
+ghost use Rattle.model.specs.Compact.{joined};
+ghost use Rattle.model.specs.Request.{appends};
+ghost use Rattle.model.specs.Set.{fitsTail};
+ghost use Rattle.values.specs.Found.{elseFound};
 ghost use Rattle.text.specs.Text.{Wrote};
-ghost use Rattle.flash.specs.Made.{Made};
+ghost use Rattle.compose.specs.Compose.{oldData};
 ghost use Rattle.policy.specs.Rules.{rule8Of};
-ghost use Rattle.change.specs.Asked.{valued, valueToPut, appended, Asked, Folds};
-use flash::Progress;
+ghost use Rattle.change.specs.Asked.{valued, valueToPut, Asked, PutPlanned};
+use plan::Planned;
+use plan::Step;
 use values::Places;
 use values::lookup;
 
-// Room for the largest region.
-fn room() -> [u8; 28672] {
-    [0; 28672]
-}
-
-// Room for the largest data.
-fn data_room() -> [u8; 2048] {
-    [0; 2048]
+// "Append joins the data": those that a set keeps.
+fn kept_data(region: &[u8], places: Places, attributes: u32) -> &[u8]
+    ensures { λ r. ⌜ now r ≡ cond (appends attributes) (oldData (now (region .entry)) (elseFound (places .added) (places .replacing))) [] ⌝ }
+{
+    if policy::appends(attributes) {
+        return compose::old_data(region, lookup::standing(places));
+    }
+    &region[..0]
 }
 
 // The front of the region after the change: its header and the values in flash order, the changed one last.
@@ -36,49 +38,87 @@ fn put_after(
     vendor: &[u8],
     attributes: u32,
     stamp: &[u8; 16],
-    bytes: &[u8],
+    old: &[u8],
+    own: &[u8],
 ) -> usize
     requires { ⌜ (length (now region) ≤ 28672)
         × (length (now name) < 2 ^ 32)
-        × (length (now bytes) < 2 ^ 32)
+        × (length (now old ++ now own) < 2 ^ 32)
         × (length (now vendor) ≡ 16)
-        × (length (regionHeader (length (now region)) ++ joined (step (put (valued (now name) (now vendor) attributes (now stamp) (now bytes))) (values (entries (now region))))) ≤ 28672) ⌝ }
-    ensures { λ r. ⌜ Wrote (regionHeader (length (now (region .entry))) ++ joined (step (put (valued (now (name .entry)) (now (vendor .entry)) attributes (now (stamp .entry)) (now (bytes .entry)))) (values (entries (now (region .entry)))))) 0 (now (out .entry)) (now (out .exit)) r ⌝ }
+        × (length (regionHeader (length (now region)) ++ joined (step (put (valued (now name) (now vendor) attributes (now stamp) (now old ++ now own))) (values (entries (now region))))) ≤ 28672) ⌝ }
+    ensures { λ r. ⌜ Wrote (regionHeader (length (now (region .entry))) ++ joined (step (put (valued (now (name .entry)) (now (vendor .entry)) attributes (now (stamp .entry)) (now (old .entry) ++ now (own .entry)))) (values (entries (now (region .entry)))))) 0 (now (out .entry)) (now (out .exit)) r
+        × (length (now (vendor .entry)) ≡ 16) ⌝ }
 {
     let next = compose::put_values(out, region, name, vendor);
-    compose::put_entry(out, next, attributes, stamp, name, vendor, bytes)
+    compose::put_entry(out, next, attributes, stamp, name, vendor, old, own)
 }
 
-// "Otherwise the region is compacted with the change folded in".
+// "Otherwise the region is compacted with the change folded in", "rest FF".
 fn fold(
-    image: &mut [u8],
+    image: &[u8],
     b: usize,
+    tail: usize,
+    places: Places,
     name: &[u8],
-    vendor: &[u8],
+    vendor: &[u8; 16],
     attributes: u32,
     stamp: &[u8; 16],
-    bytes: &[u8],
-    p: Progress,
-) -> Progress
-    requires { ⌜ Folds (now image) b (valued (now name) (now vendor) attributes (now stamp) (now bytes)) p ⌝ }
-    ensures { λ r. ⌜ Made (compactTo (now (image .entry)) (step (put (valued (now (name .entry)) (now (vendor .entry)) attributes (now (stamp .entry)) (now (bytes .entry)))) (valuesOf (now (image .entry)))) ++ compactOn (now (image .entry)) (step (put (valued (now (name .entry)) (now (vendor .entry)) attributes (now (stamp .entry)) (now (bytes .entry)))) (valuesOf (now (image .entry))))) p (now (image .entry)) (now (image .exit)) r ⌝ }
+    old: &[u8],
+    own: &[u8],
+    content: &mut [u8],
+) -> Planned
+    requires { ⌜ Asked (now image) b tail places (valued (now name) (now vendor) attributes (now stamp) (now old ++ now own))
+        × (fitsTail (region (now image)) (valued (now name) (now vendor) attributes (now stamp) (now old ++ now own)) ≡ false)
+        × (length (now content) ≡ 28672) ⌝ }
+    ensures { λ r. ⌜ PutPlanned (now (image .entry)) (valued (now (name .entry)) (now (vendor .entry)) attributes (now (stamp .entry)) (now (old .entry) ++ now (own .entry))) (now (content .exit)) r ⌝ }
 {
-    let mut content = room();
     let n = put_after(
-        &mut content,
+        content,
         slices::cut(image, 0, 4096 * b),
         name,
         vendor,
         attributes,
         stamp,
-        bytes,
+        old,
+        own,
     );
-    compaction::compact(image, b, slices::cut(&content, 0, n), p)
+    compose::put_blank(content, n, 4096 * b - n);
+    let used = compaction::used_records(image, b);
+    plan::accept(
+        compaction::compact(Step::Nothing, Step::Nothing, b, used),
+        5,
+    )
+}
+
+// "In the tail": the entry is composed at the content's front.
+fn in_tail(
+    image: &[u8],
+    b: usize,
+    tail: usize,
+    places: Places,
+    name: &[u8],
+    vendor: &[u8; 16],
+    attributes: u32,
+    stamp: &[u8; 16],
+    old: &[u8],
+    own: &[u8],
+    content: &mut [u8],
+) -> Planned
+    requires { ⌜ Asked (now image) b tail places (valued (now name) (now vendor) attributes (now stamp) (now old ++ now own))
+        × (fitsTail (region (now image)) (valued (now name) (now vendor) attributes (now stamp) (now old ++ now own)) ≡ true)
+        × (length (now content) ≡ 28672) ⌝ }
+    ensures { λ r. ⌜ PutPlanned (now (image .entry)) (valued (now (name .entry)) (now (vendor .entry)) attributes (now (stamp .entry)) (now (old .entry) ++ now (own .entry))) (now (content .exit)) r ⌝ }
+{
+    compose::put_entry(content, 0, attributes, stamp, name, vendor, old, own);
+    plan::accept(
+        writes::tail_write(places, tail, name.len(), old.len() + own.len()),
+        6,
+    )
 }
 
 // A value stored: "In the tail, if the rounded entry fits".
 fn put_value(
-    image: &mut [u8],
+    image: &[u8],
     b: usize,
     tail: usize,
     places: Places,
@@ -86,44 +126,31 @@ fn put_value(
     vendor: &[u8; 16],
     attributes: u32,
     stamp: &[u8; 16],
-    bytes: &[u8],
-    p: Progress,
-) -> Progress
-    requires { ⌜ Asked (now image) b tail places (valued (now name) (now vendor) attributes (now stamp) (now bytes)) p ⌝ }
-    ensures { λ r. ⌜ Made (storesOf (putPlan (now (image .entry)) (valued (now (name .entry)) (now (vendor .entry)) attributes (now (stamp .entry)) (now (bytes .entry))))) p (now (image .entry)) (now (image .exit)) r ⌝ }
+    old: &[u8],
+    own: &[u8],
+    content: &mut [u8],
+) -> Planned
+    requires { ⌜ Asked (now image) b tail places (valued (now name) (now vendor) attributes (now stamp) (now old ++ now own))
+        × (length (now content) ≡ 28672) ⌝ }
+    ensures { λ r. ⌜ PutPlanned (now (image .entry)) (valued (now (name .entry)) (now (vendor .entry)) attributes (now (stamp .entry)) (now (old .entry) ++ now (own .entry))) (now (content .exit)) r ⌝ }
 {
-    let size = (60 + name.len() + bytes.len() + 3) / 4 * 4;
+    let size = (60 + name.len() + old.len() + own.len() + 3) / 4 * 4;
     if tail + size <= 4096 * b {
-        let header = compose::header(0xFF, attributes, stamp, name.len(), bytes.len(), vendor);
-        return writes::tail_write(image, places, tail, &header, name, bytes, p);
+        return in_tail(
+            image,
+            b,
+            tail,
+            places,
+            name,
+            vendor,
+            attributes,
+            stamp,
+            old,
+            own,
+            content,
+        );
     }
-    fold(image, b, name, vendor, attributes, stamp, bytes, p)
-}
-
-// "Append joins the data": the new value's are composed first.
-fn put_appended(
-    image: &mut [u8],
-    b: usize,
-    tail: usize,
-    places: Places,
-    name: &[u8],
-    vendor: &[u8; 16],
-    attributes: u32,
-    stamp: &[u8; 16],
-    bytes: &[u8],
-    p: Progress,
-) -> Progress
-    requires { ⌜ Asked (now image) b tail places (valued (now name) (now vendor) attributes (now stamp) (appended (now image) (now name) (now vendor) (now bytes))) p ⌝ }
-    ensures { λ r. ⌜ Made (storesOf (putPlan (now (image .entry)) (valued (now (name .entry)) (now (vendor .entry)) attributes (now (stamp .entry)) (appended (now (image .entry)) (now (name .entry)) (now (vendor .entry)) (now (bytes .entry)))))) p (now (image .entry)) (now (image .exit)) r ⌝ }
-{
-    let mut whole = data_room();
-    let n = compose::new_data(
-        &mut whole,
-        slices::cut(image, 0, 4096 * b),
-        lookup::standing(places),
-        bytes,
-    );
-    put_value(
+    fold(
         image,
         b,
         tail,
@@ -132,14 +159,15 @@ fn put_appended(
         vendor,
         attributes,
         stamp,
-        slices::cut(&whole, 0, n),
-        p,
+        old,
+        own,
+        content,
     )
 }
 
-// The value that a set asks for, stored: with the descriptor's stamp, without 0x40, an append's data behind the old.
+// The plan of the value that a set asks for: with the descriptor's stamp, without 0x40, an append's data behind the old.
 pub fn put(
-    image: &mut [u8],
+    image: &[u8],
     b: usize,
     tail: usize,
     places: Places,
@@ -147,16 +175,27 @@ pub fn put(
     vendor: &[u8; 16],
     attributes: u32,
     bytes: &[u8],
-    p: Progress,
-) -> Progress
-    requires { ⌜ Asked (now image) b tail places (valueToPut (now image) (now name) (now vendor) attributes (now bytes)) p × (rule8Of attributes (now bytes) ≡ false) ⌝ }
-    ensures { λ r. ⌜ Made (storesOf (putPlan (now (image .entry)) (valueToPut (now (image .entry)) (now (name .entry)) (now (vendor .entry)) attributes (now (bytes .entry))))) p (now (image .entry)) (now (image .exit)) r ⌝ }
+    content: &mut [u8],
+) -> Planned
+    requires { ⌜ Asked (now image) b tail places (valueToPut (now image) (now name) (now vendor) attributes (now bytes)) × (rule8Of attributes (now bytes) ≡ false)
+        × (length (now content) ≡ 28672) ⌝ }
+    ensures { λ r. ⌜ PutPlanned (now (image .entry)) (valueToPut (now (image .entry)) (now (name .entry)) (now (vendor .entry)) attributes (now (bytes .entry))) (now (content .exit)) r ⌝ }
 {
     let stamp = policy::stamp(attributes, bytes);
     let kept = policy::without_append(attributes);
     let own = policy::proper(attributes, bytes);
-    if policy::appends(attributes) {
-        return put_appended(image, b, tail, places, name, vendor, kept, &stamp, own, p);
-    }
-    put_value(image, b, tail, places, name, vendor, kept, &stamp, own, p)
+    let old = kept_data(slices::cut(image, 0, 4096 * b), places, attributes);
+    put_value(
+        image,
+        b,
+        tail,
+        places,
+        name,
+        vendor,
+        kept,
+        &stamp,
+        old,
+        own,
+        content,
+    )
 }

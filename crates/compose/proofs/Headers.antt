@@ -2,13 +2,14 @@
 -- and the padding behind it, it is a whole entry, and with stamp and GUID of no more than 16 bytes it is no longer than the entry's size says.
 -- Assumes nothing.
 use Prim.Native.Nat.{ℕ, zero, suc, _+_, _-_, _≤_}
+use native.Mathlib.Nat.{suc-add}
 use native.Mathlib.Omega.{arith}
-use mathlib.Core.Path.{_≡_, refl, ap, _∙_}
+use mathlib.Core.Path.{_≡_, refl, sym, ap, _∙_}
 use mathlib.Core.List.{List, [], _∷_, _++_, append-assoc, append-nil}
-use lib.ListN.{length, take, drop, replicate, length-append, length-replicate, drop-of-length-le}
+use lib.ListN.{length, take, drop, set, replicate, length-append, length-replicate, drop-of-length-le}
 use lib.Seq.{sets-eq}
 use Rattle.model.specs.Lists.{bytes32}
-use Rattle.model.specs.Entry.{headerFront, headerRest, Value, plainSize, entrySize, entryBytes}
+use Rattle.model.specs.Entry.{headerFront, headerRest, rounded, Value, plainSize, entrySize, entryBytes}
 use Rattle.text.specs.Text.{Wrote}
 use Rattle.text.proofs.Writing.{wrote-append, wrote-as}
 use Rattle.compose.specs.Compose.{beforeStamp, behindStamp, headerBytes}
@@ -88,3 +89,27 @@ pub entry-short : (s : ℕ) (v : Value) → length (v .stamp) ≤ 16 → length 
 entry-short s v h k =
     let l = header-length s (v .attributes) (v .stamp) (length (v .name)) (length (v .bytes)) (v .vendor) in
     rw (← entry-parts s v) (simp (length-append, length-replicate, l) (omega arith))
+
+-- one FF byte more
+replicate-more : (i : ℕ) → _++_ {A = ℕ} (replicate i 0xFF) (0xFF ∷ []) ≡ replicate (i + 1) 0xFF
+replicate-more zero = refl
+replicate-more (suc i) = ap (λ (l : List ℕ). 0xFF ∷ l) (replicate-more i) ∙ ap (λ (k : ℕ). replicate k 0xFF) (sym (suc-add i 1))
+
+pub wrote-one : (i : ℕ) {at : ℕ} {l l′ : List ℕ} → Wrote (replicate i 0xFF) at l l′ (at + i) → Wrote (replicate (i + 1) 0xFF) at l (set l′ (at + i) 0xFF) (at + (i + 1))
+wrote-one i {at} {l} {l′} w = wrote-as (replicate-more i) (wrote-append w (record { place = omega arith; buffer = refl }))
+
+-- with the data in two parts
+pub entry-joined : (s a : ℕ) (name vendor stamp old own : List ℕ) {at n₁ n₂ n₃ n₄ n₅ : ℕ} {l l₁ l₂ l₃ l₄ l₅ : List ℕ}
+    → Wrote (headerBytes s a stamp (length name) (length old + length own) vendor) at l l₁ n₁
+    → Wrote name n₁ l₁ l₂ n₂ → Wrote old n₂ l₂ l₃ n₃ → Wrote own n₃ l₃ l₄ n₄
+    → Wrote (replicate (rounded (60 + length name + length old + length own) - (60 + length name + length old + length own)) 0xFF) n₄ l₄ l₅ n₅
+    → Wrote (entryBytes s (record { name = name; vendor = vendor; attributes = a; stamp = stamp; bytes = old ++ own })) at l l₅ n₅
+entry-joined s a name vendor stamp old own h n o w p =
+    let e : length old + length own ≡ length (old ++ own) = sym (length-append old own) in
+    let f : 60 + length name + length old + length own ≡ 60 + length name + length (old ++ own) = omega arith in
+    entry-wrote s (record { name = name; vendor = vendor; attributes = a; stamp = stamp; bytes = old ++ own })
+    (wrote-as (ap (λ (k : ℕ). headerBytes s a stamp (length name) k vendor) e) h) n (wrote-append o w)
+    (wrote-as (ap (λ (k : ℕ). replicate (rounded k - k) 0xFF) f) p)
+
+pub blank-all : {i len at : ℕ} {l l′ : List ℕ} → i ≡ len → Wrote (replicate i 0xFF) at l l′ (at + i) → Wrote (replicate len 0xFF) at l l′ (at + len)
+blank-all e w = rw (← e) w

@@ -90,22 +90,6 @@ fn put_header(
     text::put_bytes(out, next, vendor)
 }
 
-// An entry's header by itself.
-pub fn header(
-    state: u8,
-    attributes: u32,
-    stamp: &[u8; 16],
-    name: usize,
-    size: usize,
-    vendor: &[u8; 16],
-) -> [u8; 60]
-    ensures { λ r. ⌜ r ≡ headerBytes state attributes (now (stamp .entry)) name size (now (vendor .entry)) ⌝ }
-{
-    let mut bytes = [0u8; 60];
-    put_header(&mut bytes, 0, state, attributes, stamp, name, size, vendor);
-    bytes
-}
-
 // The FF bytes between an entry of `size` bytes and the next multiple of 4.
 fn put_padding(out: &mut [u8], at: usize, size: usize) -> usize
     requires { ⌜ (at < 2 ^ 63) × (size < 2 ^ 62) ⌝ }
@@ -116,7 +100,7 @@ fn put_padding(out: &mut [u8], at: usize, size: usize) -> usize
     text::put_bytes(out, at, &blank[..n])
 }
 
-// An entry in state 3F, whole: header, name, data, padding.
+// An entry in state 3F, whole: header, name, data (those kept, then those given), padding.
 pub fn put_entry(
     out: &mut [u8],
     at: usize,
@@ -124,10 +108,11 @@ pub fn put_entry(
     stamp: &[u8],
     name: &[u8],
     vendor: &[u8],
-    bytes: &[u8],
+    old: &[u8],
+    own: &[u8],
 ) -> usize
-    requires { ⌜ (at < 2 ^ 62) × (length (now stamp) < 2 ^ 32) × (length (now name) < 2 ^ 32) × (length (now vendor) < 2 ^ 32) × (length (now bytes) < 2 ^ 32) ⌝ }
-    ensures { λ r. ⌜ Wrote (entryBytes 0x3F (record { name = now (name .entry); vendor = now (vendor .entry); attributes = attributes; stamp = now (stamp .entry); bytes = now (bytes .entry) })) at (now (out .entry)) (now (out .exit)) r ⌝ }
+    requires { ⌜ (at < 2 ^ 62) × (length (now stamp) < 2 ^ 32) × (length (now name) < 2 ^ 32) × (length (now vendor) < 2 ^ 32) × (length (now old) < 2 ^ 32) × (length (now own) < 2 ^ 32) ⌝ }
+    ensures { λ r. ⌜ Wrote (entryBytes 0x3F (record { name = now (name .entry); vendor = now (vendor .entry); attributes = attributes; stamp = now (stamp .entry); bytes = now (old .entry) ++ now (own .entry) })) at (now (out .entry)) (now (out .exit)) r ⌝ }
 {
     let next = put_header(
         out,
@@ -136,12 +121,13 @@ pub fn put_entry(
         attributes,
         stamp,
         name.len(),
-        bytes.len(),
+        old.len() + own.len(),
         vendor,
     );
     let next = text::put_bytes(out, next, name);
-    let next = text::put_bytes(out, next, bytes);
-    put_padding(out, next, 60 + name.len() + bytes.len())
+    let next = text::put_bytes(out, next, old);
+    let next = text::put_bytes(out, next, own);
+    put_padding(out, next, 60 + name.len() + old.len() + own.len())
 }
 
 // The entry of a value that is carried over: its stamp is kept.
@@ -153,7 +139,7 @@ fn put_value(out: &mut [u8], at: usize, region: &[u8], place: usize, e: Entry) -
     let name = walk::name_of(region, place, e);
     let vendor = walk::vendor_of(region, place);
     let data = lookup::data_of(region, place, e);
-    put_entry(out, at, e.attributes, stamp, name, vendor, data)
+    put_entry(out, at, e.attributes, stamp, name, vendor, data, &data[..0])
 }
 
 // A value carried over unless it has this name and GUID.
@@ -202,16 +188,25 @@ pub fn put_values(out: &mut [u8], region: &[u8], name: &[u8], vendor: &[u8]) -> 
     put_others(out, next, region, name, vendor)
 }
 
-// The data after an append: that of the standing entry, then the data given.
-pub fn new_data(out: &mut [u8], region: &[u8], standing: Found, bytes: &[u8]) -> usize
-    ensures { λ r. ⌜ Wrote (oldData (now (region .entry)) standing ++ now (bytes .entry)) 0 (now (out .entry)) (now (out .exit)) r ⌝ }
+// The data that an append keeps: that of the standing entry.
+pub fn old_data(region: &[u8], standing: Found) -> &[u8]
+    ensures { λ r. ⌜ now r ≡ oldData (now (region .entry)) standing ⌝ }
 {
     match standing {
-        Found::At(at, e) => {
-            let old = lookup::data_of(region, at, e);
-            let next = text::put_bytes(out, 0, old);
-            text::put_bytes(out, next, bytes)
-        }
-        Found::Nothing => text::put_bytes(out, 0, bytes),
+        Found::At(at, e) => lookup::data_of(region, at, e),
+        Found::Nothing => &region[..0],
     }
+}
+
+// FF bytes up to the end of what is composed.
+pub fn put_blank(out: &mut [u8], at: usize, len: usize) -> usize
+    requires { ⌜ at + len ≤ length (now out) ⌝ }
+    ensures { λ r. ⌜ Wrote (replicate len 0xFF) at (now (out .entry)) (now (out .exit)) r ⌝ }
+{
+    let mut i = 0;
+    while i < len {
+        out[at + i] = 0xFF;
+        i += 1;
+    }
+    at + len
 }

@@ -5,11 +5,11 @@ pub mod Opened
 pub mod Reading
 -- Bytes copied to the front of a buffer
 pub mod Copying
--- How a call that stores ends
-pub mod Ended
+-- The marks of a call clear one bit each
+pub mod Bits
 -- A set, by what was decided
 pub mod Setting
 -- A format
 pub mod Formatting
--- A start-up, by what the image was found to be
-pub mod Starting
+-- How a call ends that was planned and carried out
+pub mod Carrying

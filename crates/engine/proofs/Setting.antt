@@ -5,7 +5,7 @@ use Prim.Native.Nat.{ℕ, _+_, _*_, _^_, _≤_, _<_}
 use native.Mathlib.Omega.{arith}
 use mathlib.Core.Path.{_≡_, refl, sym, ap, _∙_, subst}
 use mathlib.Core.Bool.{Bool, true, false, cond}
-use mathlib.Core.List.{List, [], _++_, append-nil}
+use mathlib.Core.List.{List, [], _++_}
 use mathlib.Core.Option.{Option, none, some}
 use lib.ListN.{length}
 use Rattle.model.specs.declared.Session.{Session}
@@ -18,33 +18,34 @@ use Rattle.model.specs.Region.{entries, tailAt, sound, values, valuesOf, added,
 use Rattle.model.specs.Request.{Request, requestKey, dataProper, stampToStore}
 use Rattle.model.specs.Change.{Change, nothing, remove, put, changeIn, newData, newValue}
 use Rattle.model.specs.Rules.{firstBroken, imageRules, requestRules, standingRules, resultRules, roomRules, rule8, setBroken}
-use Rattle.model.specs.Stores.{Store}
-use Rattle.model.specs.Set.{refuse, make, fitsTail, deleteTo, putPlan, changePlan, setPlan}
+use Rattle.model.specs.Stores.{Store, Bytes}
+use Rattle.model.specs.Set.{Plan, refuse, make, fitsTail, deleteTo, putPlan, changePlan, setPlan}
 use Rattle.model.specs.Answers.{storesOf}
 use Rattle.model.proofs.Requests.{broken-append, unbroken, put-is-valid, put-fits}
 use Rattle.values.specs.Found.{foundOf}
-use Rattle.values.specs.declared.Found.{Found}
-use Rattle.values.specs.declared.Found.the-variants.{At, Nothing}
 use Rattle.values.specs.declared.Places.{Places}
-use Rattle.flash.specs.declared.Progress.{Progress}
-use Rattle.flash.specs.Made.{Made, begun}
-use Rattle.flash.proofs.Made.{made-as}
 use Rattle.image.proofs.Ready.{IsReady, refused-rule}
 use Rattle.image.specs.Check.{callOf}
 use Rattle.image.specs.declared.Check.the-variants.{Refused}
 use Rattle.policy.specs.Rules.{rule8Of}
 use Rattle.policy.proofs.Plain.{rule8-plain}
-use Rattle.writes.specs.Listed.{deleteOf}
-use Rattle.writes.specs.Ready.{Lies, Below, Stated}
-use Rattle.writes.proofs.Lists.{delete-is}
-use Rattle.writes.proofs.Places.{places-ready}
-use Rattle.change.specs.Asked.{valueToPut, Asked}
+use Rattle.model.specs.Book.{set, planOf, Sized, ClearsOne, isState, isRecord, inPlace}
+use Rattle.recovery.proofs.Bits.{marks-clear-one-bit}
+use Rattle.plan.specs.declared.Op.{Op}
+use Rattle.plan.specs.declared.Planned.{Planned}
+use Rattle.plan.specs.Planned.{accepted, Kept, Plans}
+use Rattle.plan.proofs.Parts.{accepted-plans, either-kept}
+use Rattle.writes.specs.Plans.{Below, deletePlan}
+use Rattle.writes.proofs.Plans.{delete-to, delete-on}
+use Rattle.writes.proofs.Ready.{delete-ready}
+use Rattle.writes.proofs.Found.{places-below}
+use Rattle.change.specs.Asked.{valueToPut, Asked, PutPlanned}
 use Rattle.change.proofs.Ready.{image-long, region-size, ready-clean}
 use Rattle.decision.specs.declared.Decision.{Decision}
 use Rattle.decision.specs.declared.Decision.the-variants as decision
 use Rattle.decision.specs.Decision.{requestOf, decisionOf, brokenOf}
-use Rattle.decision.proofs.Accepted.{set-broken, nothing-change, remove-change, put-change, put-small}
-use Rattle.engine.proofs.Ended.{Makes}
+use Rattle.decision.proofs.Accepted.{set-broken, nothing-change, remove-change, put-change}
+use Rattle.engine.proofs.Bits.{remove-clears}
 
 -- rule 1 or 2 is broken
 pub image-refused : (s : Session) (q : Request) (img : List ℕ) (rule : Rule) → callOf img ≡ Refused rule → setPlan s q img ≡ refuse rule
@@ -60,15 +61,6 @@ image-refused s q img rule h =
     let broken : firstBroken (i ++ a ++ b ++ c ++ d) ≡ some rule =
     broken-append (i ++ a ++ b ++ c) d ∙ rw (broken-append (i ++ a ++ b) c, broken-append (i ++ a) b, broken-append i a, first) in
     ap (λ (o : Option Rule). onSome o refuse (changePlan img (changeIn q vs))) broken
-
--- an entry found below an offset lies below a later one
-lies-more : (m n state : ℕ) (f : Found) → m ≤ n → Lies m state f → Lies n state f
-lies-more m n state (At at e) h l = (omega (arith, l .0), l .1)
-lies-more m n state Nothing h l = tt
-
-below-more : (m n : ℕ) (places : Places) → m ≤ n → Below m places → Below n places
-below-more m n places h l =
-    record { added = lies-more m n 0x3F (places .added) h (l .added); replacing = lies-more m n 0x3E (places .replacing) h (l .replacing) }
 
 -- what the decision asks of the region that was cut
 pub region-asked : {img r : List ℕ} {b at : ℕ} → IsReady img b at → r ≡ part 0 (4096 * b) img → (sound r ≡ true) × (length r ≤ 28672)
@@ -125,24 +117,24 @@ module _ (s : Session) (name vendor : List ℕ) (a : ℕ) (bytes : List ℕ) (pr
   unfolding changePlan
   remove-plan h = plan (remove (requestKey q)) (ap brokenOf h) (remove-change s q (regionSize img) (valuesOf img) (decided ∙ h))
 
-  pub remove-makes : what ≡ decision.Remove → Makes (setPlan s q img)
-  remove-makes h = record { to = deleteTo (keyed name vendor) (entries (region img)); on = []; makes = remove-plan h }
+  below : (end : ℕ) → length (region img) ≤ end → Below end (places .added) × Below end (places .replacing)
+  below end l = places-below img (ready .right) (ready-clean img (ready .ready)) (places .added) (places .replacing) (keyed name vendor) found-added found-replacing end l
 
-  pub remove-asked : {n : ℕ} {p : Progress} → p ≡ begun n
-      → Below (length img) places × (p .made + 2 < 2 ^ 62) × (p .made < p .limit → Stated img places)
+  pub remove-asked : Below (2 ^ 62) (places .added) × Below (2 ^ 62) (places .replacing)
+  remove-asked = below (2 ^ 62) (omega (arith, ready .long, ready .few))
+
+  -- *what was planned*
+  pub remove-plans : what ≡ decision.Remove → Bytes img → Sized (set s q) → (before c : List ℕ) {ops : List Op} {p : Planned} → ops ≡ deletePlan places → p ≡ accepted ops 1
+      → Plans (setPlan s q img) img before c p
   unfolding block
-  remove-asked {p = p} e =
-      let x = places-ready img (ready .right) (ready-clean img (ready .ready)) places (keyed name vendor) found-added found-replacing in
-      let fresh : p .made ≡ 0 = ap (λ (y : Progress). y .made) e in
+  remove-plans h bytes-img args before c {ops} {p} o e =
+      let k = keyed name vendor in
+      let es = entries (region img) in
       let l = image-long img b (ready .right) (ready .number) in
-      let within : tailAt (region img) ≤ length img = omega (arith, ready .tail-at, ready .tail-within, ready .long) in
-      (below-more (tailAt (region img)) (length img) places within (x .0), omega arith, λ k. x .1)
-
-  pub remove-made : what ≡ decision.Remove → {p t : Progress} {j : List ℕ} → Made (deleteOf places) p img j t → Made (storesOf (setPlan s q img)) p img j t
-  unfolding storesOf
-  remove-made h m =
-      let is = delete-is places (keyed name vendor) (entries (region img)) found-added found-replacing in
-      made-as (is ∙ sym (ap storesOf (remove-plan h) ∙ append-nil (deleteTo (keyed name vendor) (entries (region img))))) m
+      let x = below (length img) (omega (arith, ready .long, l .1)) in
+      let clears = remove-clears s q img k bytes-img args (remove-change s q (regionSize img) (valuesOf img) (decided ∙ h)) (remove-plan h) in
+      accepted-plans before c img (setPlan s q img) (deletePlan places) 1 (deleteTo k es) [] e o (delete-to c places k es found-added found-replacing)
+      (delete-on c places k es found-added found-replacing) (remove-plan h) (delete-ready c img places k found-added found-replacing (x .0) (x .1) clears)
 
   -- ---- a put
 
@@ -157,37 +149,39 @@ module _ (s : Session) (name vendor : List ℕ) (a : ℕ) (bytes : List ℕ) (pr
   unfolding changePlan
   put-plan h = plan (put (valueToPut img name vendor a bytes)) (ap brokenOf h) (asked-change h)
 
-  makes-put : (v : Value) → Makes (putPlan img v)
-  unfolding putPlan
-  makes-put v = go (fitsTail (region img) v) _ _ _ _
-    where
-      go : (t : Bool) (to on to′ on′ : List Store) → Makes (cond t (make to on) (make to′ on′))
-      go true to on to′ on′ = record { to = to; on = on; makes = refl }
-      go false to on to′ on′ = record { to = to′; on = on′; makes = refl }
-
-  pub put-makes : what ≡ decision.Put → Makes (setPlan s q img)
-  put-makes h = subst Makes (sym (put-plan h)) (makes-put (valueToPut img name vendor a bytes))
-
-  pub put-asked : what ≡ decision.Put → {n : ℕ} {p : Progress} → p ≡ begun n
-      → Asked img b at places (valueToPut img name vendor a bytes) p × (rule8Of a bytes ≡ false)
+  pub put-asked : what ≡ decision.Put → Asked img b at places (valueToPut img name vendor a bytes) × (rule8Of a bytes ≡ false)
   unfolding setBroken imageRules requestRules standingRules valueToPut newValue newData dataProper
-  put-asked h {p = p} e =
+  put-asked h =
       let v = valueToPut img name vendor a bytes in
       let accepted : setBroken s q img ≡ none = broken ∙ ap brokenOf h in
-      let fresh : p .made ≡ 0 = ap (λ (y : Progress). y .made) e in
       let k : rule8 q ≡ false = unbroken _ 7 accepted in (
         record {
           ready = ready;
           added = found-added;
           replacing = found-replacing;
           valid = put-is-valid s q img accepted v (asked-change h);
-          few = put-small s q (regionSize img) (valuesOf img) (decided ∙ h);
           room = put-fits s q img accepted v (asked-change h);
-          early = omega arith;
         },
         sym (rule8-plain q) ∙ k,
       )
 
-  pub put-made : what ≡ decision.Put → {p t : Progress} {j : List ℕ} → Made (storesOf (putPlan img (valueToPut img name vendor a bytes))) p img j t
-      → Made (storesOf (setPlan s q img)) p img j t
-  put-made h m = made-as (ap storesOf (sym (put-plan h))) m
+  put-kept : (before c : List ℕ) → what ≡ decision.Put → Kept (setPlan s q img) before c
+  unfolding putPlan
+  put-kept before c h =
+      subst (λ (p : Plan). Kept p before c) (sym (put-plan h)) (either-kept (fitsTail (region img) (valueToPut img name vendor a bytes)) _ _ _ _ before c)
+
+  -- *what was planned*
+  pub put-plans : what ≡ decision.Put → Bytes img → Sized (set s q) → (before : List ℕ) {c : List ℕ} {p : Planned} → PutPlanned img (valueToPut img name vendor a bytes) c p
+      → Plans (setPlan s q img) img before c p
+  unfolding planOf inPlace
+  put-plans h bytes-img args before {c} {p} d =
+      let v = valueToPut img name vendor a bytes in
+      let marks = marks-clear-one-bit img bytes-img (set s q) args in
+      record {
+        same = d .same ∙ sym (put-plan h);
+        kept = put-kept before c h;
+        ready =
+            d .ready
+            (λ fits. subst (λ (ss : List Store). ClearsOne (isState img) ss img) (ap storesOf (put-plan h)) (marks .1 (ap (inPlace img) (asked-change h) ∙ fits)))
+            (subst (λ (ss : List Store). ClearsOne (isRecord img) ss img) (ap storesOf (put-plan h)) (marks .0));
+      }

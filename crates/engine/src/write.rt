@@ -1,27 +1,34 @@
-// The calls that store: set and format. A set's rules are decided before its first store, so that n ends only the stores.
+// The calls that store: set and format. Each is planned by a function that is lent the image shared and knows no n, and then carried out up to n.
 ghost use mathlib.Core.Path.{_≡_};
 ghost use Prim.Native.Nat.{_≤_};
-ghost use Rattle.model.specs.StartUp.{formatStores, formatPlan};
+ghost use lib.ListN.{length};
+ghost use Rattle.model.specs.Set.{setPlan};
+ghost use Rattle.model.specs.StartUp.{formatPlan};
+ghost use Rattle.model.specs.Stores.{Bytes};
 ghost use Rattle.model.specs.Answers.{answerOf, outcome, imageAfter};
 ghost use Rattle.model.specs.Book as book;
+ghost use Rattle.model.specs.Book.{Sized};
 ghost use Rattle.recovery.specs.Interface.{Returned};
-ghost use Rattle.flash.specs.Made.{Made};
-ghost use Rattle.image.specs.Check.{blocksOf};
 ghost use Rattle.image.proofs.Ready.{IsReady};
 ghost use Rattle.decision.specs.Decision.{requestOf};
+ghost use Rattle.plan.specs.Planned.{Kept, Plans};
+ghost use Rattle.engine.specs.Format.{wipePlan};
+use crate::carry;
 use decision::Decision;
-use flash::Progress;
 use image::Check;
 use model::Answer;
 use model::Context;
 use model::Rule;
 use model::Session;
+use plan::Op;
+use plan::Plan;
+use plan::Planned;
+use plan::Step;
 
 // A set over an image that is ready, of b blocks and with this tail: rules 3 to 13, then what it does to the values.
-fn set_ready(
-    c: Context,
+fn plan_ready(
     s: Session,
-    image: &mut [u8],
+    image: &[u8],
     b: usize,
     tail: usize,
     name: &[u8],
@@ -30,9 +37,13 @@ fn set_ready(
     bytes: &[u8],
     presence: u32,
     verdict: u32,
-) -> Answer
-    requires { ⌜ IsReady (now image) b tail ⌝ }
-    ensures { λ r. ⌜ Returned (book.set s (requestOf (now (name .entry)) (now (vendor .entry)) attributes (now (bytes .entry)) presence verdict)) (c .limit) (now (image .entry)) (now (image .exit)) r ⌝ }
+    content: &mut [u8],
+) -> Planned
+    requires { ⌜ IsReady (now image) b tail
+        × Bytes (now image)
+        × Sized (book.set s (requestOf (now name) (now vendor) attributes (now bytes) presence verdict))
+        × (length (now content) ≡ 28672) ⌝ }
+    ensures { λ r. ⌜ Plans (setPlan s (requestOf (now (name .entry)) (now (vendor .entry)) attributes (now (bytes .entry)) presence verdict) (now (image .entry))) (now (image .entry)) (now (content .entry)) (now (content .exit)) r ⌝ }
 {
     let d = decision::decide(
         s,
@@ -46,12 +57,11 @@ fn set_ready(
     );
     let what = d.what;
     let places = d.places;
-    let start = flash::begin(c.limit);
     match what {
-        Decision::Broken(rule) => Answer::Refused(rule),
-        Decision::Nothing => Answer::Done(0),
-        Decision::Remove => flash::answer(writes::delete(image, places, start)),
-        Decision::Put => flash::answer(change::put(
+        Decision::Broken(rule) => plan::refuse(rule),
+        Decision::Nothing => plan::accept(plan::nothing(), 12),
+        Decision::Remove => plan::accept(writes::delete(places), 1),
+        Decision::Put => change::put(
             image,
             b,
             tail,
@@ -60,29 +70,44 @@ fn set_ready(
             vendor,
             attributes,
             bytes,
-            start,
-        )),
+            content,
+        ),
     }
 }
 
-// A set, a delete or an append: rules 1 to 13, and its stores up to n.
-pub fn set(
-    c: Context,
+// What is lent are bytes.
+fn known(s: &[u8]) -> usize
+    ensures { λ r. ⌜ Bytes (now (s .entry)) × (r ≡ length (now (s .entry))) ⌝ }
+{
+    slices::cut(s, 0, 0);
+    s.len()
+}
+
+// What a GUID's type tells: sixteen bytes.
+fn guid(vendor: &[u8; 16])
+    ensures { λ _. ⌜ Bytes (now (vendor .entry)) × (length (now (vendor .entry)) ≡ 16) ⌝ }
+{
+    known(vendor);
+}
+
+// The plan of a set, a delete or an append: rules 1 to 13, and its operations.
+pub fn plan_set(
     s: Session,
-    image: &mut [u8],
+    image: &[u8],
     name: &[u8],
     vendor: &[u8; 16],
     attributes: u32,
     bytes: &[u8],
     presence: u32,
     verdict: u32,
-) -> Answer
-    ensures { λ r. ⌜ Returned (book.set s (requestOf (now (name .entry)) (now (vendor .entry)) attributes (now (bytes .entry)) presence verdict)) (c .limit) (now (image .entry)) (now (image .exit)) r ⌝ }
+    content: &mut [u8; 28672],
+) -> Planned
+    ensures { λ r. ⌜ Plans (setPlan s (requestOf (now (name .entry)) (now (vendor .entry)) attributes (now (bytes .entry)) presence verdict) (now (image .entry))) (now (image .entry)) (now (content .entry)) (now (content .exit)) r ⌝ }
 {
+    guid(vendor);
     let check = image::check_call(image);
     match check {
-        Check::Ready(b, tail) => set_ready(
-            c,
+        Check::Ready(b, tail) => plan_ready(
             s,
             image,
             b,
@@ -93,30 +118,89 @@ pub fn set(
             bytes,
             presence,
             verdict,
+            content,
         ),
-        Check::Refused(rule) => Answer::Refused(rule),
+        Check::Refused(rule) => plan::refuse(rule),
     }
+}
+
+// A set, a delete or an append: planned, then carried out up to n.
+pub fn set(
+    c: Context,
+    s: Session,
+    image: &mut [u8],
+    name: &[u8],
+    vendor: &[u8; 16],
+    attributes: u32,
+    bytes: &[u8],
+    presence: u32,
+    verdict: u32,
+    content: &mut [u8; 28672],
+) -> Answer
+    ensures { λ r. ⌜ Returned (book.set s (requestOf (now (name .entry)) (now (vendor .entry)) attributes (now (bytes .entry)) presence verdict)) (c .limit) (now (image .entry)) (now (image .exit)) r
+        × Kept (setPlan s (requestOf (now (name .entry)) (now (vendor .entry)) attributes (now (bytes .entry)) presence verdict) (now (image .entry))) (now (content .entry)) (now (content .exit)) ⌝ }
+{
+    let planned = plan_set(
+        s,
+        image,
+        name,
+        vendor,
+        attributes,
+        bytes,
+        presence,
+        verdict,
+        content,
+    );
+    carry::carried(image, planned, content, c)
 }
 
 // "it erases all blocks in rising order, then stores the 28 header bytes in rising order"
-fn store_format(image: &mut [u8], b: usize, p: Progress) -> Progress
-    requires { ⌜ (b ≡ blocksOf (now image)) × (1 ≤ b) × (b ≤ 7) × (p .made ≡ 0) ⌝ }
-    ensures { λ r. ⌜ Made (formatStores (now (image .entry))) p (now (image .entry)) (now (image .exit)) r ⌝ }
+fn wipe(b: usize) -> Plan
+    requires { ⌜ b ≤ 7 ⌝ }
+    ensures { λ r. ⌜ r ≡ wipePlan b ⌝ }
 {
-    let erased = flash::erase_blocks(image, 0, 2 * b + 1, p);
-    let header = layout::fixed::region_header(4096 * b);
-    flash::store_bytes(image, 0, &header, erased)
+    let none = Op {
+        step: Step::Nothing,
+    };
+    [
+        Op {
+            step: Step::Erase(0, 2 * b + 1),
+        },
+        Op {
+            step: Step::Program(0, 0, 28),
+        },
+        none,
+        none,
+        none,
+        none,
+        none,
+        none,
+        none,
+        none,
+        none,
+        none,
+    ]
 }
 
-// An empty region: "Formatting meets 1 only".
-pub fn format(c: Context, image: &mut [u8]) -> Answer
-    ensures { λ r. ⌜ (answerOf r ≡ outcome (c .limit) (formatPlan (now (image .entry))))
-        × (now (image .exit) ≡ imageAfter (c .limit) (formatPlan (now (image .entry))) (now (image .entry))) ⌝ }
+// The plan of a format: "Formatting meets 1 only".
+pub fn plan_format(image: &[u8], content: &mut [u8; 28672]) -> Planned
+    ensures { λ r. ⌜ Plans (formatPlan (now (image .entry))) (now (image .entry)) (now (content .entry)) (now (content .exit)) r ⌝ }
 {
     let b = image::blocks(image);
     if b == 0 {
-        return Answer::Refused(Rule::Length);
+        return plan::refuse(Rule::Length);
     }
-    let stored = store_format(image, b, flash::begin(c.limit));
-    flash::answer(stored)
+    let header = layout::fixed::region_header(4096 * b);
+    text::put_bytes(content, 0, &header);
+    plan::accept(wipe(b), 12)
+}
+
+// An empty region: planned, then carried out up to n.
+pub fn format(c: Context, image: &mut [u8], content: &mut [u8; 28672]) -> Answer
+    ensures { λ r. ⌜ (answerOf r ≡ outcome (c .limit) (formatPlan (now (image .entry))))
+        × (now (image .exit) ≡ imageAfter (c .limit) (formatPlan (now (image .entry))) (now (image .entry)))
+        × Kept (formatPlan (now (image .entry))) (now (content .entry)) (now (content .exit)) ⌝ }
+{
+    let planned = plan_format(image, content);
+    carry::carried(image, planned, content, c)
 }

@@ -29,3 +29,5 @@ pub mod BitsOfSets
 pub mod Bits
 -- The interface: by their contracts, calls to it are a run
 pub mod Interface
+-- A host that carries out plans by itself: what it was told is what the definitions plan, so it makes a run
+pub mod Host

@@ -311,7 +311,7 @@ finished n stores img h = go (startUpBroken img) refl h
 -- ---- every call of a run keeps the invariant with the book
 
 -- a refused set, and a call that stores nothing
-set-refused : (s : Session) (q : Request) (img : List ℕ) (rule : Rule) → setBroken s q img ≡ some rule → setPlan s q img ≡ refuse rule
+pub set-refused : (s : Session) (q : Request) (img : List ℕ) (rule : Rule) → setBroken s q img ≡ some rule → setPlan s q img ≡ refuse rule
 unfolding setPlan
 set-refused s q img rule e = rw e
 

@@ -2,3 +2,5 @@
 pub mod Claims
 -- The functions of the interface, and what holds of every list of calls to them
 pub mod Interface
+-- A host that carries out plans by itself, and what holds of every run of it
+pub mod Host

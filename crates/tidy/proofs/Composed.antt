@@ -2,47 +2,29 @@
 -- are the region that a compaction stores.
 -- Assumes nothing.
 use Prim.Native.Nat.{ℕ, _+_, _*_, _-_, _≤_}
-use native.Mathlib.Nat.{zero-add}
 use native.Mathlib.Omega.{arith}
 use mathlib.Core.Path.{_≡_, sym, ap, _∙_}
 use mathlib.Core.Bool.{true}
 use mathlib.Core.List.{List, [], _++_}
-use lib.ListN.{length, take, replicate}
-use lib.Seq.{length-take-le}
+use lib.ListN.{length, take, replicate, length-append, length-replicate}
 use Rattle.model.specs.Lists.{part}
 use Rattle.model.specs.Name.{keyed}
 use Rattle.model.specs.Image.{block, regionHeader, region}
 use Rattle.model.specs.Entry.{Value}
 use Rattle.model.specs.Region.{entries, values, valuesOf, sound}
 use Rattle.model.specs.Change.{without}
-use Rattle.model.specs.Stores.{Store}
-use Rattle.model.specs.Compact.{joined, encode, nextRecord, fillSpare, finish, compactTo, compactOn}
+use Rattle.model.specs.Compact.{joined, encode}
 use Rattle.model.proofs.Chunks.{Chunked, region-chunked}
 use Rattle.model.proofs.Encode.{AllValid, sound-valid, sound-fits}
 use Rattle.text.specs.Text.{Wrote}
-use Rattle.text.proofs.Writing.{wrote-as, wrote-length, wrote-front}
+use Rattle.text.proofs.Writing.{wrote-as, wrote-append, wrote-length, wrote-front}
 use Rattle.compose.proofs.Carried.{without-unnamed}
 use Rattle.compose.proofs.Encoded.{content-length, encode-content}
-use Rattle.compaction.proofs.Listed.{compact-list}
-use Rattle.tidy.proofs.Stages.{its-blocks, its-size, its-region, region-long}
+use Rattle.tidy.proofs.Stages.{its-region, region-long}
 
 -- the header and the values, and the same with FF bytes behind
 abbrev pub content : List ℕ → ℕ → List ℕ
 content img b = regionHeader (block * b) ++ joined (valuesOf img)
-
-abbrev padded : ℕ → List ℕ → List ℕ
-padded b x = x ++ replicate (block * b - length x) 0xFF
-
--- the stores of a compaction that stores such bytes
-abbrev pub compactOf : List ℕ → ℕ → List ℕ → List Store
-compactOf img b x = fillSpare b (part (block * b) block img) (padded b x) ++ finish b (nextRecord (part (block * b) block img)) (padded b x)
-
--- the front of a buffer holds them
-pub record Composed (img : List ℕ) (b : ℕ) (buffer : List ℕ) (n : ℕ) : Type 0 where
-  pub fits : n ≤ block * b
-  pub inside : n ≤ length buffer
-  pub long : n ≡ length (take n buffer)
-  pub front : take n buffer ≡ content img b
 
 module _ (img : List ℕ) (b : ℕ) (low : 1 ≤ b) (high : b ≤ 7) (long : length img ≡ block * (2 * b + 1)) (sounds : sound (region img) ≡ true) where
   chunked : Chunked (region img)
@@ -67,26 +49,28 @@ module _ (img : List ℕ) (b : ℕ) (low : 1 ≤ b) (high : b ≤ 7) (long : len
       ∙ ap (λ (k : ℕ). regionHeader k ++ joined (without (keyed [] []) (values (entries (region img))))) (region-long img b low high long)
       ∙ ap (λ (vs : List Value). regionHeader (block * b) ++ joined vs) (without-unnamed (region img) [] sounds)
 
-  -- what is composed in a buffer
-  pub composed : {s l l′ : List ℕ} {n : ℕ} → s ≡ part 0 (block * b) img
-      → Wrote (regionHeader (length s) ++ joined (without (keyed [] []) (values (entries s)))) 0 l l′ n → length l ≡ 28672 → Composed img b l′ n
-  unfolding block
-  composed {s} {l} {l′} {n} e w m =
-      let v : Wrote (content img b) 0 l l′ n = wrote-as (all-carried e) w in
-      let f : length (content img b) ≤ 4096 * b = content-fits in
-      let k : n ≡ length (content img b) = v .place ∙ zero-add (length (content img b)) in
-      let o : length l′ ≡ length l = wrote-length v in
-      let h : n ≤ length l′ = omega arith in
-      record {
-        fits = omega arith;
-        inside = h;
-        long = sym (length-take-le n l′ h);
-        front = wrote-front v (omega arith);
-      }
+  module _ {s l l₁ : List ℕ} {n : ℕ} (e : s ≡ part 0 (block * b) img)
+      (w : Wrote (regionHeader (length s) ++ joined (without (keyed [] []) (values (entries s)))) 0 l l₁ n) (room : length l ≡ 28672) where
+    front : Wrote (content img b) 0 l l₁ n
+    front = wrote-as (all-carried e) w
 
-  -- the list of stores of its compaction
-  pub compact-content : {x : List ℕ} → x ≡ content img b → compactOf img b x ≡ compactTo img (valuesOf img) ++ compactOn img (valuesOf img)
-  compact-content e =
-      ap (compactOf img b) e
-      ∙ compact-list img b (padded b (content img b)) (valuesOf img) (sym (its-blocks img b low high long))
-      (encode-content (block * b) (valuesOf img) valid ∙ ap (λ (n : ℕ). encode n (valuesOf img)) (sym (its-size img b low high long)))
+    -- what the padding asks
+    pub pad-asked : (n ≤ 4096 * b) × (n + (4096 * b - n) ≤ length l₁)
+    unfolding block
+    pad-asked =
+        let f : length (content img b) ≤ 4096 * b = content-fits in
+        let h : n ≤ 4096 * b = omega (arith, front .place) in
+        (h, omega (arith, wrote-length front))
+
+    -- what is composed
+    pub composed : {c : List ℕ} {m : ℕ} → Wrote (replicate (4096 * b - n) 0xFF) n l₁ c m → part 0 (block * b) c ≡ encode (block * b) (values (entries (region img)))
+    unfolding block valuesOf
+    composed {c} {m} x =
+        let h = pad-asked in
+        let at : n ≡ length (content img b) = omega (arith, front .place) in
+        let long : length (content img b ++ replicate (4096 * b - n) 0xFF) ≡ 4096 * b = length-append (content img b) (replicate (4096 * b - n) 0xFF) ∙ (let z = length-replicate {A = ℕ} (4096 * b - n) 0xFF in omega (arith, h .0)) in
+        let y = wrote-append front x in
+        let p : m ≡ 4096 * b = omega (arith, y .place) in
+        ap (λ (k : ℕ). take k c) (sym p) ∙ wrote-front y (omega (arith, room))
+        ∙ ap (λ (k : ℕ). content img b ++ replicate (4096 * b - k) 0xFF) at
+        ∙ encode-content (4096 * b) (valuesOf img) valid

@@ -60,7 +60,7 @@ module _ (img : List ℕ) (b : ℕ) (low : 1 ≤ b) (high : b ≤ 7) (long : len
   -- ---- what a look at the work block tells
 
   module _ {l : Look} (looked : l ≡ lookAt (part (block * b) block img)) where
-    used-told : l .used ≡ usedRecords (work img)
+    pub used-told : l .used ≡ usedRecords (work img)
     unfolding lookAt
     used-told = ap (λ (x : Look). x .used) (looked ∙ ap lookAt its-work)
 
@@ -82,15 +82,6 @@ module _ (img : List ℕ) (b : ℕ) (low : 1 ≤ b) (high : b ≤ 7) (long : len
       pub last-within : l .used - 1 < 64
       last-within = let h = some-used in omega (arith, used-told, last .within)
 
-      pub last-complete : getD img (block * b + (l .used - 1)) 0 ≡ 0xFC
-      unfolding block
-      last-complete =
-          let h = last-within in
-          sym (getD-take 4096 (drop (4096 * b) img) (l .used - 1) 0 (omega arith) ∙ getD-drop (4096 * b) img (l .used - 1) 0)
-          ∙ ap (λ (w : List ℕ). getD w (l .used - 1) 0) its-work
-          ∙ ap (λ (n : ℕ). getD (work img) (n - 1) 0) used-told
-          ∙ last .complete
-
       pub resume-list : finish b (l .used - 1) (part (block * b + block) (block * b) img) ≡ resume img
       unfolding resume
       resume-list = rw (waits, its-blocks, used-told, its-spare)
@@ -98,24 +89,8 @@ module _ (img : List ℕ) (b : ℕ) (low : 1 ≤ b) (high : b ≤ 7) (long : len
   -- ---- which stores the other stages have
 
   module _ {s : List ℕ} (same : s ≡ part (block * b + block) (block * b) img) {t : Bool} (told : t ≡ allFF s) where
-    blank-told : allFF (spare img) ≡ t
+    pub blank-told : allFF (spare img) ≡ t
     blank-told = ap allFF (sym (same ∙ its-spare)) ∙ sym told
-
-    pub spare-blank : t ≡ true → [] ≡ tidySpare img
-    unfolding tidySpare
-    spare-blank e = rw (blank-told ∙ e)
-
-    pub spare-dirty : t ≡ false → erases (b + 1) b ≡ tidySpare img
-    unfolding tidySpare
-    spare-dirty e = rw (blank-told ∙ e, its-blocks)
-
-  pub work-idle : idle (work img) ≡ true → [] ≡ tidyWork img
-  unfolding tidyWork
-  work-idle e = rw e
-
-  pub work-busy : idle (work img) ≡ false → erase b ∷ [] ≡ tidyWork img
-  unfolding tidyWork
-  work-busy e = rw (e, its-blocks)
 
   -- the tail as it is cut
   pub tail-cut : {s t : List ℕ} {n : ℕ} → s ≡ part 0 (block * b) img → n ≡ tailAt s → t ≡ part n (block * b) s → allFF t ≡ allFF (tail (region img))
@@ -128,11 +103,3 @@ module _ (img : List ℕ) (b : ℕ) (low : 1 ≤ b) (high : b ≤ 7) (long : len
       ∙ take-all (block * b) (drop n s) (rw length-drop (omega arith))
       ∙ ap (λ (k : ℕ). drop k s) f
       ∙ ap (λ (x : List ℕ). drop (tailAt x) x) r)
-
-  pub tail-blank : allFF (tail (region img)) ≡ true → [] ≡ tidyTail img
-  unfolding tidyTail
-  tail-blank e = rw e
-
-  pub tail-dirty : allFF (tail (region img)) ≡ false → compactTo img (valuesOf img) ++ compactOn img (valuesOf img) ≡ tidyTail img
-  unfolding tidyTail
-  tail-dirty e = rw e

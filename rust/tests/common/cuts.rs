@@ -1,24 +1,29 @@
-//! *A run*: calls on one image, each whole, stopped or cut, beside the book. The engine's calls make the stores, with n as the cut; what a begun
-//! store leaves is put there by the test.
+//! *A run*: calls on one image, each whole, stopped or cut, beside the book. The engine's calls make the stores, with n as the cut, or plan them, and
+//! a host carries them out up to the cut; what a begun store leaves is put there by the test.
 
 use super::book::Book;
-use super::generate::{Asked, BLOCK};
+use super::generate::BLOCK;
 use super::random::Random;
 use super::same_bytes;
-use varstore::calls::ENGINE;
+use super::stored::{carry_out, Call};
+use varstore::calls::{lent, ENGINE};
 use varstore::interface::{Answer, Context, Rule, Session};
 use varstore::paper::region::header;
 use varstore::paper::work::{BEGUN, SPARE_COMPLETE, UNUSED};
 use varstore::paper::{self, Store, Stores};
 
-/// A call that may store.
-#[derive(Clone, Debug)]
-pub enum Call {
-    Set(Asked),
-    StartUp { custom: u32, reserve: u32 },
+pub const START_UP: Call = Call::StartUp { custom: 0, reserve: 0 };
+
+/// How the stores of a call reach the image: the engine makes them, or it plans them and a host carries them out.
+#[derive(Clone, Copy, PartialEq, Eq, Debug)]
+pub enum Way {
+    Called,
+    Planned,
 }
 
-pub const START_UP: Call = Call::StartUp { custom: 0, reserve: 0 };
+impl Way {
+    pub const BOTH: [Way; 2] = [Way::Called, Way::Planned];
+}
 
 /// What an erase may leave in its block: anything.
 #[derive(Clone, Copy, PartialEq, Eq, Debug)]
@@ -126,6 +131,7 @@ pub struct Cut {
 
 #[derive(Clone)]
 pub struct Run {
+    pub way: Way,
     pub image: Vec<u8>,
     pub session: Session,
     pub book: Book,
@@ -139,15 +145,12 @@ impl Run {
     /// Begins on an image as a done start-up left it.
     pub fn new(image: Vec<u8>, former: Vec<u8>) -> Run {
         let session = (ENGINE.session_new)(0, 0);
-        Run { book: Book::of(&image), image, session, former, cuts: vec![] }
+        Run { way: Way::Called, book: Book::of(&image), image, session, former, cuts: vec![] }
     }
 
     /// The call's list of stores on the image that stands.
     pub fn stores(&self, call: &Call) -> Result<Stores, Rule> {
-        match call {
-            Call::Set(asked) => paper::set_stores(&self.session, &self.image, &asked.request()),
-            Call::StartUp { .. } => paper::start_up_stores(&self.image),
-        }
+        call.stores(&self.session, &self.image)
     }
 
     /// Makes the call up to n stores: answer and image are the paper's, and the book is fed.
@@ -158,36 +161,43 @@ impl Run {
             Err(rule) => Answer::Refused(*rule),
             Ok(list) => {
                 list.make(n, &mut after);
-                if list.len() as u64 > n {
-                    Answer::Stopped
-                } else {
-                    Answer::Done(list.len() as u64)
-                }
+                answer_of(list.len(), n)
             }
         };
-        let answer = self.call(call, Context { limit: n });
+        let (answer, deciding) = match self.way {
+            Way::Called => (self.call(call, n), list.ok().and_then(|list| list.deciding())),
+            Way::Planned => self.carry_out(call, n),
+        };
         assert_eq!(answer, expected, "up to {n} stores of {call:?} after {:?}", self.cuts);
         same_bytes("image", &after, &self.image);
-        let decided = match (&list, answer) {
-            (_, Answer::Done(_)) => true,
-            (Ok(list), _) => list.deciding().is_some_and(|deciding| (deciding as u64) < n),
-            (Err(_), _) => false,
-        };
+        let decided = matches!(answer, Answer::Done(_)) || deciding.is_some_and(|deciding| (deciding as u64) < n);
         if let (Call::Set(asked), true) = (call, decided) {
             self.book.set(&asked.request());
+        }
+        if let Call::StartUp { custom, reserve } = *call {
+            assert!(self.session == paper::session_new(custom, reserve), "a start-up's session is fresh");
         }
         answer
     }
 
-    fn call(&mut self, call: &Call, context: Context) -> Answer {
-        match *call {
-            Call::Set(ref asked) => (ENGINE.set)(context, &self.session, &mut self.image, &asked.request()),
-            Call::StartUp { custom, reserve } => {
-                let started = (ENGINE.start_up)(context, &mut self.image, custom, reserve);
-                assert!(started.session == paper::session_new(custom, reserve), "a start-up's session is fresh");
-                self.session = started.session;
-                started.answer
-            }
+    /// The engine makes the stores.
+    fn call(&mut self, call: &Call, n: u64) -> Answer {
+        let (answer, session) = call.by(&ENGINE, Context { limit: n }, &self.session, &mut self.image);
+        self.session = session;
+        answer
+    }
+
+    /// One planning call, and its stores are made on the part; also tells which one decides.
+    fn carry_out(&mut self, call: &Call, n: u64) -> (Answer, Option<usize>) {
+        let planned = lent(|content| {
+            let plan = call.plan(&self.session, &self.image, content)?;
+            carry_out(&plan, content, n, &mut self.image);
+            Ok(plan)
+        });
+        self.session = call.planned_session(&self.session);
+        match planned {
+            Err(rule) => (Answer::Refused(rule), None),
+            Ok(plan) => (answer_of(plan.count(), n), plan.deciding_store()),
         }
     }
 
@@ -232,6 +242,14 @@ impl Run {
         self.book.check_listed(&ENGINE, &self.image);
         assert_eq!(self.make(&START_UP, u64::MAX), Answer::Done(0), "a second start-up after {:?}", self.cuts);
         self.cuts.clear();
+    }
+}
+
+/// The answer of an accepted call with so many stores.
+fn answer_of(stores: usize, n: u64) -> Answer {
+    match stores as u64 {
+        count if count <= n => Answer::Done(count),
+        _ => Answer::Stopped,
     }
 }
 

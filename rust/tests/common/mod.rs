@@ -7,6 +7,7 @@ pub mod digest;
 pub mod generate;
 pub mod random;
 pub mod rounds;
+pub mod stored;
 
 use varstore::interface::{Guid, Key};
 

@@ -1,5 +1,4 @@
--- `capi::vs_start_up` meets its contract: it is the engine's, with the answer in numbers.
--- Assumes nothing.
+-- `capi::vs_start_up` meets its contract: it is the engine's, with the answer in numbers. Assumes nothing.
 use mathlib.Core.Path.{ap, _∙_}
 use Rattle.capi.specs.Numbers.{numbersOf}
 use borrow.Author.Needs.{needs}
@@ -16,7 +15,8 @@ same-length : tie.Need-same-length
 same-length c = search needs
 
 returns : tie.Need-returns
-returns c = let e = c .before .before .before .before .start-up .ensures in (c .numbers .ensures ∙ ap numbersOf (e .0 .0), e .1, e .0 .1)
+returns c =
+    let e = c .before .before .before .before .start-up .ensures in (c .numbers .ensures ∙ ap numbersOf (e .0 .0), e .1, e .0 .1, e .2)
 
 pub vs-start-up-spec : {M : Type 1} → statement M
 vs-start-up-spec = tie.close (tie.spec start-up-requires numbers-requires same-length returns)

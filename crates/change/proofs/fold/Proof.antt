@@ -1,58 +1,70 @@
 -- `change::fold` meets its contract: what is composed is the region that the compaction is to leave. Assumes nothing.
 use native.Mathlib.Omega.{arith}
+use mathlib.Core.Path.{_≡_}
+use lib.ListN.{length}
+use denote.Ref.{now}
+use Rattle.change.proofs.Folded.{fold-room, pad-asked, fold-planned}
 use borrow.Author.Needs.{needs}
-use Rattle.change.proofs.Folded.{fold-room, fold-content, fold-asked, fold-made}
 use Rattle.change.proofs.fold.Statement.{statement}
 use Rattle.change.proofs.fold.Tie as tie
 
-room-requires : tie.Need-room-requires
-room-requires c κs = search needs
-
-slice-aggregate-put-after : tie.Need-slice-aggregate-put-after
-slice-aggregate-put-after c = search needs
-
 mul-cut : tie.Need-mul-cut
-mul-cut c = omega (arith, c .before .before .before .before .before .before .before .pre .ready .few)
+mul-cut c = search needs
 
 cut-requires : tie.Need-cut-requires
 cut-requires c κs = search needs
 
 put-after-requires : tie.Need-put-after-requires
-put-after-requires c κs = fold-room (c .before .before .before .before .before .before .before .before .pre) (c .cut .ensures)
+put-after-requires c κs =
+    let s = c .before .before .before .before .before .before .before .before in
+    let ve : length (now (s .args .vendor)) ≡ 16 = search needs in
+    fold-room (s .pre .0) ve (c .before .cut .ensures)
 
-slice-aggregate-cut : tie.Need-slice-aggregate-cut
-slice-aggregate-cut c = search needs
+mul-put-blank : tie.Need-mul-put-blank
+mul-put-blank c = search needs
 
-cut-requires-2 : tie.Need-cut-requires-2
-cut-requires-2 c κs = search needs
+sub-put-blank : tie.Need-sub-put-blank
+sub-put-blank c =
+    let s = c .before .before .before .before .before .before .before .before .before .before .before .before in
+    let ve : length (now (s .args .vendor)) ≡ 16 = search needs in
+    pad-asked (s .pre .0) ve (c .before .before .before .before .before .cut .ensures) (c .before .before .before .put-after .ensures .0) (s .pre .2) .0
+
+put-blank-requires : tie.Need-put-blank-requires
+put-blank-requires c κs =
+    let s = c .before .before .before .before .before .before .before .before .before .before .before .before in
+    let ve : length (now (s .args .vendor)) ≡ 16 = search needs in
+    pad-asked (s .pre .0) ve (c .before .before .before .before .before .cut .ensures) (c .before .before .before .put-after .ensures .0) (s .pre .2) .1
+
+used-records-requires : tie.Need-used-records-requires
+used-records-requires c κs = search needs
 
 compact-requires : tie.Need-compact-requires
-compact-requires c κs =
-    let pre = c .before .before .before .before .before .before .before .before .before .before .before .before .before .pre in
-    fold-asked pre
-    (fold-content pre (c .before .before .before .before .before .cut .ensures) (c .before .before .before .before .put-after .ensures) (c .cut2 .ensures) (omega arith))
+compact-requires c κs = search needs
+
+accept-requires : tie.Need-accept-requires
+accept-requires c κs = search needs
 
 same-length : tie.Need-same-length
 same-length c = search needs
 
 returns : tie.Need-returns
 returns c =
-    let pre = c .before .before .before .before .before .before .before .before .before .before .before .before .before .before .before .before .pre in
-    fold-made pre
-    (fold-content pre (c .before .before .before .before .before .before .before .before .cut .ensures) (c .before .before .before .before .before .before .before .put-after .ensures) (c .before .before .before .cut2 .ensures) (omega arith))
-    (c .before .before .compact .ensures)
+    let s = c .before .before .before .before .before .before .before .before .before .before .before .before .before .before .before .before .before .before in
+    let ve : length (now (s .args .vendor)) ≡ 16 = c .before .before .before .before .before .before .before .before .before .put-after .ensures .1 in
+    fold-planned (s .pre .0) ve (c .before .before .before .before .before .before .before .before .before .before .before .cut .ensures) (c .before .before .before .before .before .before .before .before .before .put-after .ensures .0) (s .pre .2) (c .before .before .before .before .before .put-blank .ensures) (s .pre .1) (c .before .before .used-records .ensures) (c .before .compact .ensures) (c .accept .ensures)
 
 pub fold-spec : {M : Type 1} → statement M
 fold-spec =
     tie.close
     (tie.spec
-    room-requires
-    slice-aggregate-put-after
     mul-cut
     cut-requires
     put-after-requires
-    slice-aggregate-cut
-    cut-requires-2
+    mul-put-blank
+    sub-put-blank
+    put-blank-requires
+    used-records-requires
     compact-requires
+    accept-requires
     same-length
     returns)

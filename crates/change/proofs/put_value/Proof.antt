@@ -1,65 +1,75 @@
 -- `change::put_value` meets its contract: the rounded entry fits the tail, or the change is folded into a compaction. Assumes nothing.
+use Prim.Native.Nat.{ℕ, _+_, _*_, _/_, _≤_, _<_}
 use native.Mathlib.Omega.{arith}
-use mathlib.Core.Path.{_≡_}
-use lib.ListN.{length}
+use mathlib.Core.Path.{_≡_, ap, subst}
+use lib.ListN.{length, length-append}
 use denote.Ref.{now}
+use Rattle.change.proofs.Ready.{value-short}
+use Rattle.change.proofs.Tail.{size-is, fits, fits-not}
 use borrow.Author.Needs.{needs}
-use Rattle.change.proofs.Ready.{value-short, asked-folds}
-use Rattle.change.proofs.Tail.{tail-asked, tail-made, fold-stored}
 use Rattle.change.proofs.put_value.Statement.{statement}
 use Rattle.change.proofs.put_value.Tie as tie
 
 add-size : tie.Need-add-size
-add-size c =
-    let s = value-short _ (c .before .before .before .pre .ready) (c .before .before .before .pre .room) in
-    omega arith
+add-size c = search needs
 
 add-size-2 : tie.Need-add-size-2
 add-size-2 c =
-    let s = value-short _ (c .before .before .before .pre .ready) (c .before .before .before .pre .room) in
-    omega arith
+    let s = c .before .before .before .before .before in
+    let h = value-short _ (s .pre .0 .ready) (s .pre .0 .room) in
+    omega (arith, length-append (now (s .args .old)) (now (s .args .own)))
 
 add-size-3 : tie.Need-add-size-3
 add-size-3 c =
-    let s = value-short _ (c .before .before .before .pre .ready) (c .before .before .before .pre .room) in
-    omega arith
+    let s = c .before .before .before .before .before in
+    let h = value-short _ (s .pre .0 .ready) (s .pre .0 .room) in
+    omega (arith, length-append (now (s .args .old)) (now (s .args .own)))
+
+add-size-4 : tie.Need-add-size-4
+add-size-4 c =
+    let s = c .before .before .before .before .before in
+    let h = value-short _ (s .pre .0 .ready) (s .pre .0 .room) in
+    omega (arith, length-append (now (s .args .old)) (now (s .args .own)))
 
 mul-size : tie.Need-mul-size
 mul-size c =
-    let s = value-short _ (c .before .before .before .pre .ready) (c .before .before .before .pre .room) in
-    omega arith
+    let s = c .before .before .before .before .before in
+    let h = value-short _ (s .pre .0 .ready) (s .pre .0 .room) in
+    omega (arith, length-append (now (s .args .old)) (now (s .args .own)))
 
 add-if1 : tie.Need-add-if1
 add-if1 c =
-    let r = c .before .before .before .pre .ready in
-    let s = value-short _ r (c .before .before .before .pre .room) in
-    omega (arith, r .tail-within, r .long, r .few)
+    let s = c .before .before .before .before .before in
+    let r = s .pre .0 .ready in
+    let h = value-short _ r (s .pre .0 .room) in
+    omega (arith, length-append (now (s .args .old)) (now (s .args .own)), r .tail-within, r .long, r .few)
 
 mul-if1 : tie.Need-mul-if1
-mul-if1 c = omega (arith, c .before .before .before .pre .ready .few)
+mul-if1 c = search needs
 
-header-requires : tie.Need-header-requires
-header-requires c κs = search needs
-
-tail-write-requires : tie.Need-tail-write-requires
-tail-write-requires c κs = tail-asked (c .before .before .before .before .before .before .before .pre) (c .before .before .before .if1 .taken)
+in-tail-requires : tie.Need-in-tail-requires
+in-tail-requires c κs =
+    let s = c .before .before .before .before .before .before .before in
+    let e = size-is (now (s .args .name)) (now (s .args .old)) (now (s .args .own)) in
+    (s .pre .0, fits (s .pre .0) (subst (λ (k : ℕ). s .args .tail + k / 4 * 4 ≤ 4096 * s .args .b) e (c .before .if1 .taken)), s .pre .1)
 
 same-length : tie.Need-same-length
 same-length c = search needs
 
 returns : tie.Need-returns
-returns c = tail-made (c .before .before .before .before .before .before .before .before .before .before .pre) 0xFF (c .before .before .before .before .before .before .if1 .taken) (c .before .before .before .before .before .header .ensures) (c .before .before .tail-write .ensures)
+returns c = search needs
 
 fold-requires : tie.Need-fold-requires
 fold-requires c κs =
-    let ve : length (now (c .before .before .before .before .before .before .args .vendor)) ≡ 16 = search needs in
-    asked-folds (c .before .before .before .before .before .before .pre) ve
+    let s = c .before .before .before .before .before .before .before in
+    let e = size-is (now (s .args .name)) (now (s .args .old)) (now (s .args .own)) in
+    (s .pre .0, fits-not (s .pre .0) (subst (λ (k : ℕ). 4096 * s .args .b < s .args .tail + k / 4 * 4) e (c .before .if1 .left)), s .pre .1)
 
 same-length-2 : tie.Need-same-length-2
 same-length-2 c = search needs
 
 returns-2 : tie.Need-returns-2
-returns-2 c = fold-stored (c .before .before .before .before .before .before .before .before .before .pre) (c .before .before .before .before .before .if1 .left) (c .before .before .fold .ensures)
+returns-2 c = search needs
 
 pub put-value-spec : {M : Type 1} → statement M
 put-value-spec =
@@ -68,11 +78,11 @@ put-value-spec =
     add-size
     add-size-2
     add-size-3
+    add-size-4
     mul-size
     add-if1
     mul-if1
-    header-requires
-    tail-write-requires
+    in-tail-requires
     same-length
     returns
     fold-requires

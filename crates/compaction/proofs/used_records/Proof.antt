@@ -7,7 +7,7 @@ use Rattle.model.specs.Image.{block}
 use Rattle.model.specs.Work.{usedRecords}
 use Rattle.records.specs.Look.{lookAt}
 use Rattle.records.specs.declared.Look.{Look}
-use Rattle.compaction.proofs.Filled.{used-front}
+use Rattle.compaction.proofs.Plans.{used-front}
 use borrow.Author.Needs.{needs}
 use Rattle.compaction.proofs.used_records.Statement.{statement}
 use Rattle.compaction.proofs.used_records.Tie as tie

@@ -1,6 +1,7 @@
--- `compose::put_value` meets its contract: what is read of the entry makes up its value, and none of it is longer than the region.
--- Assumes nothing.
+-- `compose::put_value` meets its contract: what is read of the entry makes up its value, and none of it is longer than the region. Assumes nothing.
 use native.Mathlib.Omega.{arith}
+use mathlib.Core.Path.{ap, _∙_}
+use mathlib.Core.List.{List, append-nil}
 use denote.Ref.{now}
 use Rattle.text.proofs.Writing.{wrote-as}
 use Rattle.compose.proofs.Carried.{entry-value, short}
@@ -20,21 +21,25 @@ vendor-of-requires c κs = search needs
 data-of-requires : tie.Need-data-of-requires
 data-of-requires c κs = search needs
 
+slice-aggregate-put-entry : tie.Need-slice-aggregate-put-entry
+slice-aggregate-put-entry c = search needs
+
 put-entry-requires : tie.Need-put-entry-requires
 put-entry-requires c κs =
-    let a = c .before .before .before .before .before .before .before .args in
-    let s = short (now (a .region)) (a .place) (a .e) (c .before .before .before .before .stamp-of .ensures) (c .before .before .before .name-of .ensures) (c .before .before .vendor-of .ensures) (c .before .data-of .ensures) in
-    (omega arith, omega (arith, s .stamp-short), omega (arith, s .name-short), omega (arith, s .vendor-short), omega (arith, s .bytes-short))
+    let a = c .before .before .before .before .before .before .before .before .args in
+    let s = short (now (a .region)) (a .place) (a .e) (c .before .before .before .before .before .stamp-of .ensures) (c .before .before .before .before .name-of .ensures) (c .before .before .before .vendor-of .ensures) (c .before .before .data-of .ensures) in
+    (omega arith, omega (arith, s .stamp-short), omega (arith, s .name-short), omega (arith, s .vendor-short), omega (arith, s .bytes-short), search needs)
 
 same-length : tie.Need-same-length
 same-length c = search needs
 
 returns : tie.Need-returns
 returns c =
-    let a = c .before .before .before .before .before .before .before .before .before .before .args in
-    let s = short (now (a .region)) (a .place) (a .e) (c .before .before .before .before .before .before .before .stamp-of .ensures) (c .before .before .before .before .before .before .name-of .ensures) (c .before .before .before .before .before .vendor-of .ensures) (c .before .before .before .before .data-of .ensures) in
+    let a = c .before .before .before .before .before .before .before .before .before .before .before .args in
+    let e = append-nil (now (c .before .before .before .before .before .data-of .result)) ∙ c .before .before .before .before .before .data-of .ensures in
+    let s = short (now (a .region)) (a .place) (a .e) (c .before .before .before .before .before .before .before .before .stamp-of .ensures) (c .before .before .before .before .before .before .before .name-of .ensures) (c .before .before .before .before .before .before .vendor-of .ensures) e in
     let w = c .before .before .put-entry .ensures in
-    (wrote-as (entry-value (now (a .region)) (a .place) (a .e) (c .before .before .before .before .before .before .before .stamp-of .ensures) (c .before .before .before .before .before .before .name-of .ensures) (c .before .before .before .before .before .vendor-of .ensures) (c .before .before .before .before .data-of .ensures)) w, omega (arith, w .place, s .entry-short))
+    (wrote-as (entry-value (now (a .region)) (a .place) (a .e) (c .before .before .before .before .before .before .before .before .stamp-of .ensures) (c .before .before .before .before .before .before .before .name-of .ensures) (c .before .before .before .before .before .before .vendor-of .ensures) e) w, omega (arith, w .place, s .entry-short))
 
 pub put-value-spec : {M : Type 1} → statement M
 put-value-spec =
@@ -44,6 +49,7 @@ put-value-spec =
     name-of-requires
     vendor-of-requires
     data-of-requires
+    slice-aggregate-put-entry
     put-entry-requires
     same-length
     returns)

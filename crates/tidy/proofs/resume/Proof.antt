@@ -1,39 +1,85 @@
--- `tidy::resume` meets its contract: the last used record is FC, and from there on the stores are those of a compaction.
--- Assumes nothing.
+-- `tidy::resume` meets its contract: the spare stands at the content's front, and from there on the stores are those of a compaction. Assumes nothing.
 use native.Mathlib.Omega.{arith}
+use Prim.Native.Nat.{ℕ, _≤_}
+use mathlib.Core.Bool.{true}
+use lib.ListN.{getD}
 use denote.Ref.{now}
-use Rattle.flash.proofs.Made.{made-as}
-use Rattle.tidy.proofs.Stages.{some-used, last-within, last-complete, resume-list}
+use Rattle.plan.proofs.Bits.{bytes-of}
+use Rattle.tidy.proofs.Stages.{some-used, last-within}
+use Rattle.tidy.proofs.Starting.{accepts, sized, resume-plans}
 use borrow.Author.Needs.{needs}
 use Rattle.tidy.proofs.resume.Statement.{statement}
 use Rattle.tidy.proofs.resume.Tie as tie
 
 look-requires : tie.Need-look-requires
-look-requires c κs = search needs
+look-requires c κs =
+    let s = c .before .before in
+    sized (now (s .args .image)) (s .args .b) true (accepts (now (s .args .image)) (s .args .b) true (s .pre .0)) .1
 
-sub-finish : tie.Need-sub-finish
-sub-finish c =
-    let s = c .before .before .before .before .before in
-    some-used (now (s .args .image)) (s .args .b) (s .pre .0 .0) (s .pre .0 .1) (s .pre .0 .2) (c .before .before .look .ensures) (s .pre .1)
+mul-cut : tie.Need-mul-cut
+mul-cut c =
+    let s = c .before .before .before .before in
+    let h = sized (now (s .args .image)) (s .args .b) true (accepts (now (s .args .image)) (s .args .b) true (s .pre .0)) .1 in
+    omega arith
 
-finish-requires : tie.Need-finish-requires
-finish-requires c κs =
-    let s = c .before .before .before .before .before in
-    let e = c .before .before .look .ensures in
-    let f = last-complete (now (s .args .image)) (s .args .b) (s .pre .0 .0) (s .pre .0 .1) (s .pre .0 .2) e (s .pre .1) in (
-      s .pre .0,
-      last-within (now (s .args .image)) (s .args .b) (s .pre .0 .0) (s .pre .0 .1) (s .pre .0 .2) e (s .pre .1),
-      omega (arith, s .pre .2),
-      λ h. f,
-    )
+add-cut : tie.Need-add-cut
+add-cut c =
+    let s = c .before .before .before .before in
+    let h = sized (now (s .args .image)) (s .args .b) true (accepts (now (s .args .image)) (s .args .b) true (s .pre .0)) .1 in
+    omega arith
+
+mul-cut-2 : tie.Need-mul-cut-2
+mul-cut-2 c =
+    let s = c .before .before .before .before in
+    let h = sized (now (s .args .image)) (s .args .b) true (accepts (now (s .args .image)) (s .args .b) true (s .pre .0)) .1 in
+    omega arith
+
+cut-requires : tie.Need-cut-requires
+cut-requires c κs = search needs
+
+put-bytes-requires : tie.Need-put-bytes-requires
+put-bytes-requires c κs = search needs
+
+sub-resume : tie.Need-sub-resume
+sub-resume c =
+    let s = c .before .before .before .before .before .before .before .before .before in
+    let f = accepts (now (s .args .image)) (s .args .b) true (s .pre .0) in
+    let z = sized (now (s .args .image)) (s .args .b) true f in
+    some-used (now (s .args .image)) (s .args .b) (z .0) (z .1) (z .2) (c .before .before .before .before .before .before .look .ensures) (f .waits)
+
+resume-requires : tie.Need-resume-requires
+resume-requires c κs =
+    let s = c .before .before .before .before .before .before .before .before .before in
+    let f = accepts (now (s .args .image)) (s .args .b) true (s .pre .0) in
+    let z = sized (now (s .args .image)) (s .args .b) true f in
+    (z .1, last-within (now (s .args .image)) (s .args .b) (z .0) (z .1) (z .2) (c .before .before .before .before .before .before .look .ensures) (f .waits))
+
+accept-requires : tie.Need-accept-requires
+accept-requires c κs = search needs
 
 same-length : tie.Need-same-length
 same-length c = search needs
 
 returns : tie.Need-returns
 returns c =
-    let s = c .before .before .before .before .before .before .before .before in
-    made-as (resume-list (now (s .args .image)) (s .args .b) (s .pre .0 .0) (s .pre .0 .1) (s .pre .0 .2) (c .before .before .before .before .before .look .ensures) (s .pre .1)) (c .before .before .finish .ensures)
+    let s = c .before .before .before .before .before .before .before .before .before .before .before in
+    let i = now (s .args .image) in
+    let f = accepts i (s .args .b) true (s .pre .0) in
+    let k = c .before .before .before .before .before .before .before .before .before .before .shared-slice-known .given in
+    resume-plans i (s .args .b) f (bytes-of i (λ j. let x : getD i j 0 ≤ 0xFF = omega (arith, k j) in x)) (c .before .before .before .before .before .before .before .before .look .ensures) (c .before .before .before .before .before .before .cut .ensures) (c .before .before .before .before .before .put-bytes .ensures) (s .pre .1) (c .before .resume .ensures) (c .accept .ensures)
 
 pub resume-spec : {M : Type 1} → statement M
-resume-spec = tie.close (tie.spec look-requires sub-finish finish-requires same-length returns)
+resume-spec =
+    tie.close
+    (tie.spec
+    look-requires
+    mul-cut
+    add-cut
+    mul-cut-2
+    cut-requires
+    put-bytes-requires
+    sub-resume
+    resume-requires
+    accept-requires
+    same-length
+    returns)

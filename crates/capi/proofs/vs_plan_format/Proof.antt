@@ -1,0 +1,18 @@
+-- `capi::vs_plan_format` meets its contract: what the engine planned, in numbers. Assumes nothing.
+use Rattle.plan.proofs.InNumbers.{told}
+use borrow.Author.Needs.{needs}
+use Rattle.capi.proofs.vs_plan_format.Statement.{statement}
+use Rattle.capi.proofs.vs_plan_format.Tie as tie
+
+plan-format-requires : tie.Need-plan-format-requires
+plan-format-requires c κs = search needs
+
+in-numbers-requires : tie.Need-in-numbers-requires
+in-numbers-requires c κs = search needs
+
+returns : tie.Need-returns
+returns c =
+    let p = c .before .plan-format in (told _ (p .result) (c .in-numbers .result) (p .ensures .same) (c .in-numbers .ensures), p .ensures .kept)
+
+pub vs-plan-format-spec : {M : Type 1} → statement M
+vs-plan-format-spec = tie.close (tie.spec plan-format-requires in-numbers-requires returns)

@@ -1,0 +1,18 @@
+-- `capi::vs_plan_set` meets its contract: what the engine planned, in numbers. Assumes nothing.
+use Rattle.plan.proofs.InNumbers.{told}
+use borrow.Author.Needs.{needs}
+use Rattle.capi.proofs.vs_plan_set.Statement.{statement}
+use Rattle.capi.proofs.vs_plan_set.Tie as tie
+
+plan-set-requires : tie.Need-plan-set-requires
+plan-set-requires c κs = search needs
+
+in-numbers-requires : tie.Need-in-numbers-requires
+in-numbers-requires c κs = search needs
+
+returns : tie.Need-returns
+returns c =
+    let p = c .before .plan-set in (told _ (p .result) (c .in-numbers .result) (p .ensures .same) (c .in-numbers .ensures), p .ensures .kept)
+
+pub vs-plan-set-spec : {M : Type 1} → statement M
+vs-plan-set-spec = tie.close (tie.spec plan-set-requires in-numbers-requires returns)

@@ -1,0 +1,18 @@
+-- `capi::vs_plan_start_up` meets its contract: what the engine planned, in numbers. Assumes nothing.
+use Rattle.plan.proofs.InNumbers.{told}
+use borrow.Author.Needs.{needs}
+use Rattle.capi.proofs.vs_plan_start_up.Statement.{statement}
+use Rattle.capi.proofs.vs_plan_start_up.Tie as tie
+
+plan-start-up-requires : tie.Need-plan-start-up-requires
+plan-start-up-requires c κs = search needs
+
+in-numbers-requires : tie.Need-in-numbers-requires
+in-numbers-requires c κs = search needs
+
+returns : tie.Need-returns
+returns c =
+    let p = c .before .plan-start-up in (told _ (p .result) (c .in-numbers .result) (p .ensures .same) (c .in-numbers .ensures), p .ensures .kept)
+
+pub vs-plan-start-up-spec : {M : Type 1} → statement M
+vs-plan-start-up-spec = tie.close (tie.spec plan-start-up-requires in-numbers-requires returns)

@@ -1,0 +1,52 @@
+-- `change::in_tail` meets its contract: the entry stands at the content's front. Assumes nothing.
+use native.Mathlib.Omega.{arith}
+use mathlib.Core.Path.{_≡_, sym}
+use lib.ListN.{length, length-append}
+use denote.Ref.{now}
+use Rattle.change.proofs.Ready.{value-short}
+use Rattle.change.proofs.Tail.{tail-asked, tail-planned}
+use borrow.Author.Needs.{needs}
+use Rattle.change.proofs.in_tail.Statement.{statement}
+use Rattle.change.proofs.in_tail.Tie as tie
+
+put-entry-requires : tie.Need-put-entry-requires
+put-entry-requires c κs =
+    let s = c .before .before .before .before .before .before .before .before in
+    let h = value-short _ (s .pre .0 .ready) (s .pre .0 .room) in
+    let l = length-append (now (s .args .old)) (now (s .args .own)) in
+    let st : length (now (s .args .stamp)) ≡ 16 = search needs in
+    let ve : length (now (s .args .vendor)) ≡ 16 = search needs in
+    (omega arith, omega arith, omega arith, omega arith, omega arith, omega arith)
+
+add-tail-write : tie.Need-add-tail-write
+add-tail-write c = search needs
+
+tail-write-requires : tie.Need-tail-write-requires
+tail-write-requires c κs =
+    let s = c .before .before .before .before .before .before .before .before .before .before .before in
+    let l = length-append (now (s .args .old)) (now (s .args .own)) in
+    let t = tail-asked (s .pre .0) (s .pre .1) in
+    (t .0, t .1, omega (arith, t .2))
+
+accept-requires : tie.Need-accept-requires
+accept-requires c κs = search needs
+
+same-length : tie.Need-same-length
+same-length c = search needs
+
+returns : tie.Need-returns
+returns c =
+    let s = c .before .before .before .before .before .before .before .before .before .before .before .before .before in
+    let ve : length (now (s .args .vendor)) ≡ 16 = search needs in
+    tail-planned (s .pre .0) (s .pre .1) ve (c .before .before .before .before .put-entry .ensures) (s .pre .2) (sym (length-append (now (s .args .old)) (now (s .args .own)))) (c .before .tail-write .ensures) (c .accept .ensures)
+
+pub in-tail-spec : {M : Type 1} → statement M
+in-tail-spec =
+    tie.close
+    (tie.spec
+    put-entry-requires
+    add-tail-write
+    tail-write-requires
+    accept-requires
+    same-length
+    returns)

@@ -1,0 +1,40 @@
+-- `compose::old_data` meets its contract: the data of what stands, if anything does. Assumes nothing.
+use mathlib.Core.Path.{sym, ap, _∙_}
+use denote.Ref.{now}
+use Rattle.compose.specs.Compose.{oldData}
+use borrow.Author.Needs.{needs}
+use Rattle.compose.proofs.old_data.Statement.{statement}
+use Rattle.compose.proofs.old_data.Tie as tie
+
+enum-known-standing : tie.Need-enum-known-standing
+enum-known-standing c = search needs
+
+data-of-requires : tie.Need-data-of-requires
+data-of-requires c κs = search needs
+
+enum-told : tie.Need-enum-told
+enum-told c = search needs
+
+slice-aggregate-result : tie.Need-slice-aggregate-result
+slice-aggregate-result c = search needs
+
+returns : tie.Need-returns
+returns c =
+    let a = c .before .before .before .before .before .args in
+    c .data-of .ensures ∙ ap (oldData (now (a .region))) (sym (c .before .before .standing .given .1))
+
+returns-2 : tie.Need-returns-2
+returns-2 c =
+    let a = c .before .before .before .before .args in
+    ap (oldData (now (a .region))) (sym (c .before .enum-told .given .1))
+
+pub old-data-spec : {M : Type 1} → statement M
+old-data-spec =
+    tie.close
+    (tie.spec
+    enum-known-standing
+    data-of-requires
+    enum-told
+    slice-aggregate-result
+    returns
+    returns-2)

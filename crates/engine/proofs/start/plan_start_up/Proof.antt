@@ -1,0 +1,59 @@
+-- `engine::start::plan_start_up` meets its contract: what was found decides; a refusal makes no stores. Assumes nothing.
+use mathlib.Core.Path.{sym, _∙_}
+use denote.Ref.{now}
+use Rattle.model.specs.StartUp.{startUpPlan}
+use Rattle.plan.proofs.Parts.{refused-plans}
+use Rattle.tidy.proofs.Starting.{refused-plan}
+use borrow.Author.Needs.{needs}
+use Rattle.engine.proofs.start.plan_start_up.Statement.{statement}
+use Rattle.engine.proofs.start.plan_start_up.Tie as tie
+
+check-start-requires : tie.Need-check-start-requires
+check-start-requires c κs = search needs
+
+enum-known-found : tie.Need-enum-known-found
+enum-known-found c = search needs
+
+resume-requires : tie.Need-resume-requires
+resume-requires c κs =
+    (sym (c .before .before .before .before .check-start .ensures) ∙ c .before .before .found .given .1, search needs)
+
+enum-known-found-2 : tie.Need-enum-known-found-2
+enum-known-found-2 c = search needs
+
+tidy-requires : tie.Need-tidy-requires
+tidy-requires c κs =
+    (sym (c .before .before .before .before .check-start .ensures) ∙ c .before .before .found2 .given .1, search needs)
+
+enum-known-found-3 : tie.Need-enum-known-found-3
+enum-known-found-3 c = search needs
+
+refuse-requires : tie.Need-refuse-requires
+refuse-requires c κs = search needs
+
+returns : tie.Need-returns
+returns c = search needs
+
+returns-2 : tie.Need-returns-2
+returns-2 c = search needs
+
+returns-3 : tie.Need-returns-3
+returns-3 c =
+    let a = c .before .before .before .before .before .before .args in
+    let t = c .before .before .found3 .given in
+    refused-plans _ (now (a .image)) (startUpPlan (now (a .image))) (t .0 .0) (c .refuse .ensures) (refused-plan (now (a .image)) (t .0 .0) (sym (c .before .before .before .before .check-start .ensures) ∙ t .1))
+
+pub plan-start-up-spec : {M : Type 1} → statement M
+plan-start-up-spec =
+    tie.close
+    (tie.spec
+    check-start-requires
+    enum-known-found
+    resume-requires
+    enum-known-found-2
+    tidy-requires
+    enum-known-found-3
+    refuse-requires
+    returns
+    returns-2
+    returns-3)

@@ -1,0 +1,27 @@
+-- `engine::start::start_up` meets its contract: planned, then carried out. Assumes nothing.
+use denote.Ref.{now}
+use Rattle.engine.proofs.Carrying.{planned-end}
+use borrow.Author.Needs.{needs}
+use Rattle.engine.proofs.start.start_up.Statement.{statement}
+use Rattle.engine.proofs.start.start_up.Tie as tie
+
+fresh-requires : tie.Need-fresh-requires
+fresh-requires c κs = search needs
+
+plan-start-up-requires : tie.Need-plan-start-up-requires
+plan-start-up-requires c κs = search needs
+
+carried-requires : tie.Need-carried-requires
+carried-requires c κs = search needs
+
+same-length : tie.Need-same-length
+same-length c = search needs
+
+returns : tie.Need-returns
+returns c =
+    let a = c .before .before .before .before .before .before .before .before .before .before .before .args in
+    (planned-end (a .c .limit) (now (a .image)) (c .before .before .before .before .before .before .plan-start-up .ensures .same) (c .before .before .carried .ensures), c .before .before .before .before .before .before .before .before .before .fresh .ensures, c .before .before .before .before .before .before .plan-start-up .ensures .kept)
+
+pub start-up-spec : {M : Type 1} → statement M
+start-up-spec =
+    tie.close (tie.spec fresh-requires plan-start-up-requires carried-requires same-length returns)

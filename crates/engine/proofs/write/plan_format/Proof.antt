@@ -1,0 +1,64 @@
+-- `engine::write::plan_format` meets its contract: refused by rule 1, or the erases and the header's bytes. Assumes nothing.
+use native.Mathlib.Omega.{arith}
+use Prim.Native.Nat.{_≤_}
+use mathlib.Core.Path.{_≡_}
+use lib.ListN.{length}
+use denote.Ref.{now}
+use Rattle.model.specs.declared.Rule.the-variants.{Length}
+use Rattle.model.specs.StartUp.{formatPlan}
+use Rattle.plan.proofs.Parts.{refused-plans}
+use Rattle.engine.proofs.Formatting.{format-refused, format-plans}
+use borrow.Author.Needs.{needs}
+use Rattle.engine.proofs.write.plan_format.Statement.{statement}
+use Rattle.engine.proofs.write.plan_format.Tie as tie
+
+blocks-requires : tie.Need-blocks-requires
+blocks-requires c κs = search needs
+
+refuse-requires : tie.Need-refuse-requires
+refuse-requires c κs = search needs
+
+returns : tie.Need-returns
+returns c =
+    let a = c .before .before .before .before .args in
+    refused-plans _ (now (a .image)) (formatPlan (now (a .image))) Length (c .refuse .ensures) (format-refused (now (a .image)) _ (c .before .before .blocks2 .ensures .0) (c .before .if1 .taken))
+
+mul-region-header : tie.Need-mul-region-header
+mul-region-header c = search needs
+
+region-header-requires : tie.Need-region-header-requires
+region-header-requires c κs = search needs
+
+slice-aggregate-put-bytes : tie.Need-slice-aggregate-put-bytes
+slice-aggregate-put-bytes c = search needs
+
+put-bytes-requires : tie.Need-put-bytes-requires
+put-bytes-requires c κs = search needs
+
+wipe-requires : tie.Need-wipe-requires
+wipe-requires c κs = search needs
+
+accept-requires : tie.Need-accept-requires
+accept-requires c κs = search needs
+
+returns-2 : tie.Need-returns-2
+returns-2 c =
+    let a = c .before .before .before .before .before .before .before .before .before .args in
+    let low : 1 ≤ c .before .before .before .before .before .before .before .blocks2 .result = omega arith in
+    let room : length (now (a .content)) ≡ 28672 = search needs in
+    format-plans (now (a .image)) _ (c .before .before .before .before .before .before .before .blocks2 .ensures .0) low (c .before .before .before .before .before .region-header .ensures) (c .before .before .put-bytes .ensures) room (c .before .wipe .ensures) (c .accept .ensures)
+
+pub plan-format-spec : {M : Type 1} → statement M
+plan-format-spec =
+    tie.close
+    (tie.spec
+    blocks-requires
+    refuse-requires
+    returns
+    mul-region-header
+    region-header-requires
+    slice-aggregate-put-bytes
+    put-bytes-requires
+    wipe-requires
+    accept-requires
+    returns-2)

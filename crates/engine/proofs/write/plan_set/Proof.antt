@@ -1,0 +1,64 @@
+-- `engine::write::plan_set` meets its contract: rules 1 and 2 first, then the set over an image that is ready. Assumes nothing.
+use Prim.Native.Nat.{ℕ, _≤_}
+use native.Mathlib.Omega.{arith}
+use mathlib.Core.Path.{_≡_, sym, _∙_}
+use lib.ListN.{length, getD}
+use denote.Ref.{now}
+use Rattle.image.proofs.Ready.{is-ready}
+use Rattle.plan.proofs.Bits.{bytes-of}
+use Rattle.plan.proofs.Parts.{refused-plans}
+use Rattle.engine.proofs.Setting.{image-refused}
+use borrow.Author.Needs.{needs}
+use Rattle.engine.proofs.write.plan_set.Statement.{statement}
+use Rattle.engine.proofs.write.plan_set.Tie as tie
+
+guid-requires : tie.Need-guid-requires
+guid-requires c κs = search needs
+
+check-call-requires : tie.Need-check-call-requires
+check-call-requires c κs = search needs
+
+enum-known-check : tie.Need-enum-known-check
+enum-known-check c = search needs
+
+plan-ready-requires : tie.Need-plan-ready-requires
+plan-ready-requires c κs =
+    let a = c .before .before .before .before .before .before .before .before .before .args in
+    let i = now (a .image) in
+    let n = now (a .name) in
+    let d = now (a .bytes) in
+    let ki = c .before .before .before .before .before .before .before .before .shared-slice-known .given in
+    let kn = c .before .before .before .before .before .before .before .shared-slice-known2 .given in
+    let kd = c .before .before .before .before .before .before .shared-slice-known3 .given in
+    let g = c .before .before .before .before .before .guid .ensures in (
+      is-ready _ _ _ (sym (c .before .before .before .before .check-call .ensures) ∙ c .before .before .check .given .1),
+      bytes-of i (λ j. let x : getD i j 0 ≤ 0xFF = omega (arith, ki j) in x),
+      (bytes-of n (λ j. let x : getD n j 0 ≤ 0xFF = omega (arith, kn j) in x), g .0, g .1, bytes-of d (λ j. let x : getD d j 0 ≤ 0xFF = omega (arith, kd j) in x)),
+      search needs,
+    )
+
+enum-known-check-2 : tie.Need-enum-known-check-2
+enum-known-check-2 c = search needs
+
+refuse-requires : tie.Need-refuse-requires
+refuse-requires c κs = search needs
+
+returns : tie.Need-returns
+returns c = search needs
+
+returns-2 : tie.Need-returns-2
+returns-2 c =
+    refused-plans _ _ _ _ (c .refuse .ensures) (image-refused _ _ _ _ (sym (c .before .before .before .before .check-call .ensures) ∙ c .before .before .check2 .given .1))
+
+pub plan-set-spec : {M : Type 1} → statement M
+plan-set-spec =
+    tie.close
+    (tie.spec
+    guid-requires
+    check-call-requires
+    enum-known-check
+    plan-ready-requires
+    enum-known-check-2
+    refuse-requires
+    returns
+    returns-2)

@@ -1,2 +1,0 @@
--- What the functions that store promise.
-pub mod Made

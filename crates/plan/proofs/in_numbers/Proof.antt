@@ -1,0 +1,34 @@
+-- `plan::in_numbers` meets its contract, by how the call was judged. Assumes nothing.
+use Rattle.plan.proofs.InNumbers.{accepted-told, refused-told}
+use borrow.Author.Needs.{needs}
+use Rattle.plan.proofs.in_numbers.Statement.{statement}
+use Rattle.plan.proofs.in_numbers.Tie as tie
+
+enum-told : tie.Need-enum-told
+enum-told c = search needs
+
+operations-requires : tie.Need-operations-requires
+operations-requires c κs = search needs
+
+enum-known-judged : tie.Need-enum-known-judged
+enum-known-judged c = search needs
+
+number-requires : tie.Need-number-requires
+number-requires c κs = search needs
+
+no-operations-requires : tie.Need-no-operations-requires
+no-operations-requires c κs = search needs
+
+returns : tie.Need-returns
+returns c =
+    let s = c .before .before .before .before in
+    accepted-told (s .args .planned) _ (c .before .enum-told .given .1) (c .operations .ensures)
+
+returns-2 : tie.Need-returns-2
+returns-2 c =
+    let s = c .before .before .before .before .before in
+    refused-told (s .before .args .planned) _ _ _ (c .before .before .before .judged .given .1) (c .before .number .ensures) (c .no-operations .ensures)
+
+pub in-numbers-spec : {M : Type 1} → statement M
+in-numbers-spec =
+    tie.close (tie.spec enum-told operations-requires enum-known-judged number-requires no-operations-requires returns returns-2)

@@ -1,0 +1,112 @@
+-- A plan's operations, and the stores that they are.
+use Prim.Native.Nat.{ℕ, zero, suc, _+_, _*_, _-_, _≤_, _<_}
+use mathlib.Core.Path.{_≡_}
+use mathlib.Core.Bool.{Bool, true, cond}
+use mathlib.Core.List.{List, [], _∷_, _++_}
+use lib.ListN.{length, getD}
+use lib.Dec.{leb, ltb}
+use Rattle.model.specs.Lists.{part}
+use Rattle.model.specs.Image.{block}
+use Rattle.model.specs.Entry.{headerSize, stateAt}
+use Rattle.model.specs.Stores.{Store, byte, erase, apply, applyAll, run, mark, erases, difference}
+use Rattle.model.specs.Answers.{Outcome, done, stopped}
+use Rattle.plan.specs.declared.Step.{Step}
+use Rattle.plan.specs.declared.Step.the-variants.{Nothing, Mark, Erase, Program, Header}
+use Rattle.plan.specs.declared.Op.{Op}
+
+-- how many bytes of a header stand behind its state
+abbrev pub behindState : ℕ
+behindState = headerSize - (stateAt + 1)
+
+-- the stores of an operation: a mark; blocks erased from one on; bytes of the content stored from an offset on; "header bytes in rising order without state"
+unfoldable pub storesOfStep : List ℕ → Step → List Store
+storesOfStep content Nothing = []
+storesOfStep content (Mark at v) = mark at v
+storesOfStep content (Erase first count) = erases first count
+storesOfStep content (Program at from len) = run at (part from len content)
+storesOfStep content (Header at from) =
+    run at (part from stateAt content) ++ run (at + stateAt + 1) (part (from + stateAt + 1) behindState content)
+
+-- one operation after the other
+unfoldable pub expand : List ℕ → List Op → List Store
+expand content [] = []
+expand content (o ∷ os) = storesOfStep content (o .step) ++ expand content os
+
+-- an operation of a plan
+abbrev pub op : Step → Op
+op s = record { step = s }
+
+-- how many stores an operation is, where its bytes lie in the content
+abbrev pub sizeOf : Step → ℕ
+sizeOf Nothing = 0
+sizeOf (Mark at v) = 1
+sizeOf (Erase first count) = count
+sizeOf (Program at from len) = len
+sizeOf (Header at from) = stateAt + behindState
+
+-- the place in a header of its bytes without state
+abbrev pub aroundState : ℕ → ℕ
+aroundState i = cond (ltb i stateAt) i (i + 1)
+
+-- the store at a place of an operation's list
+abbrev pub storeAt : List ℕ → Step → ℕ → Store
+storeAt content Nothing i = byte 0 0
+storeAt content (Mark at v) i = byte at v
+storeAt content (Erase first count) i = erase (first + i)
+storeAt content (Program at from len) i = byte (at + i) (getD content (from + i) 0)
+storeAt content (Header at from) i = byte (at + aroundState i) (getD content (from + aroundState i) 0)
+
+-- an operation lies within a content and an image of these lengths
+abbrev pub Fits : ℕ → ℕ → Step → Type 0
+Fits held long Nothing = Unit {0}
+Fits held long (Mark at v) = at < long
+Fits held long (Erase first count) = block * first + block * count ≤ long
+Fits held long (Program at from len) = (from + len ≤ held) × (at + len ≤ long)
+Fits held long (Header at from) = (from + headerSize ≤ held) × (at + headerSize ≤ long)
+
+-- "Every change of state clears exactly one bit"
+abbrev pub OneBit : Step → List ℕ → Type 0
+OneBit Nothing img = Unit {0}
+OneBit (Mark at v) img = difference (getD img at 0) v ≡ 1
+OneBit (Erase first count) img = Unit {0}
+OneBit (Program at from len) img = Unit {0}
+OneBit (Header at from) img = Unit {0}
+
+-- every operation lies within, and each mark clears one bit of what then stands there
+abbrev pub AllFit : ℕ → ℕ → List Op → Type 0
+AllFit held long [] = Unit {0}
+AllFit held long (o ∷ os) = Fits held long (o .step) × AllFit held long os
+
+abbrev pub AllOneBit : List ℕ → List Op → List ℕ → Type 0
+AllOneBit content [] img = Unit {0}
+AllOneBit content (o ∷ os) img = OneBit (o .step) img × AllOneBit content os (applyAll (storesOfStep content (o .step)) img)
+
+-- what the executor asks
+pub record Ready (content : List ℕ) (ops : List Op) (img : List ℕ) : Type 0 where
+  pub fit : AllFit (length content) (length img) ops
+  pub bits : AllOneBit content ops img
+
+-- the answer of a call that is given n stores: "stopped exactly if its list of stores is longer than n"
+unfoldable pub ended : ℕ → List Store → Outcome
+ended n ss = cond (leb (length ss) n) (done (length ss)) stopped
+
+-- a plan's marks are at places of a kind
+abbrev pub MarkAt : (ℕ → Bool) → Step → Type 0
+MarkAt marks Nothing = Unit {0}
+MarkAt marks (Mark at v) = marks at ≡ true
+MarkAt marks (Erase first count) = Unit {0}
+MarkAt marks (Program at from len) = Unit {0}
+MarkAt marks (Header at from) = Unit {0}
+
+abbrev pub AllMarks : (ℕ → Bool) → List Op → Type 0
+AllMarks marks [] = Unit {0}
+AllMarks marks (o ∷ os) = MarkAt marks (o .step) × AllMarks marks os
+
+-- so many stores of an operation, from a place of its list on
+unfoldable pub many : List ℕ → Step → ℕ → ℕ → List ℕ → List ℕ
+many content s i zero img = img
+many content s i (suc r) img = apply (storeAt content s (i + r)) (many content s i r img)
+
+-- r stores of an operation are made from a place of its list on, one at least and no more than are left
+abbrev pub Advances : List ℕ → Step → ℕ → ℕ → List ℕ → List ℕ → ℕ → Type 0
+Advances content s i left before after r = (1 ≤ r) × (i + r ≤ sizeOf s) × (r ≤ left) × (after ≡ many content s i r before)

@@ -1,0 +1,54 @@
+-- What a planning call tells a host, in the numbers that C sees: the stores that the numbers are, and when they tell what the definitions plan.
+use Prim.Native.Nat.{ℕ, _+_, _-_}
+use mathlib.Core.Path.{_≡_}
+use mathlib.Core.Bool.{cond}
+use mathlib.Core.List.{List, [], _∷_, _++_}
+use lib.ListN.{take, drop}
+use lib.Dec.{eqb}
+use Rattle.model.specs.declared.Rule.{Rule}
+use Rattle.model.specs.Lists.{part}
+use Rattle.model.specs.Entry.{headerSize, stateAt}
+use Rattle.model.specs.Stores.{Store, run, mark, erases}
+use Rattle.model.specs.Set as set
+use Rattle.model.specs.Answers.{ruleNumber}
+use Rattle.plan.specs.declared.HostOp.{HostOp}
+use Rattle.plan.specs.declared.HostPlan.{HostPlan}
+use Rattle.plan.specs.Planned.{upTo}
+
+-- a header's 60 bytes "in rising order without state": the state is the third, and 57 stand behind it
+unfoldable pub headerStores : ℕ → ℕ → List ℕ → List Store
+headerStores at from content =
+    run at (part from stateAt content) ++ run (at + stateAt + 1) (part (from + stateAt + 1) (headerSize - (stateAt + 1)) content)
+
+-- *the stores that an operation's numbers are*: 1 the byte at `at` becomes `from`; 2 `len` blocks erased from block `at` on; 3 `len` bytes of the content from
+-- `from` on, stored from `at` on; 4 a header, of the content from `from` on, stored from `at` on; 0 none
+unfoldable pub storesOfNumbers : List ℕ → HostOp → List Store
+storesOfNumbers content h =
+    cond (eqb (h .kind) 1) (mark (h .at) (h .from))
+    (cond (eqb (h .kind) 2) (erases (h .at) (h .len))
+    (cond (eqb (h .kind) 3) (run (h .at) (part (h .from) (h .len) content))
+    (cond (eqb (h .kind) 4) (headerStores (h .at) (h .from) content) [])))
+
+-- one operation after the other
+unfoldable pub expandNumbers : List ℕ → List HostOp → List Store
+expandNumbers content [] = []
+expandNumbers content (h ∷ hs) = storesOfNumbers content h ++ expandNumbers content hs
+
+-- an operation of kind 0, and the twelve of a refused call
+abbrev pub none : HostOp
+none = record { kind = 0; at = 0; from = 0; len = 0 }
+
+unfoldable pub noOperations : List HostOp
+noOperations = none ∷ none ∷ none ∷ none ∷ none ∷ none ∷ none ∷ none ∷ none ∷ none ∷ none ∷ none ∷ []
+
+-- what is told of a refused call: its rule, no deciding operation, no operation; every field is fixed
+unfoldable pub refusalOf : Rule → HostPlan
+refusalOf rule = record { rule = ruleNumber rule; deciding = 12; ops = noOperations }
+
+-- *these numbers, with this content, tell that plan*: its rule; or 0, and operations whose stores are the plan's, up to the deciding store and on from there
+abbrev pub Told : set.Plan → List ℕ → HostPlan → Type 0
+Told (set.refuse rule) content h = h ≡ refusalOf rule
+Told (set.make to on) content h =
+    (h .rule ≡ 0)
+    × (expandNumbers content (take (upTo (h .deciding)) (h .ops)) ≡ to)
+    × (expandNumbers content (drop (upTo (h .deciding)) (h .ops)) ≡ on)

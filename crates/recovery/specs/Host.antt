@@ -1,0 +1,78 @@
+-- A host that stores by itself: it asks for a plan and carries out the operations that it is told, one after the other. What it has done when the power fails, the
+-- book beside it, and what holds of every run of it. All that the host does is said in the numbers that it was told, `HostPlan`, as C sees them.
+use Prim.Native.Nat.{ℕ, suc}
+use mathlib.Core.Path.{_≡_}
+use mathlib.Core.Bool.{Bool, _&&_}
+use mathlib.Core.List.{List}
+use lib.ListN.{length, take}
+use lib.Dec.{eqb, leb, ltb}
+use Rattle.model.specs.Entry.{Value}
+use Rattle.model.specs.Region.{valuesOf}
+use Rattle.model.specs.Stores.{Bytes, applyAll, Cut}
+use Rattle.model.specs.Set.{setPlan}
+use Rattle.model.specs.StartUp.{startUpPlan}
+use Rattle.model.specs.Answers.{getPlan, nextPlan}
+use Rattle.model.specs.Book.{Call, set, get, next, startUp, Sized, bookAfter}
+use Rattle.plan.specs.declared.HostPlan.{HostPlan}
+use Rattle.plan.specs.Told.{expandNumbers, Told}
+
+-- A start-up was planned over these bytes: the plan and the content tell what the definitions plan. Custom mode and R make its session and are no part of its plan.
+-- `vs_plan_start_up` of the C interface ensures it of its own arguments, for every image.
+abbrev pub StartUpPlanned : List ℕ → List ℕ → HostPlan → Type 0
+StartUpPlanned part content p = Told (startUpPlan part) content p
+
+-- A call was planned over these bytes. `vs_plan_set` ensures it of its own arguments. It and `vs_plan_start_up` require nothing, so such a plan exists for every set
+-- and every start-up, on any part. A get or next-name has no planning function: as a step its plan is its refusal, or operations without a store.
+abbrev pub PlannedFor : Call → List ℕ → List ℕ → HostPlan → Type 0
+PlannedFor (set s r) part content p = Told (setPlan s r part) content p
+PlannedFor (get s k buffer) part content p = Told (getPlan s k buffer part) content p
+PlannedFor (next s k buffer) part content p = Told (nextPlan s k buffer part) content p
+PlannedFor (startUp custom reserve) part content p = StartUpPlanned part content p
+
+-- the part when all operations are carried out; after a refusal there are none, so it is as before
+abbrev pub carriedOut : List ℕ → HostPlan → List ℕ → List ℕ
+carriedOut content p part = applyAll (expandNumbers content (p .ops)) part
+
+-- the deciding operation, if one decides, is complete: the first k stores hold those of the operations up to it and its own
+abbrev pub decidingDone : ℕ → List ℕ → HostPlan → Bool
+decidingDone k content p = ltb (p .deciding) 12 && leb (length (expandNumbers content (take (suc (p .deciding)) (p .ops)))) k
+
+-- A run of a host from the bytes `start` of a part: the part's bytes, and the book. Each call is planned over a copy that equals the part. Then
+-- * all its operations are carried out, and the book moves if the rule told is 0 ("a set that is done"); a refused call has no operations and moves nothing; or
+-- * the power fails: of the stores told the first k are complete and the next may be begun, as `Cut` says, and the book moves if the deciding operation was complete
+--   ("or had that store complete"). A host that gives a plan up between two stores is of this kind too.
+-- `bookAfter` moves the book for a set only ("only a set .. changes it").
+pub data Hosting (start : List ℕ) : List ℕ → List Value → Type 0 where
+  none-yet : Hosting start start (valuesOf start)
+  carried-out : {part : List ℕ}
+      {book : List Value}
+      → Hosting start part book
+      → (c : Call)
+      → Sized c
+      → (content : List ℕ)
+      → (p : HostPlan)
+      → PlannedFor c part content p
+      → Hosting start (carriedOut content p part) (bookAfter c (eqb (p .rule) 0) book)
+  power-failed : {part part′ : List ℕ}
+      {book : List Value}
+      → Hosting start part book
+      → (c : Call)
+      → Sized c
+      → (content : List ℕ)
+      → (p : HostPlan)
+      → PlannedFor c part content p
+      → (k : ℕ)
+      → Cut (expandNumbers content (p .ops)) k part part′
+      → Hosting start part′ (bookAfter c (decidingDone k content p) book)
+
+-- Begun on a part that a start-up left, told with rule 0 and carried out, on whatever bytes it found, and however often the power failed since: a start-up is not
+-- refused, and carried out it leaves exactly the values of the book.
+abbrev pub HostKeepsTheBook : Type 0
+HostKeepsTheBook =
+    (before part content content′ : List ℕ) (book : List Value) (p p′ : HostPlan)
+    → Bytes before
+    → StartUpPlanned before content p
+    → p .rule ≡ 0
+    → Hosting (carriedOut content p before) part book
+    → StartUpPlanned part content′ p′
+    → (p′ .rule ≡ 0) × (valuesOf (carriedOut content′ p′ part) ≡ book)
