@@ -20,6 +20,13 @@ use plan::Step;
 use values::Places;
 use values::lookup;
 
+// What stands in an image that is ready: its number of blocks, the offset of its tail, and where the entries of the name are.
+pub struct Standing {
+    pub b: usize,
+    pub tail: usize,
+    pub places: Places,
+}
+
 // "Append joins the data": those that a set keeps.
 fn kept_data(region: &[u8], places: Places, attributes: u32) -> &[u8]
     ensures { λ r. ⌜ now r ≡ cond (appends attributes) (oldData (now (region .entry)) (elseFound (places .added) (places .replacing))) [] ⌝ }
@@ -56,9 +63,7 @@ fn put_after(
 // "Otherwise the region is compacted with the change folded in", "rest FF".
 fn fold(
     image: &[u8],
-    b: usize,
-    tail: usize,
-    places: Places,
+    standing: Standing,
     name: &[u8],
     vendor: &[u8; 16],
     attributes: u32,
@@ -67,11 +72,12 @@ fn fold(
     own: &[u8],
     content: &mut [u8],
 ) -> Planned
-    requires { ⌜ Asked (now image) b tail places (valued (now name) (now vendor) attributes (now stamp) (now old ++ now own))
+    requires { ⌜ Asked (now image) (standing .b) (standing .tail) (standing .places) (valued (now name) (now vendor) attributes (now stamp) (now old ++ now own))
         × (fitsTail (region (now image)) (valued (now name) (now vendor) attributes (now stamp) (now old ++ now own)) ≡ false)
         × (length (now content) ≡ 28672) ⌝ }
     ensures { λ r. ⌜ PutPlanned (now (image .entry)) (valued (now (name .entry)) (now (vendor .entry)) attributes (now (stamp .entry)) (now (old .entry) ++ now (own .entry))) (now (content .exit)) r ⌝ }
 {
+    let b = standing.b;
     let n = put_after(
         content,
         slices::cut(image, 0, 4096 * b),
@@ -93,9 +99,7 @@ fn fold(
 // "In the tail": the entry is composed at the content's front.
 fn in_tail(
     image: &[u8],
-    b: usize,
-    tail: usize,
-    places: Places,
+    standing: Standing,
     name: &[u8],
     vendor: &[u8; 16],
     attributes: u32,
@@ -104,14 +108,15 @@ fn in_tail(
     own: &[u8],
     content: &mut [u8],
 ) -> Planned
-    requires { ⌜ Asked (now image) b tail places (valued (now name) (now vendor) attributes (now stamp) (now old ++ now own))
+    requires { ⌜ Asked (now image) (standing .b) (standing .tail) (standing .places) (valued (now name) (now vendor) attributes (now stamp) (now old ++ now own))
         × (fitsTail (region (now image)) (valued (now name) (now vendor) attributes (now stamp) (now old ++ now own)) ≡ true)
         × (length (now content) ≡ 28672) ⌝ }
     ensures { λ r. ⌜ PutPlanned (now (image .entry)) (valued (now (name .entry)) (now (vendor .entry)) attributes (now (stamp .entry)) (now (old .entry) ++ now (own .entry))) (now (content .exit)) r ⌝ }
 {
+    let places = standing.places;
     compose::put_entry(content, 0, attributes, stamp, name, vendor, old, own);
     plan::accept(
-        writes::tail_write(places, tail, name.len(), old.len() + own.len()),
+        writes::tail_write(places, standing.tail, name.len(), old.len() + own.len()),
         6,
     )
 }
@@ -119,9 +124,7 @@ fn in_tail(
 // A value stored: "In the tail, if the rounded entry fits".
 fn put_value(
     image: &[u8],
-    b: usize,
-    tail: usize,
-    places: Places,
+    standing: Standing,
     name: &[u8],
     vendor: &[u8; 16],
     attributes: u32,
@@ -130,17 +133,15 @@ fn put_value(
     own: &[u8],
     content: &mut [u8],
 ) -> Planned
-    requires { ⌜ Asked (now image) b tail places (valued (now name) (now vendor) attributes (now stamp) (now old ++ now own))
+    requires { ⌜ Asked (now image) (standing .b) (standing .tail) (standing .places) (valued (now name) (now vendor) attributes (now stamp) (now old ++ now own))
         × (length (now content) ≡ 28672) ⌝ }
     ensures { λ r. ⌜ PutPlanned (now (image .entry)) (valued (now (name .entry)) (now (vendor .entry)) attributes (now (stamp .entry)) (now (old .entry) ++ now (own .entry))) (now (content .exit)) r ⌝ }
 {
     let size = (60 + name.len() + old.len() + own.len() + 3) / 4 * 4;
-    if tail + size <= 4096 * b {
+    if standing.tail + size <= 4096 * standing.b {
         return in_tail(
             image,
-            b,
-            tail,
-            places,
+            standing,
             name,
             vendor,
             attributes,
@@ -152,9 +153,7 @@ fn put_value(
     }
     fold(
         image,
-        b,
-        tail,
-        places,
+        standing,
         name,
         vendor,
         attributes,
@@ -168,28 +167,25 @@ fn put_value(
 // The plan of the value that a set asks for: with the descriptor's stamp, without 0x40, an append's data behind the old.
 pub fn put(
     image: &[u8],
-    b: usize,
-    tail: usize,
-    places: Places,
+    standing: Standing,
     name: &[u8],
     vendor: &[u8; 16],
     attributes: u32,
     bytes: &[u8],
     content: &mut [u8],
 ) -> Planned
-    requires { ⌜ Asked (now image) b tail places (valueToPut (now image) (now name) (now vendor) attributes (now bytes)) × (rule8Of attributes (now bytes) ≡ false)
+    requires { ⌜ Asked (now image) (standing .b) (standing .tail) (standing .places) (valueToPut (now image) (now name) (now vendor) attributes (now bytes)) × (rule8Of attributes (now bytes) ≡ false)
         × (length (now content) ≡ 28672) ⌝ }
     ensures { λ r. ⌜ PutPlanned (now (image .entry)) (valueToPut (now (image .entry)) (now (name .entry)) (now (vendor .entry)) attributes (now (bytes .entry))) (now (content .exit)) r ⌝ }
 {
     let stamp = policy::stamp(attributes, bytes);
     let kept = policy::without_append(attributes);
     let own = policy::proper(attributes, bytes);
-    let old = kept_data(slices::cut(image, 0, 4096 * b), places, attributes);
+    let places = standing.places;
+    let old = kept_data(slices::cut(image, 0, 4096 * standing.b), places, attributes);
     put_value(
         image,
-        b,
-        tail,
-        places,
+        standing,
         name,
         vendor,
         kept,

@@ -14,6 +14,7 @@ ghost use Rattle.decision.specs.Decision.{requestOf};
 ghost use Rattle.plan.specs.Planned.{Kept, Plans};
 ghost use Rattle.engine.specs.Format.{wipePlan};
 use crate::carry;
+use change::Standing;
 use decision::Decision;
 use image::Check;
 use model::Answer;
@@ -25,6 +26,13 @@ use plan::Plan;
 use plan::Planned;
 use plan::Step;
 
+// The numbers of a set: its attributes, "physical presence and the verdict".
+struct Asking {
+    attributes: u32,
+    presence: u32,
+    verdict: u32,
+}
+
 // A set over an image that is ready, of b blocks and with this tail: rules 3 to 13, then what it does to the values.
 fn plan_ready(
     s: Session,
@@ -33,18 +41,17 @@ fn plan_ready(
     tail: usize,
     name: &[u8],
     vendor: &[u8; 16],
-    attributes: u32,
+    asking: Asking,
     bytes: &[u8],
-    presence: u32,
-    verdict: u32,
     content: &mut [u8],
 ) -> Planned
     requires { ⌜ IsReady (now image) b tail
         × Bytes (now image)
-        × Sized (book.set s (requestOf (now name) (now vendor) attributes (now bytes) presence verdict))
+        × Sized (book.set s (requestOf (now name) (now vendor) (asking .attributes) (now bytes) (asking .presence) (asking .verdict)))
         × (length (now content) ≡ 28672) ⌝ }
-    ensures { λ r. ⌜ Plans (setPlan s (requestOf (now (name .entry)) (now (vendor .entry)) attributes (now (bytes .entry)) presence verdict) (now (image .entry))) (now (image .entry)) (now (content .entry)) (now (content .exit)) r ⌝ }
+    ensures { λ r. ⌜ Plans (setPlan s (requestOf (now (name .entry)) (now (vendor .entry)) (asking .attributes) (now (bytes .entry)) (asking .presence) (asking .verdict)) (now (image .entry))) (now (image .entry)) (now (content .entry)) (now (content .exit)) r ⌝ }
 {
+    let attributes = asking.attributes;
     let d = decision::decide(
         s,
         slices::cut(image, 0, 4096 * b),
@@ -52,8 +59,8 @@ fn plan_ready(
         vendor,
         attributes,
         bytes,
-        presence,
-        verdict,
+        asking.presence,
+        asking.verdict,
     );
     let what = d.what;
     let places = d.places;
@@ -63,9 +70,7 @@ fn plan_ready(
         Decision::Remove => plan::accept(writes::delete(places), 1),
         Decision::Put => change::put(
             image,
-            b,
-            tail,
-            places,
+            Standing { b, tail, places },
             name,
             vendor,
             attributes,
@@ -114,10 +119,12 @@ pub fn plan_set(
             tail,
             name,
             vendor,
-            attributes,
+            Asking {
+                attributes,
+                presence,
+                verdict,
+            },
             bytes,
-            presence,
-            verdict,
             content,
         ),
         Check::Refused(rule) => plan::refuse(rule),

@@ -11,7 +11,7 @@ use Rattle.change.proofs.in_tail.Tie as tie
 
 put-entry-requires : tie.Need-put-entry-requires
 put-entry-requires c κs =
-    let s = c .before .before .before .before .before .before .before .before in
+    let s = c .before .before .before .before .before .before .before .before .before in
     let h = value-short _ (s .pre .0 .ready) (s .pre .0 .room) in
     let l = length-append (now (s .args .old)) (now (s .args .own)) in
     let st : length (now (s .args .stamp)) ≡ 16 = search needs in
@@ -23,7 +23,7 @@ add-tail-write c = search needs
 
 tail-write-requires : tie.Need-tail-write-requires
 tail-write-requires c κs =
-    let s = c .before .before .before .before .before .before .before .before .before .before .before in
+    let s = c .before .before .before .before .before .before .before .before .before .before .before .before in
     let l = length-append (now (s .args .old)) (now (s .args .own)) in
     let t = tail-asked (s .pre .0) (s .pre .1) in
     (t .0, t .1, omega (arith, t .2))
@@ -36,7 +36,7 @@ same-length c = search needs
 
 returns : tie.Need-returns
 returns c =
-    let s = c .before .before .before .before .before .before .before .before .before .before .before .before .before in
+    let s = c .before .before .before .before .before .before .before .before .before .before .before .before .before .before in
     let ve : length (now (s .args .vendor)) ≡ 16 = search needs in
     tail-planned (s .pre .0) (s .pre .1) ve (c .before .before .before .before .put-entry .ensures) (s .pre .2) (sym (length-append (now (s .args .old)) (now (s .args .own)))) (c .before .tail-write .ensures) (c .accept .ensures)
 

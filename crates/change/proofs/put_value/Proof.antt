@@ -39,7 +39,7 @@ mul-size c =
 
 add-if1 : tie.Need-add-if1
 add-if1 c =
-    let s = c .before .before .before .before .before in
+    let s = c .before .before .before .before .before .before in
     let r = s .pre .0 .ready in
     let h = value-short _ r (s .pre .0 .room) in
     omega (arith, length-append (now (s .args .old)) (now (s .args .own)), r .tail-within, r .long, r .few)
@@ -49,9 +49,9 @@ mul-if1 c = search needs
 
 in-tail-requires : tie.Need-in-tail-requires
 in-tail-requires c κs =
-    let s = c .before .before .before .before .before .before .before in
+    let s = c .before .before .before .before .before .before .before .before .before in
     let e = size-is (now (s .args .name)) (now (s .args .old)) (now (s .args .own)) in
-    (s .pre .0, fits (s .pre .0) (subst (λ (k : ℕ). s .args .tail + k / 4 * 4 ≤ 4096 * s .args .b) e (c .before .if1 .taken)), s .pre .1)
+    (s .pre .0, fits (s .pre .0) (subst (λ (k : ℕ). s .args .standing .tail + k / 4 * 4 ≤ 4096 * s .args .standing .b) e (c .before .if1 .taken)), s .pre .1)
 
 same-length : tie.Need-same-length
 same-length c = search needs
@@ -61,9 +61,9 @@ returns c = search needs
 
 fold-requires : tie.Need-fold-requires
 fold-requires c κs =
-    let s = c .before .before .before .before .before .before .before in
+    let s = c .before .before .before .before .before .before .before .before .before in
     let e = size-is (now (s .args .name)) (now (s .args .old)) (now (s .args .own)) in
-    (s .pre .0, fits-not (s .pre .0) (subst (λ (k : ℕ). 4096 * s .args .b < s .args .tail + k / 4 * 4) e (c .before .if1 .left)), s .pre .1)
+    (s .pre .0, fits-not (s .pre .0) (subst (λ (k : ℕ). 4096 * s .args .standing .b < s .args .standing .tail + k / 4 * 4) e (c .before .if1 .left)), s .pre .1)
 
 same-length-2 : tie.Need-same-length-2
 same-length-2 c = search needs
