@@ -46,7 +46,10 @@ fn content() -> [u8; 28672] {
 
 fn format(step: &[u8], image: &mut [u8]) {
     let mut content = content();
-    print_answer(b"format", engine::write::format(context(step), image, &mut content));
+    print_answer(
+        b"format",
+        engine::write::format(context(step), image, &mut content),
+    );
 }
 
 fn start_up(step: &[u8], image: &mut [u8]) -> Session {

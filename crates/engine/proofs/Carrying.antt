@@ -1,34 +1,10 @@
--- How a call ends that was planned and carried out: a plan's two parts, joined, are its list of stores; a refusal makes none.
+-- How a call ends that was planned and carried out.
 -- Assumes nothing.
 use Prim.Native.Nat.{ℕ}
-use mathlib.Core.Path.{_≡_, refl, sym, ap, _∙_}
-use mathlib.Core.List.{List, [], _++_}
-use lib.ListN.{take, drop, take-append-drop}
-use lib.Seq.{take-nil}
-use Rattle.model.specs.declared.Rule.{Rule}
-use Rattle.model.specs.Stores.{Store, applyAll, after}
+use mathlib.Core.Path.{_≡_, ap, _∙_}
+use mathlib.Core.List.{List}
 use Rattle.model.specs.Set.{Plan}
-use Rattle.model.specs.Answers.{Outcome, refused, ruleNumber, storesOf, outcome, imageAfter}
-use Rattle.plan.specs.declared.Op.{Op}
-use Rattle.plan.specs.declared.Judged.the-variants.{Accepted, Refused}
-use Rattle.plan.specs.declared.Planned.{Planned}
-use Rattle.plan.specs.Plan.{expand, ended}
-use Rattle.plan.specs.Planned.{upTo, plannedAs}
-use Rattle.plan.proofs.Stores.{expand-append}
-
-whole : (c : List ℕ) (ops : List Op) (d : ℕ) → expand c (take d ops) ++ expand c (drop d ops) ≡ expand c ops
-whole c ops d = sym (expand-append c (take d ops) (drop d ops)) ∙ ap (expand c) (take-append-drop d ops)
-
-pub accepted-end : (n : ℕ) (c img : List ℕ) (p : Planned) → p .judged ≡ Accepted → {o : Outcome} {img′ : List ℕ}
-    → (o ≡ ended n (expand c (p .plan))) × (img′ ≡ after n (expand c (p .plan)) img)
-    → (o ≡ outcome n (plannedAs c p)) × (img′ ≡ imageAfter n (plannedAs c p) img)
-unfolding plannedAs outcome imageAfter storesOf ended
-accepted-end n c img p j h = rw (j, whole c (p .plan) (upTo (p .deciding))) h
-
-pub refused-end : (n : ℕ) (c img : List ℕ) (p : Planned) {rule : Rule} → p .judged ≡ Refused rule
-    → (refused (ruleNumber rule) ≡ outcome n (plannedAs c p)) × (img ≡ imageAfter n (plannedAs c p) img)
-unfolding plannedAs outcome imageAfter storesOf after applyAll
-refused-end n c img p j = rw (j, take-nil) (refl, refl)
+use Rattle.model.specs.Answers.{Outcome, outcome, imageAfter}
 
 -- what was planned is what the definitions plan
 pub planned-end : (n : ℕ) (img : List ℕ) {p q : Plan} → p ≡ q → {o : Outcome} {img′ : List ℕ} → (o ≡ outcome n p) × (img′ ≡ imageAfter n p img)

@@ -1,5 +1,4 @@
 // The calls. One that stores is planned first, from the image lent shared and without n, and then carried out.
-pub mod carry;
 pub mod read;
 pub mod start;
 pub mod write;

@@ -5,7 +5,6 @@ ghost use Rattle.model.specs.StartUp.{startUpPlan};
 ghost use Rattle.model.specs.Book as book;
 ghost use Rattle.recovery.specs.Interface.{Returned};
 ghost use Rattle.plan.specs.Planned.{Kept, Plans};
-use crate::carry;
 use image::Start;
 use model::Context;
 use model::Session;
@@ -38,6 +37,6 @@ pub fn start_up(
 {
     let session = Session::fresh(custom, reserve);
     let planned = plan_start_up(image, content);
-    let answer = carry::carried(image, planned, content, c);
+    let answer = flash::carry_out(image, planned, content, c);
     Started { answer, session }
 }

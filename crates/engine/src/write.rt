@@ -13,7 +13,6 @@ ghost use Rattle.image.proofs.Ready.{IsReady};
 ghost use Rattle.decision.specs.Decision.{requestOf};
 ghost use Rattle.plan.specs.Planned.{Kept, Plans};
 ghost use Rattle.engine.specs.Format.{wipePlan};
-use crate::carry;
 use change::Standing;
 use decision::Decision;
 use image::Check;
@@ -158,7 +157,7 @@ pub fn set(
         verdict,
         content,
     );
-    carry::carried(image, planned, content, c)
+    flash::carry_out(image, planned, content, c)
 }
 
 // "it erases all blocks in rising order, then stores the 28 header bytes in rising order"
@@ -209,5 +208,5 @@ pub fn format(c: Context, image: &mut [u8], content: &mut [u8; 28672]) -> Answer
         × Kept (formatPlan (now (image .entry))) (now (content .entry)) (now (content .exit)) ⌝ }
 {
     let planned = plan_format(image, content);
-    carry::carried(image, planned, content, c)
+    flash::carry_out(image, planned, content, c)
 }

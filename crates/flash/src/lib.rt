@@ -5,12 +5,15 @@ ghost use Prim.Native.Nat.{_+_, _*_, _≤_, _<_};
 ghost use lib.ListN.{length, getD};
 ghost use Rattle.model.specs.Image.{block};
 ghost use Rattle.model.specs.Stores.{byte, erase, apply, after, difference};
-ghost use Rattle.model.specs.Answers.{answerOf};
+ghost use Rattle.model.specs.Answers.{answerOf, outcome, imageAfter};
 ghost use Rattle.plan.specs.Plan.{expand, sizeOf, many, Advances, Fits, OneBit, Ready, ended};
+ghost use Rattle.plan.specs.Planned.{plannedAs};
 ghost use Rattle.plan.specs.declared.Step.the-variants.{Program, Header};
 use model::Answer;
 use model::Context;
+use plan::Judged;
 use plan::Plan;
+use plan::Planned;
 use plan::Step;
 
 // One byte store.
@@ -134,8 +137,8 @@ fn stores(image: &mut [u8], step: Step, i: usize, content: &[u8], left: u64) -> 
     }
 }
 
-// A call's stores: those of its plan in their order, ended where n of them are made.
-pub fn carry_out(image: &mut [u8], plan: Plan, content: &[u8], context: Context) -> Answer
+// The stores of a plan in their order, ended where n of them are made.
+fn make_stores(image: &mut [u8], plan: Plan, content: &[u8], context: Context) -> Answer
     requires { ⌜ Ready (now content) plan (now image) ⌝ }
     ensures { λ r. ⌜ (answerOf r ≡ ended (context .limit) (expand (now (content .entry)) plan))
         × (now (image .exit) ≡ after (context .limit) (expand (now (content .entry)) plan) (now (image .entry))) ⌝ }
@@ -160,4 +163,18 @@ pub fn carry_out(image: &mut [u8], plan: Plan, content: &[u8], context: Context)
         }
     }
     Answer::Done(made)
+}
+
+// A call carried out as it was planned: "The answer is done with its number of stores, stopped, or refused holding its rule."
+pub fn carry_out(image: &mut [u8], planned: Planned, content: &[u8], context: Context) -> Answer
+    requires { ⌜ Ready (now content) (planned .plan) (now image) ⌝ }
+    ensures { λ r. ⌜ (answerOf r ≡ outcome (context .limit) (plannedAs (now (content .entry)) planned))
+        × (now (image .exit) ≡ imageAfter (context .limit) (plannedAs (now (content .entry)) planned) (now (image .entry))) ⌝ }
+{
+    let judged = planned.judged;
+    let plan = planned.plan;
+    match judged {
+        Judged::Accepted => make_stores(image, plan, content, context),
+        Judged::Refused(rule) => Answer::Refused(rule),
+    }
 }

@@ -11,8 +11,8 @@ fresh-requires c κs = search needs
 plan-start-up-requires : tie.Need-plan-start-up-requires
 plan-start-up-requires c κs = search needs
 
-carried-requires : tie.Need-carried-requires
-carried-requires c κs = search needs
+carry-out-requires : tie.Need-carry-out-requires
+carry-out-requires c κs = search needs
 
 same-length : tie.Need-same-length
 same-length c = search needs
@@ -20,8 +20,8 @@ same-length c = search needs
 returns : tie.Need-returns
 returns c =
     let a = c .before .before .before .before .before .before .before .before .before .before .before .args in
-    (planned-end (a .c .limit) (now (a .image)) (c .before .before .before .before .before .before .plan-start-up .ensures .same) (c .before .before .carried .ensures), c .before .before .before .before .before .before .before .before .before .fresh .ensures, c .before .before .before .before .before .before .plan-start-up .ensures .kept)
+    (planned-end (a .c .limit) (now (a .image)) (c .before .before .before .before .before .before .plan-start-up .ensures .same) (c .before .before .carry-out .ensures), c .before .before .before .before .before .before .before .before .before .fresh .ensures, c .before .before .before .before .before .before .plan-start-up .ensures .kept)
 
 pub start-up-spec : {M : Type 1} → statement M
 start-up-spec =
-    tie.close (tie.spec fresh-requires plan-start-up-requires carried-requires same-length returns)
+    tie.close (tie.spec fresh-requires plan-start-up-requires carry-out-requires same-length returns)

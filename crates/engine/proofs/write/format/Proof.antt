@@ -8,8 +8,8 @@ use Rattle.engine.proofs.write.format.Tie as tie
 plan-format-requires : tie.Need-plan-format-requires
 plan-format-requires c κs = search needs
 
-carried-requires : tie.Need-carried-requires
-carried-requires c κs = search needs
+carry-out-requires : tie.Need-carry-out-requires
+carry-out-requires c κs = search needs
 
 same-length : tie.Need-same-length
 same-length c = search needs
@@ -17,8 +17,8 @@ same-length c = search needs
 returns : tie.Need-returns
 returns c =
     let a = c .before .before .before .before .before .before .before .before .before .before .args in
-    let e = planned-end (a .c .limit) (now (a .image)) (c .before .before .before .before .before .before .plan-format .ensures .same) (c .before .before .carried .ensures) in
+    let e = planned-end (a .c .limit) (now (a .image)) (c .before .before .before .before .before .before .plan-format .ensures .same) (c .before .before .carry-out .ensures) in
     (e .0, e .1, c .before .before .before .before .before .before .plan-format .ensures .kept)
 
 pub format-spec : {M : Type 1} → statement M
-format-spec = tie.close (tie.spec plan-format-requires carried-requires same-length returns)
+format-spec = tie.close (tie.spec plan-format-requires carry-out-requires same-length returns)

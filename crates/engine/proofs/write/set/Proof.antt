@@ -8,8 +8,8 @@ use Rattle.engine.proofs.write.set.Tie as tie
 plan-set-requires : tie.Need-plan-set-requires
 plan-set-requires c κs = search needs
 
-carried-requires : tie.Need-carried-requires
-carried-requires c κs = search needs
+carry-out-requires : tie.Need-carry-out-requires
+carry-out-requires c κs = search needs
 
 same-length : tie.Need-same-length
 same-length c = search needs
@@ -17,7 +17,7 @@ same-length c = search needs
 returns : tie.Need-returns
 returns c =
     let a = c .before .before .before .before .before .before .before .before .before .before .before .before .args in
-    (planned-end (a .c .limit) (now (a .image)) (c .before .before .before .before .before .before .plan-set .ensures .same) (c .before .before .carried .ensures), c .before .before .before .before .before .before .plan-set .ensures .kept)
+    (planned-end (a .c .limit) (now (a .image)) (c .before .before .before .before .before .before .plan-set .ensures .same) (c .before .before .carry-out .ensures), c .before .before .before .before .before .before .plan-set .ensures .kept)
 
 pub set-spec : {M : Type 1} → statement M
-set-spec = tie.close (tie.spec plan-set-requires carried-requires same-length returns)
+set-spec = tie.close (tie.spec plan-set-requires carry-out-requires same-length returns)
