@@ -3,13 +3,12 @@
 -- Assumes nothing.
 use Prim.Native.Nat.{ℕ, _+_, _*_, _-_, _^_, _≤_, _<_}
 use native.Mathlib.Omega.{arith}
-use mathlib.Core.Path.{_≡_, refl, sym, ap, _∙_, subst}
-use mathlib.Core.Bool.{true, false}
+use mathlib.Core.Path.{_≡_, sym, ap, _∙_, subst}
+use mathlib.Core.Bool.{false}
 use mathlib.Core.List.{List, _++_}
 use lib.ListN.{length, take, replicate, length-append, length-replicate}
-use lib.Seq.{length-sets}
 use Rattle.model.specs.Lists.{part}
-use Rattle.model.specs.Image.{block, blocks, regionSize, region, work, regionHeader}
+use Rattle.model.specs.Image.{block, regionSize, region, work, regionHeader}
 use Rattle.model.specs.Entry.{Value}
 use Rattle.model.specs.Region.{entries, values, valuesOf}
 use Rattle.model.specs.Work.{usedRecords}

@@ -3,13 +3,13 @@
 -- Assumes nothing.
 use Prim.Native.Nat.{ℕ, _*_, _+_, _≤_}
 use native.Mathlib.Omega.{arith}
-use mathlib.Core.Path.{_≡_, sym, ap, _∙_, subst}
+use mathlib.Core.Path.{_≡_, sym, ap, subst}
 use mathlib.Core.Bool.{true, _&&_}
 use mathlib.Core.List.{List}
 use lib.ListN.{length}
 use lib.Dec.{eqb, leb}
 use borrow.Author.Tests.{leb-true, eqb-true}
-use Rattle.model.specs.Lists.{part, allFF}
+use Rattle.model.specs.Lists.{allFF}
 use Rattle.model.specs.Image.{block, blocks, rightLength, regionSize, region, work, spare}
 use Rattle.model.specs.Entry.{Value, plainSize}
 use Rattle.model.specs.Region.{clean, valuesOf}
@@ -18,7 +18,7 @@ use Rattle.model.specs.Change.{put, step, spaceOf}
 use Rattle.model.proofs.Tests.{and-split}
 use Rattle.values.specs.declared.Places.{Places}
 use Rattle.plan.specs.declared.Planned.{Planned}
-use Rattle.image.proofs.Ready.{IsReady}
+use Rattle.image.specs.Check.{IsReady}
 use Rattle.change.specs.Asked.{Asked, PutPlanned}
 use Rattle.change.proofs.Composed.{put-space}
 
@@ -41,12 +41,6 @@ pub ready-clean : (img : List ℕ) → readyForCall img ≡ true → clean (regi
 unfolding readyForCall
 ready-clean img h =
     and-split (clean (region img)) (allFF (spare img)) (and-split (clean (region img) && allFF (spare img)) (idle (work img)) h .0) .0
-
-pub ready-idle : (img : List ℕ) (b : ℕ) → readyForCall img ≡ true → blocks img ≡ b → idle (part (block * b) block img) ≡ true
-unfolding readyForCall work regionSize
-ready-idle img b h e =
-    ap (λ (k : ℕ). idle (part (block * k) block img)) (sym e)
-    ∙ and-split (clean (region img) && allFF (spare img)) (idle (work img)) h .1
 
 -- a value that has room is no longer than the largest region
 pub value-short : {img : List ℕ} {b t : ℕ} (v : Value) → IsReady img b t → spaceOf (step (put v) (valuesOf img)) ≤ regionSize img → plainSize v ≤ 28672

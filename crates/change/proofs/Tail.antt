@@ -2,20 +2,20 @@
 -- Assumes nothing.
 use Prim.Native.Nat.{ℕ, _+_, _*_, _^_, _≤_, _<_}
 use native.Mathlib.Omega.{arith}
-use mathlib.Core.Path.{_≡_, refl, sym, ap, _∙_, subst}
+use mathlib.Core.Path.{_≡_, sym, ap, _∙_, subst}
 use mathlib.Core.Logic.{_⊎_, inl, inr}
 use mathlib.Core.Bool.{true, false}
 use mathlib.Core.List.{List, _++_}
-use lib.ListN.{length, take, drop, length-append}
+use lib.ListN.{length, drop, length-append}
 use lib.Seq.{sets-eq, length-sets}
 use borrow.Author.Tests.{le-leb, lt-leb, leb-true}
 use Rattle.model.specs.Image.{block, region}
-use Rattle.model.specs.Entry.{Value, keyOf, plainSize, entrySize, entryBytes}
+use Rattle.model.specs.Entry.{Value, keyOf, entrySize, entryBytes}
 use Rattle.model.specs.Region.{entries, tailAt}
 use Rattle.model.specs.Stores.{Store}
 use Rattle.model.specs.Set.{make, tailTo, tailOn, fitsTail, putPlan}
 use Rattle.model.specs.Answers.{storesOf}
-use Rattle.model.specs.Book.{ClearsOne, isState, isRecord}
+use Rattle.model.specs.Book.{ClearsOne, isState}
 use Rattle.values.specs.declared.Places.{Places}
 use Rattle.text.specs.Text.{Wrote}
 use Rattle.compose.proofs.Headers.{entry-short}
@@ -28,7 +28,7 @@ use Rattle.writes.proofs.Plans.{Holds, tail-to, tail-on, entry-holds}
 use Rattle.writes.proofs.Ready.{tail-ready}
 use Rattle.writes.proofs.Found.{places-below}
 use Rattle.change.specs.Asked.{Asked, PutPlanned}
-use Rattle.change.proofs.Ready.{image-long, ready-clean, value-short}
+use Rattle.change.proofs.Ready.{image-long, ready-clean}
 
 -- the size as the code counts it
 pub size-is : (name old own : List ℕ) → 60 + length name + length old + length own + 3 ≡ 60 + length name + length (old ++ own) + 3

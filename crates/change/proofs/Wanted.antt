@@ -47,9 +47,6 @@ module _ (img name vendor : List ℕ) (a : ℕ) (bytes : List ℕ) (keeps : rule
   abbrev r : Request
   r = requested name vendor a bytes
 
-  abbrev old : Option Value
-  old = find (keyed name vendor) (valuesOf img)
-
   stored : stampToStore r ≡ stampOf a bytes
   stored = stamp-plain r (rule8-plain r ∙ keeps)
 

@@ -14,10 +14,10 @@ use Rattle.model.specs.Change.{put, newValue, step, spaceOf}
 use Rattle.model.specs.Set.{fitsTail, putPlan}
 use Rattle.model.specs.Answers.{storesOf}
 use Rattle.model.specs.Book.{ClearsOne, isState, isRecord}
-use Rattle.model.proofs.Encode.{Valid}
+use Rattle.model.specs.Beside.{Valid}
 use Rattle.values.specs.Found.{foundOf}
 use Rattle.values.specs.declared.Places.{Places}
-use Rattle.image.proofs.Ready.{IsReady}
+use Rattle.image.specs.Check.{IsReady}
 use Rattle.plan.specs.declared.Planned.{Planned}
 use Rattle.plan.specs.Plan.{Ready}
 use Rattle.plan.specs.Planned.{plannedAs}

@@ -1,7 +1,7 @@
 -- The plans' stores are those of the definitions.
 -- Assumes nothing.
 use Prim.Native.Nat.{ℕ, _+_, _*_}
-use mathlib.Core.Path.{_≡_, refl, sym, ap, _∙_}
+use mathlib.Core.Path.{_≡_, refl}
 use mathlib.Core.Bool.{Bool, true, false, cond}
 use mathlib.Core.List.{List, [], _∷_, _++_, append-assoc, append-nil}
 use native.Mathlib.Omega.{arith}
@@ -11,10 +11,10 @@ use lib.Dec.{leb}
 use Rattle.model.specs.Lists.{part}
 use Rattle.model.specs.Image.{block}
 use Rattle.model.specs.Work.{recordSpace, records, usedRecords}
-use Rattle.model.specs.Stores.{Store, erase, erases}
+use Rattle.model.specs.Stores.{erase, erases}
 use Rattle.model.specs.Compact.{nextRecord, fillSpare, finish}
 use Rattle.plan.specs.declared.Step.{Step}
-use Rattle.plan.specs.declared.Step.the-variants.{Nothing, Mark, Erase, Program}
+use Rattle.plan.specs.declared.Step.the-variants.{Nothing, Erase}
 use Rattle.plan.specs.Plan.{storesOfStep, expand}
 use Rattle.compaction.specs.Plans.{clearStep, compactPlan, resumePlan}
 

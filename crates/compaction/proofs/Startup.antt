@@ -8,7 +8,7 @@ use mathlib.Core.Bool.{Bool, true, false, cond}
 use mathlib.Core.List.{List, [], _∷_, _++_, append-assoc, append-nil}
 use lib.ListN.{length, replicate, length-append, length-replicate}
 use Rattle.model.specs.Lists.{allFF, part}
-use Rattle.model.specs.Image.{block, blocks, regionSize, region, work, spare}
+use Rattle.model.specs.Image.{block}
 use Rattle.model.specs.Region.{entries, values, valuesOf, tail}
 use Rattle.model.specs.Work.{records, usedRecords, idle, pending}
 use Rattle.model.specs.Stores.{Store, erase, erases, blank, applyAll}
@@ -16,7 +16,7 @@ use Rattle.model.specs.Compact.{nextRecord, fillSpare, finish, encode, compactT
 use Rattle.model.specs.StartUp.{resume, tidySpare, tidyWork, tidyTail, startUpStores}
 use Rattle.plan.specs.declared.Step.{Step}
 use Rattle.plan.specs.Plan.{storesOfStep, expand}
-use Rattle.compaction.specs.Plans.{compactPlan, restPlan, spareStep, workStep}
+use Rattle.compaction.specs.Plans.{rested, compactPlan, restPlan, spareStep, workStep}
 use Rattle.compaction.proofs.Plans.{compact-is}
 use Rattle.model.proofs.Parts.{Parts, parts-blocks, parts-size, parts-region, parts-work, parts-spare}
 use Rattle.model.proofs.Segments.{erases-segment, erase-segment, length-blank}
@@ -74,10 +74,6 @@ module _ {b : ℕ} {r w s : List ℕ} (p : Parts b r w s) where
   }
 
 -- ---- all of them
-
--- the work block as the compaction finds it
-abbrev pub rested : List ℕ → List ℕ
-rested w = cond (idle w) w blank
 
 -- *the stores of a start-up with nothing pending, by what stood in the three parts*
 pub tidy-is : {b : ℕ} {r w s : List ℕ} → Parts b r w s → pending (r ++ (w ++ s)) ≡ false

@@ -4,6 +4,8 @@ use mathlib.Core.Bool.{Bool, cond}
 use mathlib.Core.List.{List, [], _∷_}
 use lib.Dec.{leb}
 use Rattle.model.specs.Image.{block}
+use Rattle.model.specs.Work.{idle}
+use Rattle.model.specs.Stores.{blank}
 use Rattle.plan.specs.declared.Op.{Op}
 use Rattle.plan.specs.declared.Step.{Step}
 use Rattle.plan.specs.declared.Step.the-variants.{Nothing, Mark, Erase, Program}
@@ -18,6 +20,10 @@ spareStep b t = cond t Nothing (Erase (b + 1) b)
 
 unfoldable pub workStep : ℕ → Bool → Step
 workStep b t = cond t Nothing (Erase b 1)
+
+-- the work block as a start-up's compaction finds it
+abbrev pub rested : List ℕ → List ℕ
+rested w = cond (idle w) w blank
 
 -- where the next record stands
 abbrev pub recordAt : ℕ → ℕ → ℕ

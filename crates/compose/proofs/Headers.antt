@@ -5,9 +5,8 @@ use Prim.Native.Nat.{ℕ, zero, suc, _+_, _-_, _≤_}
 use native.Mathlib.Nat.{suc-add}
 use native.Mathlib.Omega.{arith}
 use mathlib.Core.Path.{_≡_, refl, sym, ap, _∙_}
-use mathlib.Core.List.{List, [], _∷_, _++_, append-assoc, append-nil}
-use lib.ListN.{length, take, drop, set, replicate, length-append, length-replicate, drop-of-length-le}
-use lib.Seq.{sets-eq}
+use mathlib.Core.List.{List, [], _∷_, _++_, append-assoc}
+use lib.ListN.{length, take, set, replicate, length-append, length-replicate}
 use Rattle.model.specs.Lists.{bytes32}
 use Rattle.model.specs.Entry.{headerFront, headerRest, rounded, Value, plainSize, entrySize, entryBytes}
 use Rattle.text.specs.Text.{Wrote}
@@ -26,16 +25,6 @@ unfolding headerBytes beforeStamp behindStamp headerRest
 header-value s v =
     regroup headerFront (s ∷ []) (0 ∷ []) (bytes32 (v .attributes)) (replicate 8 0) (v .stamp) (replicate 4 0) (bytes32 (length (v .name))) (bytes32 (length (v .bytes))) (v .vendor)
 
--- the two parts that are stored before the state
-pub header-front : (s a : ℕ) (stamp : List ℕ) (n d : ℕ) (vendor : List ℕ) → take 2 (headerBytes s a stamp n d vendor) ≡ headerFront
-unfolding headerBytes beforeStamp headerFront
-header-front s a stamp n d vendor = refl
-
-pub header-rest : (s : ℕ) (v : Value)
-    → drop 3 (headerBytes s (v .attributes) (v .stamp) (length (v .name)) (length (v .bytes)) (v .vendor)) ≡ headerRest v
-unfolding headerFront
-header-rest s v = ap (drop 3) (header-value s v)
-
 length-before : (s a : ℕ) → length (beforeStamp s a) ≡ 16
 unfolding beforeStamp headerFront
 length-before s a = refl
@@ -47,12 +36,6 @@ length-behind n d = refl
 pub header-length : (s a : ℕ) (stamp : List ℕ) (n d : ℕ) (vendor : List ℕ) → length (headerBytes s a stamp n d vendor) ≡ 28 + length stamp + length vendor
 unfolding headerBytes
 header-length s a stamp n d vendor = simp (length-append, length-before, length-behind) (omega arith)
-
--- a text that fills the buffer is the buffer
-pub wrote-whole : {text before after : List ℕ} {next : ℕ} → Wrote text 0 before after next → length text ≡ length before → after ≡ text
-wrote-whole {text} {before} w h =
-    w .buffer ∙ sets-eq text before 0 (omega arith)
-    ∙ ap (λ (l : List ℕ). text ++ l) (drop-of-length-le before {i = 0 + length text} (omega arith)) ∙ append-nil text
 
 -- its parts written one behind the other
 pub header-wrote : (s a n d : ℕ) {at n₁ n₂ n₃ n₄ : ℕ} {stamp vendor l l₁ l₂ l₃ l₄ : List ℕ}

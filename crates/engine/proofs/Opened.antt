@@ -16,9 +16,9 @@ use Rattle.model.specs.Answers.{ruleNumber}
 use Rattle.model.proofs.Requests.{broken-append}
 use Rattle.model.specs.declared.Rule.{Rule}
 use Rattle.model.specs.declared.Rule.the-variants.{Length, Unready, Name}
-use Rattle.image.specs.Check.{callOf}
+use Rattle.image.specs.Check.{callOf, IsReady}
 use Rattle.image.specs.declared.Check.the-variants.{Ready, Refused}
-use Rattle.image.proofs.Ready.{IsReady, is-ready, refused-rule}
+use Rattle.image.proofs.Ready.{is-ready, refused-rule}
 use Rattle.engine.specs.Read.{openOf}
 
 -- ---- rules 1 to 3 as the code checks them

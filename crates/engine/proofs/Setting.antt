@@ -1,10 +1,10 @@
 -- A set over an image that is ready. Its decision over the region is that over the image's values: it names the rule that the set breaks, or the kind of its change,
 -- whose plan is refused, empty, a delete or a put; and what was found of the name in the region is what the stores of a delete and of a put ask for.
 -- Assumes nothing.
-use Prim.Native.Nat.{ℕ, _+_, _*_, _^_, _≤_, _<_}
+use Prim.Native.Nat.{ℕ, _+_, _*_, _^_, _≤_}
 use native.Mathlib.Omega.{arith}
 use mathlib.Core.Path.{_≡_, refl, sym, ap, _∙_, subst}
-use mathlib.Core.Bool.{Bool, true, false, cond}
+use mathlib.Core.Bool.{Bool, true, false}
 use mathlib.Core.List.{List, [], _++_}
 use mathlib.Core.Option.{Option, none, some}
 use lib.ListN.{length}
@@ -14,7 +14,7 @@ use Rattle.model.specs.Lists.{part, onSome}
 use Rattle.model.specs.Name.{keyed}
 use Rattle.model.specs.Image.{block, regionSize, region}
 use Rattle.model.specs.Entry.{Value}
-use Rattle.model.specs.Region.{entries, tailAt, sound, values, valuesOf, added, replacing, find}
+use Rattle.model.specs.Region.{entries, sound, values, valuesOf, added, replacing, find}
 use Rattle.model.specs.Request.{Request, requestKey, dataProper, stampToStore}
 use Rattle.model.specs.Change.{Change, nothing, remove, put, changeIn, newData, newValue}
 use Rattle.model.specs.Rules.{firstBroken, imageRules, requestRules, standingRules, resultRules, roomRules, rule8, setBroken}
@@ -24,8 +24,8 @@ use Rattle.model.specs.Answers.{storesOf}
 use Rattle.model.proofs.Requests.{broken-append, unbroken, put-is-valid, put-fits}
 use Rattle.values.specs.Found.{foundOf}
 use Rattle.values.specs.declared.Places.{Places}
-use Rattle.image.proofs.Ready.{IsReady, refused-rule}
-use Rattle.image.specs.Check.{callOf}
+use Rattle.image.proofs.Ready.{refused-rule}
+use Rattle.image.specs.Check.{callOf, IsReady}
 use Rattle.image.specs.declared.Check.the-variants.{Refused}
 use Rattle.policy.specs.Rules.{rule8Of}
 use Rattle.policy.proofs.Plain.{rule8-plain}

@@ -9,7 +9,7 @@ ghost use Rattle.model.specs.Answers.{answerOf, outcome, imageAfter};
 ghost use Rattle.model.specs.Book as book;
 ghost use Rattle.model.specs.Book.{Sized};
 ghost use Rattle.recovery.specs.Interface.{Returned};
-ghost use Rattle.image.proofs.Ready.{IsReady};
+ghost use Rattle.image.specs.Check.{IsReady};
 ghost use Rattle.decision.specs.Decision.{requestOf};
 ghost use Rattle.plan.specs.Planned.{Kept, Plans};
 ghost use Rattle.engine.specs.Format.{wipePlan};

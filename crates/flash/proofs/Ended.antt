@@ -2,11 +2,11 @@
 -- Assumes nothing.
 use Prim.Native.Nat.{ℕ}
 use mathlib.Core.Path.{_≡_, refl, sym, ap, _∙_}
-use mathlib.Core.List.{List, [], _++_}
+use mathlib.Core.List.{List, _++_}
 use lib.ListN.{take, drop, take-append-drop}
 use lib.Seq.{take-nil}
 use Rattle.model.specs.declared.Rule.{Rule}
-use Rattle.model.specs.Stores.{Store, applyAll, after}
+use Rattle.model.specs.Stores.{applyAll, after}
 use Rattle.model.specs.Answers.{Outcome, refused, ruleNumber, storesOf, outcome, imageAfter}
 use Rattle.plan.specs.declared.Op.{Op}
 use Rattle.plan.specs.declared.Judged.the-variants.{Accepted, Refused}

@@ -1,6 +1,5 @@
 // The executor: the only functions that write an image. It carries out the operations of a plan store by store, and ends where n stores are made.
 ghost use mathlib.Core.Path.{_≡_};
-ghost use mathlib.Core.Bool.{cond};
 ghost use Prim.Native.Nat.{_+_, _*_, _≤_, _<_};
 ghost use lib.ListN.{length, getD};
 ghost use Rattle.model.specs.Image.{block};

@@ -19,7 +19,7 @@ use Rattle.model.proofs.Tests.{and-split}
 use Rattle.model.proofs.Parts.{right-parts, parts-region, parts-size}
 use Rattle.model.proofs.Chunks.{sound-chunked, made-length, made-tailAt}
 use Rattle.model.proofs.Requests.{unbroken}
-use Rattle.image.specs.Check.{callOf}
+use Rattle.image.specs.Check.{callOf, IsReady}
 use Rattle.image.specs.declared.Check.the-variants.{Ready, Refused}
 
 -- a refused image
@@ -30,19 +30,6 @@ refused-rule img rule p = go (firstBroken (imageRules img)) p
     go : (o : Option Rule) → onSome o Refused (Ready (blocks img) (tailAt (region img))) ≡ Refused rule → o ≡ some rule
     go (some x) p = let same : x ≡ rule = cc in ap some same
     go none p = let z : _≡_ {A = ℕ} 0 1 = cc in absurd (omega arith)
-
--- one that is ready, of b blocks and with the tail at t
-pub record IsReady (img : List ℕ) (b t : ℕ) : Type 0 where
-  pub unbroken : firstBroken (imageRules img) ≡ none
-  pub right : rightLength img ≡ true
-  pub ready : readyForCall img ≡ true
-  pub sounds : sound (region img) ≡ true
-  pub number : blocks img ≡ b
-  pub few : b ≤ 7
-  pub cut : part 0 (4096 * b) img ≡ region img
-  pub long : length (region img) ≡ 4096 * b
-  pub tail-at : tailAt (region img) ≡ t
-  pub tail-within : t ≤ length (region img)
 
 ready-sound : (img : List ℕ) → readyForCall img ≡ true → sound (region img) ≡ true
 unfolding readyForCall clean

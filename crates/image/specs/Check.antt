@@ -1,11 +1,14 @@
 -- What rules 1 and 2 leave to a call and to a start-up.
-use Prim.Native.Nat.{ℕ}
-use mathlib.Core.Bool.{cond}
+use Prim.Native.Nat.{ℕ, _*_, _≤_}
+use mathlib.Core.Path.{_≡_}
+use mathlib.Core.Bool.{true, cond}
 use mathlib.Core.List.{List}
-use Rattle.model.specs.Lists.{onSome}
+use mathlib.Core.Option.{none}
+use lib.ListN.{length}
+use Rattle.model.specs.Lists.{part, onSome}
 use Rattle.model.specs.Image.{blocks, rightLength, region}
-use Rattle.model.specs.Region.{tailAt}
-use Rattle.model.specs.Work.{pending}
+use Rattle.model.specs.Region.{tailAt, sound}
+use Rattle.model.specs.Work.{readyForCall, pending}
 use Rattle.model.specs.Rules.{firstBroken, imageRules, startUpBroken}
 use Rattle.image.specs.declared.Check.{Check}
 use Rattle.image.specs.declared.Check.the-variants as call
@@ -24,3 +27,16 @@ callOf img = onSome (firstBroken (imageRules img)) call.Refused (call.Ready (blo
 unfoldable pub startUpOf : List ℕ → Start
 startUpOf img =
     onSome (startUpBroken img) start.Refused (cond (pending img) (start.Pending (blocks img)) (start.Sound (blocks img)))
+
+-- an image that is ready for a call, of b blocks and with the tail at t
+pub record IsReady (img : List ℕ) (b t : ℕ) : Type 0 where
+  pub unbroken : firstBroken (imageRules img) ≡ none
+  pub right : rightLength img ≡ true
+  pub ready : readyForCall img ≡ true
+  pub sounds : sound (region img) ≡ true
+  pub number : blocks img ≡ b
+  pub few : b ≤ 7
+  pub cut : part 0 (4096 * b) img ≡ region img
+  pub long : length (region img) ≡ 4096 * b
+  pub tail-at : tailAt (region img) ≡ t
+  pub tail-within : t ≤ length (region img)

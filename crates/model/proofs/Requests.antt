@@ -23,7 +23,7 @@ use Rattle.model.specs.Session.{reserved}
 use Rattle.model.specs.Request.{Request, requestKey, stampSize, timeBased, appends, withoutAppend, dataProper, stampToStore, properAt, rightDescriptor}
 use Rattle.model.specs.Change.{nothing, remove, put, deletes, emptyAppend, equalTo, newData, newValue, changeOf, changeIn, step, spaceOf}
 use Rattle.model.specs.Rules.{firstBroken, rule1, rule2, rule2StartUp, rule3, rule4, rule8, rule11, rule12, rule13, imageRules, requestRules, standingRules, resultRules, roomRules, removesAbsent, setBroken, getBroken, nextBroken, startUpBroken}
-use Rattle.model.proofs.Encode.{Valid}
+use Rattle.model.specs.Beside.{Valid}
 use Rattle.model.proofs.Tests.{or-split}
 
 -- ---- rules of which none is broken

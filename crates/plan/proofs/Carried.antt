@@ -5,14 +5,12 @@ use native.Mathlib.Nat.{add-zero}
 use native.Mathlib.Numerals.{add-one}
 use native.Mathlib.Omega.{arith}
 use mathlib.Core.Path.{_≡_, refl, sym, ap, ap₂, _∙_, subst}
-use mathlib.Core.Bool.{Bool, true, false, cond}
 use mathlib.Core.List.{List, [], _∷_, _++_, append-nil}
 use lib.ListN.{length, getD, take, drop, length-append, take-append-drop}
 use lib.Seq.{split-at, take-suc, take-all, take-take}
-use lib.Dec.{leb, ltb}
 use borrow.Author.Tests.{le-leb, lt-leb, lt-ltb, le-ltb}
 use Rattle.model.specs.Entry.{headerSize, stateAt}
-use Rattle.model.specs.Stores.{Store, apply, applyAll, after}
+use Rattle.model.specs.Stores.{Store, apply, after}
 use Rattle.model.specs.Answers.{done, stopped}
 use Rattle.model.proofs.Stores.{after-all}
 use Rattle.plan.specs.declared.Step.{Step}

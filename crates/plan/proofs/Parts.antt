@@ -1,10 +1,10 @@
 -- What was planned: a refusal, an empty list, or a plan's two parts.
 -- Assumes nothing.
 use Prim.Native.Nat.{ℕ}
-use mathlib.Core.Path.{_≡_, refl, sym, ap, ap₂, _∙_}
+use mathlib.Core.Path.{_≡_, refl, sym, ap₂, _∙_}
 use mathlib.Core.Bool.{Bool, true, false, cond}
-use mathlib.Core.List.{List, [], _++_, append-nil}
-use lib.ListN.{length, take, drop, take-append-drop}
+use mathlib.Core.List.{List, []}
+use lib.ListN.{take, drop}
 use Rattle.model.specs.declared.Rule.{Rule}
 use Rattle.model.specs.Stores.{Store}
 use Rattle.model.specs.Set.{Plan, make, refuse}
@@ -12,7 +12,6 @@ use Rattle.plan.specs.declared.Op.{Op}
 use Rattle.plan.specs.declared.Planned.{Planned}
 use Rattle.plan.specs.Plan.{storesOfStep, expand, Ready}
 use Rattle.plan.specs.Planned.{nothings, accepted, refused, upTo, plannedAs, Kept, Plans}
-use Rattle.plan.proofs.Stores.{expand-append}
 
 nothing-ready : (c img : List ℕ) → Ready c nothings img
 unfolding nothings

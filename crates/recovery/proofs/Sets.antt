@@ -26,7 +26,8 @@ use Rattle.model.proofs.Chunks.{entryOf, Made, made-length, made-entries, made-
 use Rattle.model.proofs.Values.{leftover-marked, add-added}
 use Rattle.recovery.proofs.Cuts.{Goes, goes-nowhere, goes-append, bit-3C}
 use Rattle.model.proofs.Parts.{Parts, parts-region}
-use Rattle.model.proofs.Encode.{Valid, AllValid, Distinct, allFF-blank, blank-allFF, blank-stops, entry-reads, entry-framed, right-value, length-entry}
+use Rattle.model.specs.Beside.{Valid}
+use Rattle.model.proofs.Encode.{AllValid, Distinct, allFF-blank, blank-allFF, blank-stops, entry-reads, entry-framed, right-value, length-entry}
 use Rattle.recovery.proofs.Invariant.{Holding, region-holds}
 use Rattle.recovery.proofs.Compaction.{clean-sound}
 use Rattle.recovery.proofs.StartingUp.{Ready, compacted}

@@ -21,7 +21,8 @@ use Rattle.model.specs.Set.{markState, entryStores}
 use Rattle.model.proofs.Chunks.{join, Framed, AllFramed, entryOf, entriesOf, join-append, framed-append, entriesOf-append, header-length, made-length, soundEntries}
 use Rattle.model.proofs.Values.{add-dead}
 use Rattle.recovery.proofs.Cuts.{Goes, goes-append, goes-run, goes-mark, OneBit, bit-7F, bit-3F}
-use Rattle.model.proofs.Encode.{Valid, blank-stops, headerOf, length-rest, header-read, chunk-framed}
+use Rattle.model.specs.Beside.{Valid}
+use Rattle.model.proofs.Encode.{blank-stops, headerOf, length-rest, header-read, chunk-framed}
 use Rattle.recovery.proofs.Marks.{State}
 
 abbrev pub ff : ℕ → List ℕ

@@ -36,7 +36,8 @@ use Rattle.model.proofs.Chunks.{Chunked, region-chunked}
 use Rattle.model.proofs.Values.{find-standing}
 use Rattle.recovery.proofs.Cuts.{Safe, cut-at}
 use Rattle.model.proofs.Parts.{Parts, parts-region, parts-work, parts-spare, parts-size, parts-right}
-use Rattle.model.proofs.Encode.{Valid, sound-valid, sound-distinct, put-valid, put-distinct}
+use Rattle.model.specs.Beside.{Valid}
+use Rattle.model.proofs.Encode.{sound-valid, sound-distinct, put-valid, put-distinct}
 use Rattle.model.proofs.Requests.{set-length, set-ready, put-is-valid, put-fits, remove-present, startUp-length, startUp-ready, startUp-accepted}
 use Rattle.recovery.proofs.Invariant.{Holding, in-spare, in-region}
 use Rattle.recovery.proofs.Compaction.{clean-sound}

@@ -4,17 +4,16 @@
 use Prim.Native.Nat.{ℕ, _+_, _*_, _-_, _≤_, _<_}
 use native.Mathlib.Omega.{arith}
 use mathlib.Core.Path.{_≡_, sym, ap, _∙_}
-use mathlib.Core.Bool.{Bool, true, false, _&&_}
-use mathlib.Core.List.{List, [], _∷_, _++_}
-use lib.ListN.{length, drop, getD, length-drop}
-use lib.Seq.{length-take-le, take-all, getD-take, getD-drop}
+use mathlib.Core.Bool.{Bool, true, _&&_}
+use mathlib.Core.List.{List}
+use lib.ListN.{length, drop, length-drop}
+use lib.Seq.{length-take-le, take-all}
 use Rattle.model.specs.Lists.{part, allFF}
 use Rattle.model.specs.Image.{block, blocks, regionSize, region, work, spare}
-use Rattle.model.specs.Region.{tail, tailAt, valuesOf, clean}
+use Rattle.model.specs.Region.{tail, tailAt, clean}
 use Rattle.model.specs.Work.{wellFormed, usedRecords, endsInFC, idle, pending}
-use Rattle.model.specs.Stores.{erase, erases}
-use Rattle.model.specs.Compact.{finish, compactTo, compactOn}
-use Rattle.model.specs.StartUp.{resume, tidySpare, tidyWork, tidyTail}
+use Rattle.model.specs.Compact.{finish}
+use Rattle.model.specs.StartUp.{resume}
 use Rattle.model.proofs.Tests.{and-split}
 use Rattle.model.proofs.WorkBlock.{Last, work-last}
 use Rattle.records.specs.Look.{lookAt, restsAt}

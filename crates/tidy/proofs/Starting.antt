@@ -1,11 +1,11 @@
 -- A start-up, by what the image was found to be. Where a compaction is pending its stores are those of the resumption alone. Else they are those of the erases and of
 -- the compaction, by the three parts of the image that was found.
 -- Assumes nothing.
-use Prim.Native.Nat.{ℕ, _+_, _*_, _-_, _≤_, _<_}
+use Prim.Native.Nat.{ℕ, _+_, _*_, _-_, _≤_}
 use native.Mathlib.Omega.{arith}
 use mathlib.Core.Path.{_≡_, refl, sym, ap, ap₂, _∙_, subst}
 use mathlib.Core.Bool.{Bool, true, false, cond, _&&_, _||_}
-use mathlib.Core.List.{List, [], _∷_, _++_}
+use mathlib.Core.List.{List, [], _++_}
 use mathlib.Core.Option.{Option, none, some}
 use lib.ListN.{length, take, drop, length-drop}
 use lib.Seq.{length-take-le}
@@ -13,14 +13,14 @@ use lib.Dec.{eqb, leb}
 use borrow.Author.Tests.{leb-true, eqb-true}
 use Rattle.model.specs.declared.Rule.{Rule}
 use Rattle.model.specs.Lists.{part, allFF, onSome}
-use Rattle.model.specs.Image.{block, blocks, rightLength, regionSize, region, work, spare}
+use Rattle.model.specs.Image.{block, blocks, rightLength, region, work, spare}
 use Rattle.model.specs.Region.{sound, tail, entries, values}
 use Rattle.model.specs.Work.{idle, pending, readyForStartUp, usedRecords}
 use Rattle.model.specs.Rules.{startUpBroken}
 use Rattle.model.specs.Stores.{Store, Bytes}
 use Rattle.model.specs.Set.{refuse, make}
 use Rattle.model.specs.Compact.{encode, finish, fillSpare, nextRecord}
-use Rattle.model.specs.StartUp.{resume, startUpStores, startUpPlan}
+use Rattle.model.specs.StartUp.{startUpStores, startUpPlan}
 use Rattle.model.specs.Answers.{storesOf}
 use Rattle.model.specs.Book.{startUp, planOf, ClearsOne, isRecord}
 use Rattle.model.proofs.Tests.{and-split}
@@ -41,11 +41,11 @@ use Rattle.plan.specs.declared.Planned.{Planned}
 use Rattle.plan.specs.Plan.{storesOfStep, expand}
 use Rattle.plan.specs.Planned.{accepted, Plans}
 use Rattle.plan.proofs.Parts.{undecided-plans}
-use Rattle.compaction.specs.Plans.{spareStep, workStep, compactPlan, resumePlan, restPlan}
+use Rattle.compaction.specs.Plans.{spareStep, workStep, rested, compactPlan, resumePlan, restPlan}
 use Rattle.compaction.proofs.Plans.{compact-is, resume-is}
-use Rattle.compaction.proofs.Startup.{rested, startUp-is, rest-is}
+use Rattle.compaction.proofs.Startup.{startUp-is, rest-is}
 use Rattle.compaction.proofs.Ready.{compact-ready, resume-ready, rest-ready, spare-good, work-good}
-use Rattle.tidy.proofs.Stages.{its-size, its-spare, last-within, resume-list}
+use Rattle.tidy.proofs.Stages.{its-size, last-within, resume-list}
 
 -- ---- what was found
 

@@ -1,21 +1,21 @@
 -- What was found in a clean region lies below its tail.
 -- Assumes nothing.
-use Prim.Native.Nat.{ℕ, _+_, _*_, _^_, _≤_, _<_}
+use Prim.Native.Nat.{ℕ, _+_, _≤_}
 use native.Mathlib.Omega.{arith}
 use mathlib.Core.Path.{_≡_, refl, sym, ap, _∙_, subst}
 use mathlib.Core.Bool.{true}
-use mathlib.Core.List.{List, [], _∷_, _++_}
+use mathlib.Core.List.{List}
 use mathlib.Core.Option.{Option, none, some}
 use lib.ListN.{length, length-append}
-use Rattle.model.specs.Lists.{first, allFF, part}
+use Rattle.model.specs.Lists.{first, allFF}
 use Rattle.model.specs.Name.{Key}
-use Rattle.model.specs.Image.{block, blocks, regionSize, rightLength, region}
+use Rattle.model.specs.Image.{rightLength, region}
 use Rattle.model.specs.Entry.{headerSize}
 use Rattle.model.specs.Walk.{Entry}
-use Rattle.model.specs.Region.{entries, tailAt, tail, sound, clean, isEntry, added, replacing}
+use Rattle.model.specs.Region.{entries, tail, sound, clean, isEntry, added, replacing}
 use Rattle.model.proofs.Tests.{and-split}
-use Rattle.model.proofs.Parts.{Image, right-parts, parts-region, parts-blocks}
-use Rattle.model.proofs.Chunks.{Made, made-entries, made-length, made-tailAt, region-chunked, spot}
+use Rattle.model.proofs.Parts.{Image, right-parts, parts-region}
+use Rattle.model.proofs.Chunks.{Made, made-entries, made-length, region-chunked, spot}
 use Rattle.model.proofs.Values.{found}
 use Rattle.values.specs.Found.{foundOf}
 use Rattle.values.specs.declared.Found.{Found}
@@ -39,24 +39,6 @@ module _ (img : List ℕ) (right : rightLength img ≡ true) (cleaned : clean (r
 
   its-region : region img ≡ whole .r
   its-region = ap region (whole .whole) ∙ parts-region (whole .parts)
-
-  image-long : length img ≡ length (region img) + (length (whole .w) + length (whole .s))
-  image-long = ap length (whole .whole) ∙ length-append (whole .r) (whole .w ++ whole .s) ∙ ap (λ (n : ℕ). length (whole .r) + n) (length-append (whole .w) (whole .s)) ∙ ap (λ (l : List ℕ). length l + (length (whole .w) + length (whole .s))) (sym its-region)
-
-  pub few-blocks : blocks img ≤ 7
-  few-blocks = let e = ap blocks (whole .whole) ∙ parts-blocks (whole .parts) in omega (arith, whole .parts .high)
-
-  -- the region as the code cuts it
-  pub cut-region : (b : ℕ) → blocks img ≡ b → part 0 (4096 * b) img ≡ region img
-  unfolding region regionSize block
-  cut-region b e = rw e
-
-  pub region-short : length (region img) < 2 ^ 62
-  unfolding block
-  region-short = let a = ap length its-region in omega (arith, whole .parts .region-long, whole .parts .high)
-
-  pub region-within : length (region img) ≤ length img
-  region-within = let l = image-long in omega arith
 
   -- what was found of a name lies below an offset that the region does
   pub places-below : (x y : Found) (k : Key) → x ≡ foundOf (added k (entries (region img))) → y ≡ foundOf (replacing k (entries (region img)))

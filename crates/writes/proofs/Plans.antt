@@ -1,6 +1,6 @@
 -- The plans' stores are those of the definitions: by the cases of what was found.
 -- Assumes nothing.
-use Prim.Native.Nat.{ℕ, _+_, _-_, _≤_}
+use Prim.Native.Nat.{ℕ, _+_, _-_}
 use native.Mathlib.Omega.{arith}
 use mathlib.Core.Path.{_≡_, refl, sym, ap, ap₂, _∙_}
 use mathlib.Core.List.{List, [], _∷_, _++_, append-assoc, append-nil}
@@ -11,10 +11,9 @@ use lib.Dec.{eqb}
 use borrow.Author.Tests.{eqb-true}
 use Rattle.model.specs.Lists.{part, first, onSome, orElse}
 use Rattle.model.specs.Name.{Key, sameKey}
-use Rattle.model.specs.Entry.{headerSize, stateAt, Value, keyOf, plainSize, entrySize, headerFront, headerRest, entryBytes}
+use Rattle.model.specs.Entry.{Value, keyOf, plainSize, entrySize, headerFront, headerRest, entryBytes}
 use Rattle.model.specs.Walk as walk
 use Rattle.model.specs.Region.{isEntry, added, replacing, standing}
-use Rattle.model.specs.Stores.{Store, run, mark}
 use Rattle.model.specs.Set.{markState, leftover, entryStores, tailTo, tailOn, deleteTo}
 use Rattle.model.proofs.Tests.{and-split}
 use Rattle.model.proofs.Values.{found}

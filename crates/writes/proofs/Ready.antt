@@ -1,10 +1,10 @@
 -- The plans lie within content and image, and their marks are at places of states: what the executor asks of them follows from what is shown of the lists of stores.
 -- Assumes nothing.
-use Prim.Native.Nat.{ℕ, _+_, _≤_, _<_}
+use Prim.Native.Nat.{ℕ, _+_, _≤_}
 use native.Mathlib.Omega.{arith}
 use mathlib.Core.Path.{_≡_, refl, sym, ap, _∙_, subst}
 use mathlib.Core.Bool.{Bool, true}
-use mathlib.Core.List.{List, [], _∷_, _++_}
+use mathlib.Core.List.{List, _++_}
 use mathlib.Core.Option.{Option, none, some}
 use lib.ListN.{length}
 use lib.Dec.{eqb}
@@ -12,7 +12,7 @@ use borrow.Author.Tests.{eq-eqb}
 use Rattle.model.specs.Lists.{first, any}
 use Rattle.model.specs.Name.{Key}
 use Rattle.model.specs.Image.{region}
-use Rattle.model.specs.Entry.{headerSize, stateAt, Value, keyOf}
+use Rattle.model.specs.Entry.{stateAt, Value, keyOf}
 use Rattle.model.specs.Walk as walk
 use Rattle.model.specs.Region.{entries, tailAt, isEntry, added, replacing}
 use Rattle.model.specs.Set.{tailTo, tailOn, deleteTo}
@@ -25,10 +25,10 @@ use Rattle.values.specs.declared.Found.the-variants.{At, Nothing}
 use Rattle.values.specs.declared.Places.{Places}
 use Rattle.plan.specs.declared.Step.{Step}
 use Rattle.plan.specs.declared.Step.the-variants as step
-use Rattle.plan.specs.Plan.{expand, Fits, Ready, MarkAt, AllMarks}
+use Rattle.plan.specs.Plan.{Fits, Ready, MarkAt}
 use Rattle.plan.proofs.Bits.{bits-clear}
 use Rattle.writes.specs.Plans.{onFound, Below, markFound, leftoverStep, removeStep, retireStep, deletePlan, tailPlan}
-use Rattle.writes.proofs.Plans.{standing-below, delete-is, Holds, tail-is}
+use Rattle.writes.proofs.Plans.{delete-is, Holds, tail-is}
 
 -- an operation that lies within, at a place of a state
 abbrev Good : ℕ → ℕ → (ℕ → Bool) → Step → Type 0

@@ -1,5 +1,4 @@
 -- `change::fold` meets its contract: what is composed is the region that the compaction is to leave. Assumes nothing.
-use native.Mathlib.Omega.{arith}
 use mathlib.Core.Path.{_≡_}
 use lib.ListN.{length}
 use denote.Ref.{now}

@@ -1,10 +1,6 @@
 -- `change::kept_data` meets its contract. Assumes nothing.
-use mathlib.Core.Path.{_≡_, sym, ap, _∙_}
-use mathlib.Core.Bool.{Bool, cond}
-use mathlib.Core.List.{List, []}
-use Prim.Native.Nat.{ℕ}
+use mathlib.Core.Path.{sym, ap, _∙_}
 use denote.Ref.{now}
-use Rattle.values.specs.declared.Found.{Found}
 use Rattle.compose.specs.Compose.{oldData}
 use borrow.Author.Needs.{needs}
 use Rattle.change.proofs.kept_data.Statement.{statement}

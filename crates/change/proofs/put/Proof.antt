@@ -1,5 +1,4 @@
 -- `change::put` meets its contract: the value stored is the one that the set puts. Assumes nothing.
-use mathlib.Core.Path.{_≡_, sym, _∙_}
 use Rattle.change.proofs.Ready.{asked-as, planned-as}
 use Rattle.change.proofs.Wanted.{value-kept}
 use borrow.Author.Needs.{needs}

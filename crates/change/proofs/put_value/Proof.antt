@@ -1,8 +1,8 @@
 -- `change::put_value` meets its contract: the rounded entry fits the tail, or the change is folded into a compaction. Assumes nothing.
 use Prim.Native.Nat.{ℕ, _+_, _*_, _/_, _≤_, _<_}
 use native.Mathlib.Omega.{arith}
-use mathlib.Core.Path.{_≡_, ap, subst}
-use lib.ListN.{length, length-append}
+use mathlib.Core.Path.{subst}
+use lib.ListN.{length-append}
 use denote.Ref.{now}
 use Rattle.change.proofs.Ready.{value-short}
 use Rattle.change.proofs.Tail.{size-is, fits, fits-not}

@@ -1,7 +1,7 @@
 -- `compose::put_value` meets its contract: what is read of the entry makes up its value, and none of it is longer than the region. Assumes nothing.
 use native.Mathlib.Omega.{arith}
-use mathlib.Core.Path.{ap, _∙_}
-use mathlib.Core.List.{List, append-nil}
+use mathlib.Core.Path.{_∙_}
+use mathlib.Core.List.{append-nil}
 use denote.Ref.{now}
 use Rattle.text.proofs.Writing.{wrote-as}
 use Rattle.compose.proofs.Carried.{entry-value, short}

@@ -1,7 +1,7 @@
 -- `flash::put_run` meets its contract: after j turns j bytes more are stored. Assumes nothing.
 use Prim.Native.Nat.{ℕ, _+_, _-_, _≤_}
 use native.Mathlib.Omega.{arith}
-use mathlib.Core.Path.{_≡_, refl, sym, ap, _∙_}
+use mathlib.Core.Path.{_≡_, refl, ap, _∙_}
 use lib.ListN.{length, getD, length-set}
 use denote.Ref.{now}
 use Rattle.model.specs.Stores.{apply}

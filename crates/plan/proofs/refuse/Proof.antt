@@ -1,5 +1,4 @@
 -- `plan::refuse` meets its contract. Assumes nothing.
-use mathlib.Core.Path.{refl}
 use borrow.Author.Needs.{needs}
 use Rattle.plan.specs.Planned.{refused}
 use Rattle.plan.proofs.refuse.Statement.{statement}

@@ -1,6 +1,6 @@
 -- `tidy::compose_all` meets its contract: what is composed is the region that the compaction stores. Assumes nothing.
 use native.Mathlib.Omega.{arith}
-use mathlib.Core.Path.{_≡_, ap, _∙_}
+use mathlib.Core.Path.{ap, _∙_}
 use lib.ListN.{length}
 use denote.Ref.{now}
 use Rattle.model.specs.Image.{block}

@@ -1,6 +1,6 @@
 -- `tidy::resume` meets its contract: the spare stands at the content's front, and from there on the stores are those of a compaction. Assumes nothing.
 use native.Mathlib.Omega.{arith}
-use Prim.Native.Nat.{ℕ, _≤_}
+use Prim.Native.Nat.{_≤_}
 use mathlib.Core.Bool.{true}
 use lib.ListN.{getD}
 use denote.Ref.{now}

@@ -1,5 +1,5 @@
 -- `tidy::spare_step` meets its contract: erased where it is not all FF. Assumes nothing.
-use mathlib.Core.Path.{_∙_, ap}
+use mathlib.Core.Path.{_∙_}
 use denote.Ref.{now}
 use Rattle.model.specs.Image.{block}
 use Rattle.compaction.specs.Plans.{spareStep}

@@ -1,16 +1,11 @@
 -- `tidy::tidy` meets its contract: the erases alone, or with a compaction behind them. Assumes nothing.
 use native.Mathlib.Omega.{arith}
-use Prim.Native.Nat.{ℕ, _≤_}
-use mathlib.Core.Path.{_≡_, sym, ap, ap₂, _∙_}
+use Prim.Native.Nat.{_≤_}
+use mathlib.Core.Path.{sym, _∙_}
 use mathlib.Core.Bool.{false}
 use lib.ListN.{getD}
 use denote.Ref.{now}
-use Rattle.model.specs.Image.{work}
-use Rattle.model.specs.Work.{usedRecords}
-use Rattle.plan.specs.declared.Step.{Step}
 use Rattle.plan.proofs.Bits.{bytes-of}
-use Rattle.compaction.specs.Plans.{restPlan, compactPlan}
-use Rattle.compaction.proofs.Startup.{rested}
 use Rattle.tidy.proofs.Starting.{accepts, sized, sounds, rest-plans, tidy-plans, rest-as, compact-as}
 use borrow.Author.Needs.{needs}
 use Rattle.tidy.proofs.tidy.Statement.{statement}

@@ -1,7 +1,6 @@
 -- `engine::write::known` meets its contract: the elements of a slice are bytes by their type. Assumes nothing.
-use Prim.Native.Nat.{ℕ, _≤_}
+use Prim.Native.Nat.{_≤_}
 use native.Mathlib.Omega.{arith}
-use mathlib.Core.Path.{refl}
 use lib.ListN.{getD}
 use denote.Ref.{now}
 use Rattle.plan.proofs.Bits.{bytes-of}

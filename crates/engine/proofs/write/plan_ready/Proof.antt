@@ -1,5 +1,4 @@
 -- `engine::write::plan_ready` meets its contract: the rule broken, nothing, a delete or a put, as it was decided. Assumes nothing.
-use denote.Ref.{now}
 use Rattle.plan.proofs.Parts.{refused-plans, nothing-plans}
 use Rattle.engine.proofs.Setting.{region-asked, set-refused, set-nothing, remove-asked, remove-plans, put-asked, put-plans}
 use borrow.Author.Needs.{needs}

@@ -1,8 +1,8 @@
 -- `engine::write::plan_set` meets its contract: rules 1 and 2 first, then the set over an image that is ready. Assumes nothing.
-use Prim.Native.Nat.{ℕ, _≤_}
+use Prim.Native.Nat.{_≤_}
 use native.Mathlib.Omega.{arith}
-use mathlib.Core.Path.{_≡_, sym, _∙_}
-use lib.ListN.{length, getD}
+use mathlib.Core.Path.{sym, _∙_}
+use lib.ListN.{getD}
 use denote.Ref.{now}
 use Rattle.image.proofs.Ready.{is-ready}
 use Rattle.plan.proofs.Bits.{bytes-of}
