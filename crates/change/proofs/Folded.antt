@@ -30,9 +30,9 @@ use Rattle.plan.specs.declared.Planned.{Planned}
 use Rattle.plan.specs.Plan.{storesOfStep}
 use Rattle.plan.specs.Planned.{accepted}
 use Rattle.plan.proofs.Parts.{accepted-as, accepted-ready}
-use Rattle.compaction.specs.Plans.{compactPlan}
-use Rattle.compaction.proofs.Plans.{compact-to, compact-on}
-use Rattle.compaction.proofs.Ready.{compact-ready}
+use Rattle.orders.specs.Compactions.{compactPlan}
+use Rattle.orders.proofs.CompactionPlans.{compact-to, compact-on}
+use Rattle.orders.proofs.CompactionReady.{compact-ready}
 use Rattle.change.specs.Asked.{Asked, PutPlanned}
 use Rattle.change.proofs.Ready.{image-long, region-size, value-short}
 

@@ -23,10 +23,10 @@ use Rattle.plan.specs.declared.Op.{Op}
 use Rattle.plan.specs.declared.Planned.{Planned}
 use Rattle.plan.specs.Planned.{accepted}
 use Rattle.plan.proofs.Parts.{accepted-as, accepted-ready}
-use Rattle.writes.specs.Plans.{Below, tailPlan}
-use Rattle.writes.proofs.Plans.{Holds, tail-to, tail-on, entry-holds}
-use Rattle.writes.proofs.Ready.{tail-ready}
-use Rattle.writes.proofs.Found.{places-below}
+use Rattle.orders.specs.Entries.{Below, tailPlan}
+use Rattle.orders.proofs.EntryPlans.{Holds, tail-to, tail-on, entry-holds}
+use Rattle.orders.proofs.EntryReady.{tail-ready}
+use Rattle.orders.proofs.Found.{places-below}
 use Rattle.change.specs.Asked.{Asked, PutPlanned}
 use Rattle.change.proofs.Ready.{image-long, ready-clean}
 

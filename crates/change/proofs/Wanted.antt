@@ -22,7 +22,7 @@ use Rattle.values.specs.declared.Places.{Places}
 use Rattle.values.specs.Found.{foundOf, elseFound}
 use Rattle.values.proofs.Stands.{standing-stands, nothing-first}
 use Rattle.compose.specs.Compose.{oldData}
-use Rattle.writes.proofs.Plans.{standing-is}
+use Rattle.orders.proofs.EntryPlans.{standing-is}
 use Rattle.policy.specs.Rules.{rule8Of}
 use Rattle.policy.specs.Descriptor.{properOf, stampOf}
 use Rattle.policy.proofs.Plain.{rule8-plain, proper-plain, stamp-plain}

@@ -89,9 +89,9 @@ fn fold(
         own,
     );
     compose::put_blank(content, n, 4096 * b - n);
-    let used = compaction::used_records(image, b);
+    let used = orders::compaction::used_records(image, b);
     plan::accept(
-        compaction::compact(Step::Nothing, Step::Nothing, b, used),
+        orders::compaction::compact(Step::Nothing, Step::Nothing, b, used),
         5,
     )
 }
@@ -116,7 +116,7 @@ fn in_tail(
     let places = standing.places;
     compose::put_entry(content, 0, attributes, stamp, name, vendor, old, own);
     plan::accept(
-        writes::tail_write(places, standing.tail, name.len(), old.len() + own.len()),
+        orders::entries::tail_write(places, standing.tail, name.len(), old.len() + own.len()),
         6,
     )
 }

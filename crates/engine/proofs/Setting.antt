@@ -35,10 +35,10 @@ use Rattle.plan.specs.declared.Op.{Op}
 use Rattle.plan.specs.declared.Planned.{Planned}
 use Rattle.plan.specs.Planned.{accepted, Kept, Plans}
 use Rattle.plan.proofs.Parts.{accepted-plans, either-kept}
-use Rattle.writes.specs.Plans.{Below, deletePlan}
-use Rattle.writes.proofs.Plans.{delete-to, delete-on}
-use Rattle.writes.proofs.Ready.{delete-ready}
-use Rattle.writes.proofs.Found.{places-below}
+use Rattle.orders.specs.Entries.{Below, deletePlan}
+use Rattle.orders.proofs.EntryPlans.{delete-to, delete-on}
+use Rattle.orders.proofs.EntryReady.{delete-ready}
+use Rattle.orders.proofs.Found.{places-below}
 use Rattle.change.specs.Asked.{valueToPut, Asked, PutPlanned}
 use Rattle.change.proofs.Ready.{image-long, region-size, ready-clean}
 use Rattle.decision.specs.declared.Decision.{Decision}

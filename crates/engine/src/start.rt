@@ -17,8 +17,8 @@ pub fn plan_start_up(image: &[u8], content: &mut [u8; 28672]) -> Planned
 {
     let found = image::check_start(image);
     match found {
-        Start::Pending(b) => tidy::resume(image, b, content),
-        Start::Sound(b) => tidy::tidy(image, b, content),
+        Start::Pending(b) => startup::resume(image, b, content),
+        Start::Sound(b) => startup::tidy(image, b, content),
         Start::Refused(rule) => plan::refuse(rule),
     }
 }

@@ -66,7 +66,7 @@ fn plan_ready(
     match what {
         Decision::Broken(rule) => plan::refuse(rule),
         Decision::Nothing => plan::accept(plan::nothing(), 12),
-        Decision::Remove => plan::accept(writes::delete(places), 1),
+        Decision::Remove => plan::accept(orders::entries::delete(places), 1),
         Decision::Put => change::put(
             image,
             Standing { b, tail, places },

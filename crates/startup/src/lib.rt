@@ -1,0 +1,111 @@
+// The plan of a start-up: "if pending, resume at the erase of the region. Then erase the spare's blocks if it is not all FF, the work block if it is not well
+// formed or ends in FC, and compact with no change if the tail is not all FF." The erases leave alone what is looked at later, so all of it is planned from the image found.
+ghost use mathlib.Core.Path.{_≡_};
+ghost use mathlib.Core.Bool.{true};
+ghost use Prim.Native.Nat.{_+_, _*_, _≤_};
+ghost use lib.ListN.{length};
+ghost use Rattle.model.specs.Lists.{allFF, part};
+ghost use Rattle.model.specs.Image.{block, region, work, spare};
+ghost use Rattle.model.specs.Region.{sound, tail, entries, values};
+ghost use Rattle.model.specs.Work.{idle, usedRecords};
+ghost use Rattle.model.specs.Compact.{encode};
+ghost use Rattle.model.specs.StartUp.{startUpPlan};
+ghost use Rattle.records.specs.Look.{lookAt};
+ghost use Rattle.image.specs.Check.{startUpOf};
+ghost use Rattle.image.specs.declared.Start.the-variants.{Pending, Sound};
+ghost use Rattle.plan.specs.Planned.{Plans};
+ghost use Rattle.orders.specs.Compactions.{spareStep, workStep, rested};
+use plan::Planned;
+use plan::Step;
+use records::Look;
+
+// A look at the work block.
+fn look(image: &[u8], b: usize) -> Look
+    requires { ⌜ b ≤ 7 ⌝ }
+    ensures { λ r. ⌜ r ≡ lookAt (part (block * b) block (now (image .entry))) ⌝ }
+{
+    records::look_at(slices::cut(image, 4096 * b, 4096))
+}
+
+// "if pending, resume at the erase of the region": the record is the last used one. What the spare holds is copied to the content, and stored from there.
+pub fn resume(image: &[u8], b: usize, content: &mut [u8]) -> Planned
+    requires { ⌜ (startUpOf (now image) ≡ Pending b) × (length (now content) ≡ 28672) ⌝ }
+    ensures { λ r. ⌜ Plans (startUpPlan (now (image .entry))) (now (image .entry)) (now (content .entry)) (now (content .exit)) r ⌝ }
+{
+    let l = look(image, b);
+    text::put_bytes(content, 0, slices::cut(image, 4096 * b + 4096, 4096 * b));
+    plan::accept(orders::compaction::resume(b, l.used - 1), 12)
+}
+
+// "erase the spare's blocks if it is not all FF": all of them, in rising order.
+fn spare_step(image: &[u8], b: usize) -> Step
+    requires { ⌜ (1 ≤ b) × (b ≤ 7) × (length (now image) ≡ block * (2 * b + 1)) ⌝ }
+    ensures { λ r. ⌜ r ≡ spareStep b (allFF (spare (now (image .entry)))) ⌝ }
+{
+    let size = 4096 * b;
+    if slices::is_blank(slices::cut(image, size + 4096, size)) {
+        return Step::Nothing;
+    }
+    Step::Erase(b + 1, b)
+}
+
+// "the work block if it is not well formed or ends in FC".
+fn work_step(image: &[u8], b: usize) -> Step
+    requires { ⌜ (1 ≤ b) × (b ≤ 7) × (length (now image) ≡ block * (2 * b + 1)) ⌝ }
+    ensures { λ r. ⌜ r ≡ workStep b (idle (work (now (image .entry)))) ⌝ }
+{
+    if records::is_idle(look(image, b)) {
+        return Step::Nothing;
+    }
+    Step::Erase(b, 1)
+}
+
+// How many records are used then.
+fn used_left(image: &[u8], b: usize) -> usize
+    requires { ⌜ (1 ≤ b) × (b ≤ 7) × (length (now image) ≡ block * (2 * b + 1)) ⌝ }
+    ensures { λ r. ⌜ r ≡ usedRecords (rested (work (now (image .entry)))) ⌝ }
+{
+    let l = look(image, b);
+    if records::is_idle(l) {
+        return l.used;
+    }
+    0
+}
+
+// Whether the region's tail is all FF.
+fn tail_is_blank(image: &[u8], b: usize) -> bool
+    requires { ⌜ (1 ≤ b) × (b ≤ 7) × (length (now image) ≡ block * (2 * b + 1)) ⌝ }
+    ensures { λ r. ⌜ r ≡ allFF (tail (region (now (image .entry)))) ⌝ }
+{
+    let size = 4096 * b;
+    let region = slices::cut(image, 0, size);
+    let at = region::walk::tail_at(region);
+    slices::is_blank(slices::cut(region, at, size))
+}
+
+// The region after a compaction with no change: all values are carried over, "rest FF".
+fn compose_all(image: &[u8], b: usize, content: &mut [u8])
+    requires { ⌜ ((1 ≤ b) × (b ≤ 7) × (length (now image) ≡ block * (2 * b + 1)))
+        × (sound (region (now image)) ≡ true)
+        × (length (now content) ≡ 28672) ⌝ }
+    ensures { λ _. ⌜ part 0 (block * b) (now (content .exit)) ≡ encode (block * b) (values (entries (region (now (image .entry))))) ⌝ }
+{
+    let region = slices::cut(image, 0, 4096 * b);
+    let n = compose::put_values(content, region, &region[..0], &region[..0]);
+    compose::put_blank(content, n, 4096 * b - n);
+}
+
+// "Then erase the spare's blocks .., the work block .., and compact with no change if the tail is not all FF."
+pub fn tidy(image: &[u8], b: usize, content: &mut [u8]) -> Planned
+    requires { ⌜ (startUpOf (now image) ≡ Sound b) × (length (now content) ≡ 28672) ⌝ }
+    ensures { λ r. ⌜ Plans (startUpPlan (now (image .entry))) (now (image .entry)) (now (content .entry)) (now (content .exit)) r ⌝ }
+{
+    let spare = spare_step(image, b);
+    let work = work_step(image, b);
+    if tail_is_blank(image, b) {
+        return plan::accept(orders::compaction::rest(spare, work), 12);
+    }
+    compose_all(image, b, content);
+    let used = used_left(image, b);
+    plan::accept(orders::compaction::compact(spare, work, b, used), 12)
+}
