@@ -11,3 +11,5 @@ pub mod Table
 pub mod Readings
 -- Calls that make no stores, and formatting
 pub mod Replies
+-- Runs that refute a claim
+pub mod Runs
