@@ -5,11 +5,11 @@ pub mod Evaluated
 pub mod Pieces
 -- A row of a table of cases, and what the rows are made of
 pub mod Row
+-- Images of runs, by pieces; runs that refute a claim
+pub mod Runs
 -- The cases with a star of "Values to try": one table, one theorem
 pub mod Table
 -- Cases beyond those with a star
 pub mod Readings
 -- Calls that make no stores, and formatting
 pub mod Replies
--- Runs that refute a claim
-pub mod Runs

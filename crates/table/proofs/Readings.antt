@@ -4,17 +4,12 @@
 use Prim.Native.Nat.{ℕ}
 use mathlib.Core.Path.{_≡_, refl, ap, _∙_}
 use mathlib.Core.List.{List, [], _∷_, _++_, append-nil}
-use mathlib.Core.Option.{none}
-use lib.ListN.{length, replicate}
-use lib.Dec.{T}
-use Rattle.model.specs.Lists.{onSome}
-use Rattle.model.specs.Rules.{startUpBroken}
-use Rattle.model.specs.Stores.{applyAll}
-use Rattle.model.specs.Set.{refuse, make}
-use Rattle.model.specs.StartUp.{resume, tidySpare, tidyWork, tidyTail, andThen, startUpStores, startUpPlan}
+use lib.ListN.{replicate}
+use Rattle.model.specs.Set.{make}
 use Rattle.model.specs.Answers.{done, outcome, storesOf}
 use Rattle.model.specs.Book.{Call, set, startUp, planOf}
-use Rattle.table.proofs.Pieces.{Piece, store, clear, flat, laidAll, allInside, flat-laid}
+use Rattle.table.proofs.Pieces.{store, clear, flat}
+use Rattle.table.proofs.Runs.{resumption}
 use Rattle.table.proofs.Row.{Row, Holds, HoldAll, end, _and_, held, computed, refuses, unlimited, ff, zeros, header, headerOf, image, guid, rate, four, behindState, startId, rateHeader, rateEntry, setting, rateStands}
 
 -- ---- a 3E entry alone is the value: 76 stores to replace it, 3E becomes 3C to delete it, an equal set stores nothing
@@ -318,21 +313,6 @@ unfolding computed
 gapErased-holds = held gapErased refl refl tt tt refl refl
 
 -- ---- pending: a start-up resumes at the erase of the region, whatever that holds: b + L + 1 + b stores
-
--- what follows a resumption is judged on the image that it leaves, found by laying its pieces over the image before
-resumption : (img : List ℕ) (ps : List Piece)
-    → startUpBroken img ≡ none
-    → resume img ≡ flat ps
-    → T (allInside (length img) ps)
-    → andThen tidySpare (andThen tidyWork tidyTail) (laidAll ps img) ≡ []
-    → planOf (startUp 0 0) img ≡ make [] (flat ps ++ [])
-unfolding planOf startUpPlan startUpStores
-resumption img ps sound stores inside none-more =
-    let tidy = andThen tidySpare (andThen tidyWork tidyTail) in
-    let then : tidy (applyAll (resume img) img) ≡ [] = ap (λ ss. tidy (applyAll ss img)) stores ∙ ap tidy (flat-laid ps img inside) ∙ none-more in
-    ap (λ o. onSome o refuse (make [] (startUpStores img))) sound
-    ∙ ap (λ ss. make [] (resume img ++ ss)) then
-    ∙ ap (λ ss. make [] (ss ++ [])) stores
 
 abbrev resumed : Row
 resumed = record {

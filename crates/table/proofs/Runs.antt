@@ -1,19 +1,28 @@
 -- What refutes a claim about runs: an image of the cases that a start-up leaves as it is, a call on it cut after so many whole stores, and what the next start-up
 -- finds. Under the definitions as they stand the claims hold, so no image and no call meets what is asked here; under an edited definition one may.
 -- Assumes nothing.
-use Prim.Native.Nat.{ℕ}
-use mathlib.Core.Path.{_≡_, refl, sym, _∙_}
+use Prim.Native.Nat.{ℕ, _-_}
+use native.Mathlib.Omega.{arith}
+use mathlib.Core.Path.{_≡_, refl, sym, ap, _∙_}
 use mathlib.Core.Logic.{inl}
 use mathlib.Core.Bool.{Bool, true, false, _&&_}
-use mathlib.Core.List.{List, [], _∷_}
+use mathlib.Core.List.{List, [], _∷_, _++_, append-nil}
+use mathlib.Core.Option.{none}
+use lib.ListN.{length, replicate}
 use lib.Dec.{T, ltb, ltb→lt}
-use Rattle.model.specs.Lists.{all}
+use borrow.Author.Tests.{le-leb}
+use Rattle.model.specs.Lists.{all, onSome}
 use Rattle.model.specs.Entry.{Value}
 use Rattle.model.specs.Region.{valuesOf}
-use Rattle.model.specs.Stores.{Bytes, applyAll, after}
-use Rattle.model.specs.StartUp.{startUpPlan}
+use Rattle.model.specs.Stores.{Store, Bytes, applyAll, after}
+use Rattle.model.specs.Rules.{startUpBroken}
+use Rattle.model.specs.Set.{Plan, refuse, make}
+use Rattle.model.specs.StartUp.{resume, tidySpare, tidyWork, tidyTail, andThen, startUpStores, startUpPlan}
 use Rattle.model.specs.Answers.{done, outcome, imageAfter, storesOf, decided}
 use Rattle.model.specs.Book.{Call, startUp, planOf, Sized, bookAfter, Run, begin, ran, cut, StartedUp, Demand3}
+use Rattle.model.proofs.Stores.{after-all, after-append}
+use Rattle.table.proofs.Pieces.{Piece, flat, laidAll, allInside, flat-laid}
+use Rattle.table.proofs.Row.{ff, zeros, header, image, guid, rateEntry, behindState, startId, setting}
 
 abbrev isByte : ℕ → Bool
 isByte b = ltb b 256
@@ -42,13 +51,95 @@ module _ (img : List ℕ) (c : Call) (sized : Sized c) (k : ℕ) where
   pub torn-run : Run img torn book
   torn-run = cut begin c sized k (inl refl)
 
-  -- a start-up that is done and leaves other values than the book's
-  pub lost : StartedUp img
-      → (n stores : ℕ)
-      → outcome n (startUpPlan torn) ≡ done stores
-      → (valuesOf (imageAfter n (startUpPlan torn) torn) ≡ book → ⊥)
-      → Demand3
-      → ⊥
-  lost started n stores finished other demand =
-      let run = ran torn-run (startUp 0 0) tt n in
-      other (demand img _ _ started run .1 stores finished)
+-- the same image by the pieces that its stores are, where there are too many to make one by one
+pub laid-after : (img : List ℕ) (ss : List Store) (ps : List Piece) (rest : List Store)
+    → ss ≡ flat ps ++ rest
+    → T (allInside (length img) ps)
+    → after (length (flat ps)) ss img ≡ laidAll ps img
+unfolding after applyAll
+laid-after img ss ps rest e inside =
+    ap (λ (l : List Store). after (length (flat ps)) l img) e
+    ∙ after-append (length (flat ps)) (flat ps) rest img
+    ∙ ap (λ (n : ℕ). after n rest (after (length (flat ps)) (flat ps) img)) (self-less (length (flat ps)))
+    ∙ after-all (length (flat ps)) (flat ps) img (omega arith)
+    ∙ flat-laid ps img inside
+  where
+    self-less : (n : ℕ) → n - n ≡ 0
+    self-less n = omega arith
+
+-- a start-up of a run that is done and leaves other values than the book's
+pub lost : {start img : List ℕ}
+    {book : List Value}
+    → StartedUp start
+    → Run start img book
+    → (n stores : ℕ)
+    → outcome n (startUpPlan img) ≡ done stores
+    → (left : List ℕ)
+    → imageAfter n (startUpPlan img) img ≡ left
+    → (valuesOf left ≡ book → ⊥)
+    → Demand3
+    → ⊥
+lost started run n stores finished left same other demand =
+    other (ap valuesOf (sym same) ∙ demand _ _ _ started (ran run (startUp 0 0) tt n) .1 stores finished)
+
+-- what follows a resumption is judged on the image that it leaves, found by laying its pieces over the image before
+pub resumption : (img : List ℕ) (ps : List Piece)
+    → startUpBroken img ≡ none
+    → resume img ≡ flat ps
+    → T (allInside (length img) ps)
+    → andThen tidySpare (andThen tidyWork tidyTail) (laidAll ps img) ≡ []
+    → startUpPlan img ≡ make [] (flat ps ++ [])
+unfolding startUpPlan startUpStores
+resumption img ps sound stores inside none-more =
+    let tidy = andThen tidySpare (andThen tidyWork tidyTail) in
+    let then : tidy (applyAll (resume img) img) ≡ [] = ap (λ ss. tidy (applyAll ss img)) stores ∙ ap tidy (flat-laid ps img inside) ∙ none-more in
+    ap (λ o. onSome o refuse (make [] (startUpStores img))) sound
+    ∙ ap (λ ss. make [] (resume img ++ ss)) then
+    ∙ ap (λ ss. make [] (ss ++ [])) stores
+
+-- where the start-up's stores are pieces too
+pub lost-laid : {start img : List ℕ}
+    {book : List Value}
+    → StartedUp start
+    → Run start img book
+    → (ps : List Piece)
+    → startUpPlan img ≡ make [] (flat ps ++ [])
+    → T (allInside (length img) ps)
+    → (valuesOf (laidAll ps img) ≡ book → ⊥)
+    → Demand3
+    → ⊥
+unfolding outcome imageAfter storesOf
+lost-laid {img = img} started run ps plan inside other =
+    let n = length (flat ps ++ []) in
+    lost
+    started
+    run
+    n
+    n
+    (ap (outcome n) plan ∙ rw (le-leb n n (omega arith)))
+    (laidAll ps img)
+    (ap (λ (p : Plan). imageAfter n p img) plan
+    ∙ after-all n (flat ps ++ []) img (omega arith)
+    ∙ ap (λ (ss : List Store). applyAll ss img) (append-nil (flat ps))
+    ∙ flat-laid ps img inside)
+    other
+
+-- ---- RATE, and behind it a value of 2,048 bytes: for another one of as many the tail is too short, so that it is set with a compaction
+
+abbrev pub large : List ℕ
+large = 0x41 ∷ 0x00 ∷ 0x00 ∷ 0x00 ∷ []
+
+abbrev pub largeEntry : ℕ → List ℕ
+largeEntry b = startId ++ (0x3F ∷ []) ++ behindState 0x07 (zeros 16) 0x04 0x00 0x00 0x08 guid ++ large ++ replicate 2048 b
+
+abbrev pub regionOf : ℕ → List ℕ
+regionOf b = header ++ rateEntry 0x3F 0x64 ++ largeEntry b ++ ff 1880
+
+abbrev pub half : List ℕ
+half = image (regionOf 0x11)
+
+abbrev pub replacing : Call
+replacing = setting large 0x07 (replicate 2048 0x22)
+
+pub replacing-sized : Sized replacing
+replacing-sized = (bytes large tt, bytes guid tt, refl, bytes (replicate 2048 0x22) tt)
