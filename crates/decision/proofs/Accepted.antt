@@ -116,12 +116,12 @@ module _ (s : Session) (q : Request) (size : ℕ) (vs : List Value) where
   pub put-small : decisionOf s q size vs ≡ Put → length (new .bytes) ≤ maxData
   unfolding requestRules standingRules resultRules rule12
   put-small h =
-      let t : rule12 q vs ≡ false = unbroken _ 9 (unbroken-rules Put refl h .0) in
+      let t : rule12 q vs ≡ false = unbroken _ 12 (unbroken-rules Put refl h .0) in
       ltb-false maxData (length (new .bytes)) (rw (put-change h) at t)
 
   -- beside the reserve
   pub put-fits : decisionOf s q size vs ≡ Put → spaceOf (step (put new) vs) + reserved s ≤ size
   unfolding requestRules standingRules resultRules roomRules rule13
   put-fits h =
-      let t : rule13 s q size vs ≡ false = unbroken _ 10 (unbroken-rules Put refl h .0) in
+      let t : rule13 s q size vs ≡ false = unbroken _ 13 (unbroken-rules Put refl h .0) in
       ltb-false size (spaceOf (step (put new) vs) + reserved s) (rw (put-change h) at t)

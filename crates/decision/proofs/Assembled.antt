@@ -21,7 +21,7 @@ use Rattle.model.specs.Session.{atRuntime, reserved}
 use Rattle.model.specs.Request.{Request, requestKey, appends, keyPK, wantedVerdicts, dataProper, stampToStore, later}
 use Rattle.model.specs.Change.{nothing, remove, put, deletes, emptyAppend, equalTo, newData, newValue, changeOf, changeIn, step, spaceOf}
 use Rattle.model.specs.Rules.{firstBroken, rule3, rule4, rule5, rule6, rule7Over, rule7, rule8, verdictWanted, rule9, rule10, rule11, rule12, rule13, removesAbsent, onPut, requestRules, standingRules, resultRules, roomRules}
-use Rattle.model.proofs.Requests.{broken-append}
+use Rattle.model.proofs.Requests.{broken-append, unbroken}
 use Rattle.model.proofs.Chunks.{sound-parts}
 use Rattle.model.proofs.Encode as encode
 use Rattle.region.specs.Walk.{entryAt, stampAt}
@@ -37,7 +37,7 @@ use Rattle.decision.specs.declared.Decision.{Decision}
 use Rattle.decision.specs.declared.Decision.the-variants.{Broken, Nothing, Remove, Put}
 use Rattle.decision.specs.Decision.{requestOf, kindOf, decided, decisionOf}
 use Rattle.decision.specs.Parts.{onFound, valueAt, stands, standingBy, notLater, verdictBy, equalBy, kindBy, newSize, oldSpace, roomBy, resultBy, outcomeBy}
-use Rattle.decision.proofs.Broken.{fourth-broken}
+use Rattle.decision.proofs.Broken.{later-broken}
 use Rattle.decision.proofs.Old.{stands-some, old-value, mode-standing, stamp-read}
 use Rattle.decision.proofs.Space.{sizeOf, put-space, room-shift}
 
@@ -143,8 +143,8 @@ module _ (s : Session) (q : Request) (r : List ℕ) (sounds : sound r ≡ true) 
       let nine : rule9 s q vs ≡ rule9Of wanted (q .verdict) = rule9-plain s q vs ∙ ap (λ (w : List ℕ). rule9Of w (q .verdict)) wanted-here in
       let ten : rule8 q ≡ false → rule10 s q vs ≡ (not (isEmpty wanted) && notLater r old (stampOf (q .attributes) (q .bytes))) =
       (λ k. ap₂ (λ (w : List ℕ) (t : Bool). not (isEmpty w) && t) wanted-here (later-here k)) in
-      fourth-broken Standing Descriptor Verdict Stamp (rule7 s q vs) (rule8 q) (rule9 s q vs) (rule10 s q vs)
-      (not (isEmpty wanted) && notLater r old (stampOf (q .attributes) (q .bytes))) ten
+      later-broken ((Standing, rule7 s q vs) ∷ (Descriptor, rule8 q) ∷ (Verdict, rule9 s q vs) ∷ []) Stamp (rule10 s q vs)
+      (not (isEmpty wanted) && notLater r old (stampOf (q .attributes) (q .bytes))) (λ k. ten (unbroken _ 8 k))
       ∙ rw (seven, rule8-plain q, nine)
 
   -- rules 11 to 13, and the change

@@ -2,8 +2,8 @@
 -- Assumes nothing.
 use Prim.Native.Nat.{ℕ}
 use native.Mathlib.Omega.{arith}
-use mathlib.Core.Path.{_≡_, refl, ap, _∙_}
-use mathlib.Core.Bool.{Bool, true, false}
+use mathlib.Core.Path.{_≡_, refl, sym, ap, _∙_}
+use mathlib.Core.Bool.{Bool}
 use mathlib.Core.List.{List, [], _∷_, _++_}
 use mathlib.Core.Option.{Option, none, some}
 use Rattle.model.specs.declared.Rule.{Rule}
@@ -13,14 +13,15 @@ use Rattle.model.proofs.Requests.{broken-append}
 use Rattle.decision.specs.declared.Judged.the-variants.{Kept, Breaks}
 use Rattle.decision.specs.Parts.{judgedOf}
 
--- a later rule counts only where an earlier one is kept
-pub fourth-broken : (p q x y : Rule) (a b c d e : Bool) → (b ≡ false → d ≡ e)
-    → firstBroken ((p, a) ∷ (q, b) ∷ (x, c) ∷ (y, d) ∷ []) ≡ firstBroken ((p, a) ∷ (q, b) ∷ (x, c) ∷ (y, e) ∷ [])
-unfolding firstBroken
-fourth-broken p q x y true b c d e h = refl
-fourth-broken p q x y false true c d e h = refl
-fourth-broken p q x y false false true d e h = refl
-fourth-broken p q x y false false false d e h = rw (h refl)
+-- a later rule counts only where every earlier one is kept
+pub later-broken : (xs : List (Rule × Bool)) (rule : Rule) (d e : Bool) → (firstBroken xs ≡ none → d ≡ e)
+    → firstBroken (xs ++ ((rule, d) ∷ [])) ≡ firstBroken (xs ++ ((rule, e) ∷ []))
+later-broken xs rule d e h =
+    broken-append xs ((rule, d) ∷ []) ∙ go (firstBroken xs) h ∙ sym (broken-append xs ((rule, e) ∷ []))
+  where
+    go : (o : Option Rule) → (o ≡ none → d ≡ e) → orElse o (firstBroken ((rule, d) ∷ [])) ≡ orElse o (firstBroken ((rule, e) ∷ []))
+    go (some x) h = refl
+    go none h = rw (h refl)
 
 -- ---- rules that were judged
 

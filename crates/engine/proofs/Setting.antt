@@ -154,7 +154,7 @@ module _ (s : Session) (name vendor : List ℕ) (a : ℕ) (bytes : List ℕ) (pr
   put-asked h =
       let v = valueToPut img name vendor a bytes in
       let accepted : setBroken s q img ≡ none = broken ∙ ap brokenOf h in
-      let k : rule8 q ≡ false = unbroken _ 7 accepted in (
+      let k : rule8 q ≡ false = unbroken _ 8 accepted in (
         record {
           ready = ready;
           added = found-added;

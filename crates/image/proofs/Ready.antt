@@ -64,8 +64,8 @@ is-ready img b t p = go (firstBroken (imageRules img)) refl p
     go none q p =
         let n : blocks img ≡ b = cc in
         let e : tailAt (region img) ≡ t = cc in
-        let right : rightLength img ≡ true = not-false (rightLength img) (unbroken (imageRules img) 0 q) in
-        let ready : readyForCall img ≡ true = not-false (readyForCall img) (unbroken (imageRules img) 1 q) in
+        let right : rightLength img ≡ true = not-false (rightLength img) (unbroken (imageRules img) 1 q) in
+        let ready : readyForCall img ≡ true = not-false (readyForCall img) (unbroken (imageRules img) 2 q) in
         let l = region-long img right in
         let w = sound-tail (region img) (omega (arith, l .1)) (ready-sound img ready) in
         record {

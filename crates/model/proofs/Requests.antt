@@ -2,7 +2,7 @@
 -- to delete is there. A list of rules of which none is broken has every test false, and each fact is read off the tests that deny it; that a change
 -- puts a value says besides that the set neither deletes nor appends nothing.
 -- Assumes nothing.
-use Prim.Native.Nat.{ℕ, zero, suc, _+_, _-_, _/_, _%_, _≤_}
+use Prim.Native.Nat.{ℕ, _+_, _-_, _/_, _%_, _≤_}
 use native.Mathlib.Omega.{arith}
 use mathlib.Core.Path.{_≡_, refl, ap}
 use mathlib.Core.Bool.{Bool, true, false, cond, not, _&&_, _||_, and-false, true≢false, false≢true}
@@ -23,6 +23,7 @@ use Rattle.model.specs.Session.{reserved}
 use Rattle.model.specs.Request.{Request, requestKey, stampSize, timeBased, appends, withoutAppend, dataProper, stampToStore, properAt, rightDescriptor}
 use Rattle.model.specs.Change.{nothing, remove, put, deletes, emptyAppend, equalTo, newData, newValue, changeOf, changeIn, step, spaceOf}
 use Rattle.model.specs.Rules.{firstBroken, rule1, rule2, rule2StartUp, rule3, rule4, rule8, rule11, rule12, rule13, imageRules, requestRules, standingRules, resultRules, roomRules, removesAbsent, setBroken, getBroken, nextBroken, startUpBroken}
+use Rattle.model.specs.Answers.{ruleNumber}
 use Rattle.model.specs.Beside.{Valid}
 use Rattle.model.proofs.Tests.{or-split}
 
@@ -56,16 +57,18 @@ broken-append (x ∷ xs) ys = go (x .1) (broken-append xs ys)
     go true i = refl
     go false i = i
 
--- the test at a place of a list, counted from 0: in a set's list, rule n stands at n - 1
+-- the test of a rule, by its number
 abbrev pub test : List (Rule × Bool) → ℕ → Bool
 test [] n = false
-test (x ∷ xs) zero = x .1
-test (x ∷ xs) (suc n) = test xs n
+test (x ∷ xs) n = cond (eqb (ruleNumber (x .0)) n) (x .1) (test xs n)
 
 pub unbroken : (xs : List (Rule × Bool)) (n : ℕ) → firstBroken xs ≡ none → test xs n ≡ false
 unbroken [] n h = refl
-unbroken (x ∷ xs) zero h = none-cons x xs h .0
-unbroken (x ∷ xs) (suc n) h = unbroken xs n (none-cons x xs h .1)
+unbroken (x ∷ xs) n h = go (eqb (ruleNumber (x .0)) n) (none-cons x xs h .0) (unbroken xs n (none-cons x xs h .1))
+  where
+    go : (t : Bool) → x .1 ≡ false → test xs n ≡ false → cond t (x .1) (test xs n) ≡ false
+    go true here rest = here
+    go false here rest = rest
 
 -- ---- what a change that puts says of the set
 
@@ -146,11 +149,11 @@ stamp-length r h = go (timeBased (r .attributes)) (rightDescriptor (r .bytes)) r
 module _ (s : Session) (r : Request) (img : List ℕ) (accepted : setBroken s r img ≡ none) where
   pub set-length : rightLength img ≡ true
   unfolding setBroken imageRules rule1
-  set-length = not-false (rightLength img) (unbroken _ 0 accepted)
+  set-length = not-false (rightLength img) (unbroken _ 1 accepted)
 
   pub set-ready : readyForCall img ≡ true
   unfolding setBroken imageRules rule2
-  set-ready = not-false (readyForCall img) (unbroken _ 1 accepted)
+  set-ready = not-false (readyForCall img) (unbroken _ 2 accepted)
 
   pub put-key : (v : Value) → changeIn r (valuesOf img) ≡ put v → keyOf v ≡ requestKey r
   unfolding changeIn newValue
@@ -160,10 +163,10 @@ module _ (s : Session) (r : Request) (img : List ℕ) (accepted : setBroken s r 
   unfolding setBroken imageRules requestRules standingRules resultRules rule3 rule12 changeIn newValue
   put-is-valid v c g =
       let p = puts r (find (requestKey r) (valuesOf img)) v c in
-      let n : rule3 (requestKey r) ≡ false = unbroken _ 2 accepted in
-      let q : rule4 s r ≡ false = unbroken _ 3 accepted in
-      let d : rule8 r ≡ false = unbroken _ 7 accepted in
-      let h : rule12 r (valuesOf img) ≡ false = unbroken _ 11 accepted in
+      let n : rule3 (requestKey r) ≡ false = unbroken _ 3 accepted in
+      let q : rule4 s r ≡ false = unbroken _ 4 accepted in
+      let d : rule8 r ≡ false = unbroken _ 8 accepted in
+      let h : rule12 r (valuesOf img) ≡ false = unbroken _ 12 accepted in
       let few : length (v .bytes) ≤ maxData = ltb-false maxData (length (v .bytes)) (rw c at h) in
       rw (p .made)
       (record {
@@ -178,14 +181,14 @@ module _ (s : Session) (r : Request) (img : List ℕ) (accepted : setBroken s r 
   pub put-fits : (v : Value) → changeIn r (valuesOf img) ≡ put v → spaceOf (step (put v) (valuesOf img)) ≤ regionSize img
   unfolding setBroken imageRules requestRules standingRules resultRules roomRules rule13
   put-fits v c =
-      let h : rule13 s r (regionSize img) (valuesOf img) ≡ false = unbroken _ 12 accepted in
+      let h : rule13 s r (regionSize img) (valuesOf img) ≡ false = unbroken _ 13 accepted in
       let l : ltb (regionSize img) (spaceOf (step (put v) (valuesOf img)) + reserved s) ≡ false = rw c at h in
       omega (arith, ltb-false)
 
   pub remove-present : (k : Key) → changeIn r (valuesOf img) ≡ remove k → isSome (find k (valuesOf img)) ≡ true
   unfolding setBroken imageRules requestRules standingRules resultRules rule11 removesAbsent
   remove-present k c =
-      let h : rule11 r (valuesOf img) ≡ false = unbroken _ 10 accepted in
+      let h : rule11 r (valuesOf img) ≡ false = unbroken _ 11 accepted in
       not-false (isSome (find k (valuesOf img))) (rw c at h)
 
 -- ---- the other calls
@@ -193,11 +196,11 @@ module _ (s : Session) (r : Request) (img : List ℕ) (accepted : setBroken s r 
 -- a start-up that breaks no rule
 pub startUp-length : (img : List ℕ) → startUpBroken img ≡ none → rightLength img ≡ true
 unfolding startUpBroken rule1
-startUp-length img h = not-false (rightLength img) (unbroken _ 0 h)
+startUp-length img h = not-false (rightLength img) (unbroken _ 1 h)
 
 pub startUp-ready : (img : List ℕ) → startUpBroken img ≡ none → readyForStartUp img ≡ true
 unfolding startUpBroken rule2StartUp
-startUp-ready img h = not-false (readyForStartUp img) (unbroken _ 1 h)
+startUp-ready img h = not-false (readyForStartUp img) (unbroken _ 2 h)
 
 -- and the other way round
 pub startUp-accepted : (img : List ℕ) → rightLength img ≡ true → readyForStartUp img ≡ true → startUpBroken img ≡ none
@@ -207,8 +210,8 @@ startUp-accepted img l h = rw (l, h)
 -- a get and a next-name that are accepted find the image ready
 pub get-ready : (s : Session) (k : Key) (buffer img : List ℕ) → getBroken s k buffer img ≡ none → (rightLength img ≡ true) × (readyForCall img ≡ true)
 unfolding getBroken imageRules rule1 rule2
-get-ready s k buffer img h = (not-false (rightLength img) (unbroken _ 0 h), not-false (readyForCall img) (unbroken _ 1 h))
+get-ready s k buffer img h = (not-false (rightLength img) (unbroken _ 1 h), not-false (readyForCall img) (unbroken _ 2 h))
 
 pub next-ready : (s : Session) (k : Key) (buffer img : List ℕ) → nextBroken s k buffer img ≡ none → (rightLength img ≡ true) × (readyForCall img ≡ true)
 unfolding nextBroken imageRules rule1 rule2
-next-ready s k buffer img h = (not-false (rightLength img) (unbroken _ 0 h), not-false (readyForCall img) (unbroken _ 1 h))
+next-ready s k buffer img h = (not-false (rightLength img) (unbroken _ 1 h), not-false (readyForCall img) (unbroken _ 2 h))
