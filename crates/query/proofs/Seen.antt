@@ -11,7 +11,8 @@ use borrow.Author.Tests.{eq-eqb, eqb-false}
 use Rattle.model.specs.Lists.{same, keep, first, head}
 use Rattle.model.specs.Name.{Key, sameKey, emptyName}
 use Rattle.model.specs.Walk as walk
-use Rattle.model.specs.Region.{from, entries, isEntry, isValue}
+use Rattle.model.specs.Region.{entries, isEntry, isValue}
+use Rattle.model.specs.Beside.{from}
 use Rattle.model.proofs.Tests.{and-split, or-split}
 use Rattle.model.proofs.Walking.{entries-from}
 use Rattle.layout.specs.declared.Entry as numbers

@@ -12,7 +12,7 @@ use Rattle.model.specs.Image.{regionHeaderSize}
 use Rattle.model.specs.Walk as walk
 use Rattle.model.specs.Region.{tailAt, knownState, within, rightLive, isEntry, undoubled}
 use Rattle.model.proofs.Walking.{entries-from}
-use Rattle.model.specs.Region.{from}
+use Rattle.model.specs.Beside.{from}
 use Rattle.layout.specs.declared.Entry as numbers
 use Rattle.region.specs.Walk.{entryAt, vendorAt}
 use Rattle.region.specs.Judge.{liveState, entrySound, entriesSound, doubledIn, scanOf}

@@ -12,8 +12,8 @@ use lib.Seq.{take-all}
 use Rattle.model.specs.Lists.{onSome}
 use Rattle.model.specs.Entry.{Header, headerSize, readHeader}
 use Rattle.model.specs.Walk as walk
+use Rattle.model.specs.Beside.{from}
 use Rattle.model.proofs.Walking.{from-end, from-entry, from-fits, read-fields, stride-least}
-use Rattle.model.specs.Region.{from}
 use Rattle.layout.specs.Head.{numbersOf, headOf}
 use Rattle.layout.specs.declared.Entry as numbers
 use Rattle.layout.specs.declared.Head.{Head}

@@ -5,7 +5,7 @@ ghost use Rattle.model.specs.Lists.{any, among};
 ghost use Rattle.model.specs.Name.{keyed};
 ghost use Rattle.model.specs.Entry.{states};
 ghost use Rattle.model.specs.Region.{entries, storedAttributes, rightLive, isEntry, undoubled};
-ghost use Rattle.model.specs.Region.{from};
+ghost use Rattle.model.specs.Beside.{from};
 ghost use Rattle.region.specs.Walk.{entryAt};
 ghost use Rattle.region.specs.Judge.{liveState, entrySound, doubledIn, scanOf, judgedOf};
 use crate::Judged;

@@ -13,9 +13,10 @@ use Rattle.model.specs.declared.Session.{Session}
 use Rattle.model.specs.declared.Rule.{Rule}
 use Rattle.model.specs.declared.Rule.the-variants.{Name, LockPhase, LockSpace}
 use Rattle.model.specs.Name.{Key, wellNamed, zeroEnded}
-use Rattle.model.specs.Session.{countedPhase, inBoot, locked, withLock, lockedSession, oneMoreLock}
+use Rattle.model.specs.Session.{countedPhase, inBoot, locked, withLock, lockedSession}
 use Rattle.model.specs.Rules.{firstBroken, rule3, rule15, rule16, lockBroken}
 use Rattle.model.specs.Answers.{Outcome, done, refused, ruleNumber, lockOutcome, lockSession}
+use Rattle.model.specs.Beside.{oneMoreLock}
 use Rattle.model.proofs.Tests.{and-split}
 use Rattle.model.proofs.Locks.{lock-fits}
 

@@ -13,7 +13,7 @@ use Rattle.model.specs.Name.{Key, sameKey}
 use Rattle.model.specs.Walk as walk
 use Rattle.model.specs.Region.{isEntry}
 use Rattle.model.proofs.Tests.{and-split}
-use Rattle.model.specs.Region.{from}
+use Rattle.model.specs.Beside.{from}
 use Rattle.layout.specs.Head.{numbersOf}
 use Rattle.layout.specs.declared.Entry as numbers
 use Rattle.region.specs.Walk.{entryAt}

@@ -14,7 +14,7 @@ use Rattle.model.specs.Entry.{Value}
 use Rattle.model.specs.Walk as walk
 use Rattle.model.specs.Region.{entries, isEntry, isValue, values}
 use Rattle.model.proofs.Walking.{entries-from}
-use Rattle.model.specs.Region.{from}
+use Rattle.model.specs.Beside.{from}
 use Rattle.layout.specs.declared.Entry as numbers
 use Rattle.region.specs.Walk.{entryAt, vendorAt}
 use Rattle.region.proofs.Turns.{Turned}

@@ -11,7 +11,8 @@ use borrow.Author.Tests.{eqb-true}
 use Rattle.model.specs.Lists.{first, any}
 use Rattle.model.specs.Entry.{rounded, entrySize}
 use Rattle.model.specs.Walk as walk
-use Rattle.model.specs.Region.{from, entries, isEntry, isValue, values}
+use Rattle.model.specs.Region.{entries, isEntry, isValue, values}
+use Rattle.model.specs.Beside.{from}
 use Rattle.model.proofs.Walking.{from-past}
 use Rattle.layout.specs.declared.Entry as numbers
 use Rattle.region.specs.Walk.{strideOf, entryAt, turnOf}

@@ -14,7 +14,7 @@ use Rattle.model.specs.Name.{Key}
 use Rattle.model.specs.Walk as walk
 use Rattle.model.specs.Region.{entries, isEntry, isValue, added, replacing, standing}
 use Rattle.model.proofs.Walking.{from-past}
-use Rattle.model.specs.Region.{from}
+use Rattle.model.specs.Beside.{from}
 use Rattle.layout.specs.declared.Entry as numbers
 use Rattle.region.specs.Walk.{entryAt, turnOf}
 use Rattle.region.specs.declared.Turn.{Turn}

@@ -7,7 +7,7 @@ ghost use Rattle.model.specs.Entry.{rounded, entrySize};
 ghost use Rattle.model.specs.Walk.{entryValue};
 ghost use Rattle.model.specs.Region.{entries, isValue, values};
 ghost use Rattle.model.specs.Change.{spaceOf};
-ghost use Rattle.model.specs.Region.{from};
+ghost use Rattle.model.specs.Beside.{from};
 ghost use Rattle.region.specs.Walk.{entryAt};
 ghost use Rattle.values.specs.Found.{foundOf};
 use crate::Found;

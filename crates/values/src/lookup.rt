@@ -3,7 +3,7 @@ ghost use mathlib.Core.Path.{_≡_};
 ghost use Rattle.model.specs.Lists.{first};
 ghost use Rattle.model.specs.Name.{keyed};
 ghost use Rattle.model.specs.Region.{entries, isEntry, added, replacing, standing};
-ghost use Rattle.model.specs.Region.{from};
+ghost use Rattle.model.specs.Beside.{from};
 ghost use Rattle.region.specs.Walk.{entryAt};
 ghost use Rattle.values.specs.Found.{foundOf, elseFound};
 use crate::Found;

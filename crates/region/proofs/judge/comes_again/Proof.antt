@@ -10,7 +10,7 @@ use borrow.Author.Needs.{needs}
 use Rattle.model.specs.Region.{isEntry}
 use Rattle.model.specs.Lists.{any}
 use Rattle.model.specs.Name.{keyed}
-use Rattle.model.specs.Region.{from}
+use Rattle.model.specs.Beside.{from}
 use Rattle.region.proofs.Turns.{turned, stopped}
 use Rattle.region.proofs.Scanning.{any-next, any-here}
 use Rattle.region.proofs.judge.comes_again.Statement.{statement}

@@ -8,7 +8,7 @@ use borrow.Author.Needs.{needs}
 use Rattle.model.specs.Lists.{any}
 use Rattle.model.specs.Name.{keyed}
 use Rattle.model.specs.Region.{isEntry}
-use Rattle.model.specs.Region.{from}
+use Rattle.model.specs.Beside.{from}
 use Rattle.region.proofs.Scanning.{doubled-live, doubled-dead}
 use Rattle.region.proofs.judge.is_doubled.Statement.{statement}
 use Rattle.region.proofs.judge.is_doubled.Tie as tie

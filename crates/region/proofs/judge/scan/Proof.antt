@@ -8,7 +8,7 @@ use lib.ListN.{length}
 use denote.Ref.{now}
 use borrow.Author.Needs.{needs}
 use Rattle.model.specs.Walk.{walkEnd}
-use Rattle.model.specs.Region.{from}
+use Rattle.model.specs.Beside.{from}
 use Rattle.region.specs.Judge.{scanOf}
 use Rattle.region.proofs.Scanning.{scanned, scan-begin, scan-next, scan-stop}
 use Rattle.region.proofs.Turns.{turned, stopped}

@@ -9,7 +9,7 @@ use denote.Ref.{now}
 use borrow.Author.Needs.{needs}
 use Rattle.model.specs.Region.{entries, undoubled}
 use Rattle.model.proofs.Walking.{entries-from}
-use Rattle.model.specs.Region.{from}
+use Rattle.model.specs.Beside.{from}
 use Rattle.region.proofs.Scanning.{undoubled-next, undoubled-stop}
 use Rattle.region.proofs.Turns.{turned, stopped}
 use Rattle.region.proofs.judge.undoubled.Statement.{statement}

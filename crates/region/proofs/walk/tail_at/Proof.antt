@@ -8,7 +8,7 @@ use denote.Ref.{now}
 use borrow.Author.Needs.{needs}
 use Rattle.model.specs.Walk.{walkEnd}
 use Rattle.model.specs.Region.{entries, tailAt}
-use Rattle.model.specs.Region.{from}
+use Rattle.model.specs.Beside.{from}
 use Rattle.region.proofs.Turns.{turned, stopped}
 use Rattle.region.proofs.walk.tail_at.Statement.{statement}
 use Rattle.region.proofs.walk.tail_at.Tie as tie

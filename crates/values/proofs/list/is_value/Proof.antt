@@ -7,7 +7,7 @@ use borrow.Author.Needs.{needs}
 use Rattle.model.specs.Lists.{first}
 use Rattle.model.specs.Name.{keyed}
 use Rattle.model.specs.Region.{isEntry}
-use Rattle.model.specs.Region.{from}
+use Rattle.model.specs.Beside.{from}
 use Rattle.values.specs.Found.{foundOf}
 use Rattle.values.proofs.Listed.{isFound, value-added, value-other, value-replacing}
 use Rattle.values.proofs.list.is_value.Statement.{statement}

@@ -10,7 +10,7 @@ use borrow.Author.Needs.{needs}
 use Rattle.model.specs.Lists.{first}
 use Rattle.model.specs.Name.{keyed}
 use Rattle.model.specs.Region.{isEntry}
-use Rattle.model.specs.Region.{from}
+use Rattle.model.specs.Beside.{from}
 use Rattle.region.proofs.Turns.{turned, stopped}
 use Rattle.values.specs.Found.{foundOf}
 use Rattle.values.proofs.Finds.{found-none, found-here, found-next}
