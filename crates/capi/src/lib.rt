@@ -135,7 +135,8 @@ pub extern "C" fn vs_get(
     buffer: &mut [u8],
 ) -> Reply
     ensures { λ r. ⌜ (r .answer
-        ≡ numbersOf (outcome (context .limit) (getPlan session (keyed (now (name .entry)) (now (vendor .entry))) (now (buffer .entry)) (now (image .entry)))))
+        ≡ numbersOf (outcome (context .limit)
+        (getPlan session (keyed (now (name .entry)) (now (vendor .entry))) (now (buffer .entry)) (now (image .entry)))))
         × (r .size ≡ getReply session (keyed (now (name .entry)) (now (vendor .entry))) (now (buffer .entry)) (now (image .entry)) .size)
         × (r .attributes ≡ getReply session (keyed (now (name .entry)) (now (vendor .entry))) (now (buffer .entry)) (now (image .entry)) .attributes)
         × (r .needed ≡ getReply session (keyed (now (name .entry)) (now (vendor .entry))) (now (buffer .entry)) (now (image .entry)) .needed)
@@ -161,7 +162,8 @@ pub extern "C" fn vs_next_name(
     buffer: &mut [u8],
 ) -> Reply
     ensures { λ r. ⌜ (r .answer
-        ≡ numbersOf (outcome (context .limit) (nextPlan session (keyed (now (name .entry)) (now (vendor .entry))) (now (buffer .entry)) (now (image .entry)))))
+        ≡ numbersOf (outcome (context .limit)
+        (nextPlan session (keyed (now (name .entry)) (now (vendor .entry))) (now (buffer .entry)) (now (image .entry)))))
         × (r .size ≡ nextReply session (keyed (now (name .entry)) (now (vendor .entry))) (now (buffer .entry)) (now (image .entry)) .size)
         × (r .attributes ≡ 0)
         × (r .needed ≡ nextReply session (keyed (now (name .entry)) (now (vendor .entry))) (now (buffer .entry)) (now (image .entry)) .needed)

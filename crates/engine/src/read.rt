@@ -67,7 +67,10 @@ fn open(image: &[u8], named: bool) -> Check
 // Data handed out, if the buffer holds them.
 fn give(bytes: &[u8], attributes: u32, buffer: &mut [u8]) -> Got
     requires { ⌜ length (now bytes) ≤ 28672 ⌝ }
-    ensures { λ r. ⌜ Answered (shortOf (now (bytes .entry)) (now (buffer .entry))) (replyTo (now (bytes .entry)) attributes (now (buffer .entry))) r (now (buffer .exit)) ⌝ }
+    ensures { λ r. ⌜ Answered
+        (shortOf (now (bytes .entry)) (now (buffer .entry)))
+        (replyTo (now (bytes .entry)) attributes (now (buffer .entry)))
+        r (now (buffer .exit)) ⌝ }
 {
     let size = bytes.len() as u32;
     if buffer.len() < bytes.len() {
@@ -85,7 +88,10 @@ fn give(bytes: &[u8], attributes: u32, buffer: &mut [u8]) -> Got
 // The GUID and behind it the name handed out, if the buffer holds them.
 fn give_name(vendor: &[u8], name: &[u8], buffer: &mut [u8]) -> Got
     requires { ⌜ (length (now vendor) ≤ 28672) × (length (now name) ≤ 28672) ⌝ }
-    ensures { λ r. ⌜ Answered (shortOf (now (vendor .entry) ++ now (name .entry)) (now (buffer .entry))) (replyTo (now (vendor .entry) ++ now (name .entry)) 0 (now (buffer .entry))) r (now (buffer .exit)) ⌝ }
+    ensures { λ r. ⌜ Answered
+        (shortOf (now (vendor .entry) ++ now (name .entry)) (now (buffer .entry)))
+        (replyTo (now (vendor .entry) ++ now (name .entry)) 0 (now (buffer .entry)))
+        r (now (buffer .exit)) ⌝ }
 {
     let front = vendor.len();
     let whole = (front + name.len()) as u32;
@@ -106,8 +112,12 @@ fn give_name(vendor: &[u8], name: &[u8], buffer: &mut [u8]) -> Got
 fn get_from(region: &[u8], runtime: bool, name: &[u8], vendor: &[u8; 16], buffer: &mut [u8]) -> Got
     requires { ⌜ length (now region) ≤ 28672 ⌝ }
     ensures { λ r. ⌜ Answered
-        (foundBroken (getAt runtime (keyed (now (name .entry)) (now (vendor .entry))) (values (entries (now (region .entry))))) gotBytes (now (buffer .entry)))
-        (foundReply (getAt runtime (keyed (now (name .entry)) (now (vendor .entry))) (values (entries (now (region .entry))))) gotBytes (λ v. v .attributes) (now (buffer .entry)))
+        (foundBroken
+        (getAt runtime (keyed (now (name .entry)) (now (vendor .entry))) (values (entries (now (region .entry)))))
+        gotBytes (now (buffer .entry)))
+        (foundReply
+        (getAt runtime (keyed (now (name .entry)) (now (vendor .entry))) (values (entries (now (region .entry)))))
+        gotBytes (λ v. v .attributes) (now (buffer .entry)))
         r (now (buffer .exit)) ⌝ }
 {
     let found = query::to_get(region, runtime, name, vendor);
@@ -121,8 +131,12 @@ fn get_from(region: &[u8], runtime: bool, name: &[u8], vendor: &[u8; 16], buffer
 fn name_from(region: &[u8], runtime: bool, name: &[u8], vendor: &[u8; 16], buffer: &mut [u8]) -> Got
     requires { ⌜ length (now region) ≤ 28672 ⌝ }
     ensures { λ r. ⌜ Answered
-        (foundBroken (nameAt runtime (keyed (now (name .entry)) (now (vendor .entry))) (values (entries (now (region .entry))))) namedBytes (now (buffer .entry)))
-        (foundReply (nameAt runtime (keyed (now (name .entry)) (now (vendor .entry))) (values (entries (now (region .entry))))) namedBytes (λ v. 0) (now (buffer .entry)))
+        (foundBroken
+        (nameAt runtime (keyed (now (name .entry)) (now (vendor .entry))) (values (entries (now (region .entry)))))
+        namedBytes (now (buffer .entry)))
+        (foundReply
+        (nameAt runtime (keyed (now (name .entry)) (now (vendor .entry))) (values (entries (now (region .entry)))))
+        namedBytes (λ v. 0) (now (buffer .entry)))
         r (now (buffer .exit)) ⌝ }
 {
     let found = query::to_name(region, runtime, name, vendor);
@@ -145,7 +159,9 @@ pub fn get(
     vendor: &[u8; 16],
     buffer: &mut [u8],
 ) -> Got
-    ensures { λ r. ⌜ Returned (book.get s (keyed (now (name .entry)) (now (vendor .entry))) (now (buffer .entry))) (c .limit) (now (image .entry)) (now (image .entry)) (r .answer)
+    ensures { λ r. ⌜ Returned
+        (book.get s (keyed (now (name .entry)) (now (vendor .entry))) (now (buffer .entry)))
+        (c .limit) (now (image .entry)) (now (image .entry)) (r .answer)
         × (r .size ≡ getReply s (keyed (now (name .entry)) (now (vendor .entry))) (now (buffer .entry)) (now (image .entry)) .size)
         × (r .attributes ≡ getReply s (keyed (now (name .entry)) (now (vendor .entry))) (now (buffer .entry)) (now (image .entry)) .attributes)
         × (r .needed ≡ getReply s (keyed (now (name .entry)) (now (vendor .entry))) (now (buffer .entry)) (now (image .entry)) .needed)
@@ -203,7 +219,9 @@ pub fn next_name(
     vendor: &[u8; 16],
     buffer: &mut [u8],
 ) -> Named
-    ensures { λ r. ⌜ Returned (book.next s (keyed (now (name .entry)) (now (vendor .entry))) (now (buffer .entry))) (c .limit) (now (image .entry)) (now (image .entry)) (r .answer)
+    ensures { λ r. ⌜ Returned
+        (book.next s (keyed (now (name .entry)) (now (vendor .entry))) (now (buffer .entry)))
+        (c .limit) (now (image .entry)) (now (image .entry)) (r .answer)
         × (r .size ≡ nextReply s (keyed (now (name .entry)) (now (vendor .entry))) (now (buffer .entry)) (now (image .entry)) .size)
         × (r .needed ≡ nextReply s (keyed (now (name .entry)) (now (vendor .entry))) (now (buffer .entry)) (now (image .entry)) .needed)
         × (now (buffer .exit) ≡ nextReply s (keyed (now (name .entry)) (now (vendor .entry))) (now (buffer .entry)) (now (image .entry)) .buffer) ⌝ }

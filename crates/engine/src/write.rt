@@ -48,7 +48,11 @@ fn plan_ready(
         × Bytes (now image)
         × Sized (book.set s (requestOf (now name) (now vendor) (asking .attributes) (now bytes) (asking .presence) (asking .verdict)))
         × (length (now content) ≡ 28672) ⌝ }
-    ensures { λ r. ⌜ Plans (setPlan s (requestOf (now (name .entry)) (now (vendor .entry)) (asking .attributes) (now (bytes .entry)) (asking .presence) (asking .verdict)) (now (image .entry))) (now (image .entry)) (now (content .entry)) (now (content .exit)) r ⌝ }
+    ensures { λ r. ⌜ Plans
+        (setPlan s
+        (requestOf (now (name .entry)) (now (vendor .entry)) (asking .attributes) (now (bytes .entry)) (asking .presence) (asking .verdict))
+        (now (image .entry)))
+        (now (image .entry)) (now (content .entry)) (now (content .exit)) r ⌝ }
 {
     let attributes = asking.attributes;
     let d = decision::decide(
@@ -106,7 +110,9 @@ pub fn plan_set(
     verdict: u32,
     content: &mut [u8; 28672],
 ) -> Planned
-    ensures { λ r. ⌜ Plans (setPlan s (requestOf (now (name .entry)) (now (vendor .entry)) attributes (now (bytes .entry)) presence verdict) (now (image .entry))) (now (image .entry)) (now (content .entry)) (now (content .exit)) r ⌝ }
+    ensures { λ r. ⌜ Plans
+        (setPlan s (requestOf (now (name .entry)) (now (vendor .entry)) attributes (now (bytes .entry)) presence verdict) (now (image .entry)))
+        (now (image .entry)) (now (content .entry)) (now (content .exit)) r ⌝ }
 {
     guid(vendor);
     let check = image::check_call(image);
@@ -143,8 +149,12 @@ pub fn set(
     verdict: u32,
     content: &mut [u8; 28672],
 ) -> Answer
-    ensures { λ r. ⌜ Returned (book.set s (requestOf (now (name .entry)) (now (vendor .entry)) attributes (now (bytes .entry)) presence verdict)) (c .limit) (now (image .entry)) (now (image .exit)) r
-        × Kept (setPlan s (requestOf (now (name .entry)) (now (vendor .entry)) attributes (now (bytes .entry)) presence verdict) (now (image .entry))) (now (content .entry)) (now (content .exit)) ⌝ }
+    ensures { λ r. ⌜ Returned
+        (book.set s (requestOf (now (name .entry)) (now (vendor .entry)) attributes (now (bytes .entry)) presence verdict))
+        (c .limit) (now (image .entry)) (now (image .exit)) r
+        × Kept
+        (setPlan s (requestOf (now (name .entry)) (now (vendor .entry)) attributes (now (bytes .entry)) presence verdict) (now (image .entry)))
+        (now (content .entry)) (now (content .exit)) ⌝ }
 {
     let planned = plan_set(
         s,
