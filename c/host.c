@@ -17,6 +17,7 @@
 #endif
 
 static const vs_context no_limit = {VS_NO_LIMIT};
+static const vs_setup setup = {0, 0}; /* no custom mode, no reserve */
 
 static const char *rule_text(uint32_t rule)
 {
@@ -121,7 +122,7 @@ static int list_file(const char *path)
         return 1;
     }
     printf("%u block%s, free from %u\n", (unsigned)checked.blocks, checked.blocks == 1 ? "" : "s", (unsigned)checked.tail);
-    vs_session session = vs_session_new(0, 0);
+    vs_session session = vs_session_new(setup);
     return list(session, image, length);
 }
 
@@ -249,7 +250,7 @@ static vs_answer format(void)
 static vs_answer power_on(vs_session *session)
 {
     memcpy(image, part.bytes, PART);
-    *session = vs_session_new(0, 0);
+    *session = vs_session_new(setup);
     vs_plan plan = vs_plan_start_up(image, PART, content);
     return carry_out(&plan);
 }
@@ -352,7 +353,7 @@ static int story(void)
 {
     static const uint64_t after[] = {0, 1, 2000, 4097, 4098, 4099, 6000, 8196, 8197}, in[] = {1, 2000, 4098, 4099, 6000, 8196, 8197};
     static uint8_t full[PART];
-    vs_session session = vs_session_new(0, 0);
+    vs_session session = vs_session_new(setup);
     first_calls(&session);
     fill(&session);
     memcpy(full, part.bytes, PART);

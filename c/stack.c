@@ -19,6 +19,7 @@
 enum { BLOCKS = 7, IMAGE = VS_LARGEST_IMAGE, STACK = 1 << 18, PAINT = 0xC5, ADDRESS = 8, ALLOWED = 6 * 1024, PLAIN = VS_NV | VS_BOOT_ACCESS };
 
 static const vs_context no_limit = {VS_NO_LIMIT};
+static const vs_setup setup = {0, 0}; /* no custom mode, no reserve */
 static const uint8_t vendor[16] = {1}, zeros[2048];
 static uint8_t image[IMAGE], buffer[2048], content[VS_CONTENT], stack[STACK];
 static vs_session session, made;
@@ -52,7 +53,7 @@ static void put(unsigned i, uint32_t attributes, size_t size)
 static void fill(size_t size)
 {
     vs_format(no_limit, image, IMAGE, content);
-    session = vs_start_up(no_limit, image, IMAGE, 0, 0, content).session;
+    session = vs_start_up(no_limit, image, IMAGE, setup, content).session;
     put(0, PLAIN, 1024);
     for (unsigned i = 1; vs_check(image, IMAGE).tail + 72 + size <= 4096 * BLOCKS; i++) {
         put(i, PLAIN, 512);
@@ -81,14 +82,14 @@ static void enter(void) { begin = (uint8_t *)__builtin_frame_address(0) + ADDRES
 
 /* The callers. */
 static void check(void) { answer = CALL(vs_check)(image, IMAGE).answer; }
-static void new_session(void) { made = CALL(vs_session_new)(0, 0); }
+static void new_session(void) { made = CALL(vs_session_new)(setup); }
 static void phase(void) { made = CALL(vs_phase)(session, VS_BOOT); }
 static void lock(void) { listed = CALL(vs_lock)(session, name, sizeof name, vendor); }
 static void get(void) { answer = CALL(vs_get)(no_limit, session, image, IMAGE, name, sizeof name, vendor, buffer, sizeof buffer).answer; }
 static void next_name(void) { answer = CALL(vs_next_name)(no_limit, session, image, IMAGE, zeros, 2, vendor, buffer, sizeof buffer).answer; }
 static void format(void) { answer = CALL(vs_format)(no_limit, image, IMAGE, content); }
 static void plan_format(void) { plan = CALL(vs_plan_format)(image, IMAGE, content); }
-static void start_up(void) { started = CALL(vs_start_up)(no_limit, image, IMAGE, 0, 0, content); }
+static void start_up(void) { started = CALL(vs_start_up)(no_limit, image, IMAGE, setup, content); }
 static void plan_start_up(void) { plan = CALL(vs_plan_start_up)(image, IMAGE, content); }
 
 static void set(void)

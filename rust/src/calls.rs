@@ -3,7 +3,7 @@
 use std::cell::RefCell;
 
 use crate::engine;
-use crate::interface::{Answer, Checked, Context, Key, Listed, Reply, Request, Session, Started};
+use crate::interface::{Answer, Checked, Context, Key, Listed, Reply, Request, Session, Setup, Started};
 use crate::paper;
 use crate::plan::Content;
 
@@ -12,14 +12,14 @@ use crate::plan::Content;
 pub struct Calls {
     pub who: &'static str,
     pub check: fn(&[u8]) -> Checked,
-    pub session_new: fn(u32, u32) -> Session,
+    pub session_new: fn(Setup) -> Session,
     pub phase: fn(Session, u32) -> Session,
     pub lock: fn(Session, Key) -> Listed,
     pub get: Read,
     pub next_name: Read,
     pub set: fn(Context, &Session, &mut [u8], &Request) -> Answer,
     pub format: fn(Context, &mut [u8]) -> Answer,
-    pub start_up: fn(Context, &mut [u8], u32, u32) -> Started,
+    pub start_up: fn(Context, &mut [u8], Setup) -> Started,
 }
 
 /// Get and next-name.
@@ -48,7 +48,7 @@ pub const ENGINE: Calls = Calls {
     next_name: engine::next_name,
     set: |context, session, image, request| lent(|content| engine::set(context, session, image, request, content)),
     format: |context, image| lent(|content| engine::format(context, image, content)),
-    start_up: |context, image, custom, reserve| lent(|content| engine::start_up(context, image, custom, reserve, content)),
+    start_up: |context, image, setup| lent(|content| engine::start_up(context, image, setup, content)),
 };
 
 /// Lends a call of the engine the content, as the last call has left it.

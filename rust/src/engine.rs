@@ -3,7 +3,7 @@
 
 use std::mem::{offset_of, size_of};
 
-use crate::interface::{Answer, Checked, Context, Guid, Key, Listed, Reply, Request, Rule, Session, Started};
+use crate::interface::{Answer, Checked, Context, Guid, Key, Listed, Reply, Request, Rule, Session, Setup, Started};
 use crate::plan::{Content, Operation, Plan, OPERATIONS};
 
 /// The C structures that are not part of the interface as they stand.
@@ -78,7 +78,8 @@ macro_rules! laid_out {
 
 const _: () = assert!(size_of::<usize>() == 8 && size_of::<*const u8>() == 8);
 laid_out!(Context 8 limit 0);
-laid_out!(Session 2384 phase 0 custom 4 reserve 8 count 12 sizes 16 locks 80);
+laid_out!(Setup 8 custom 0 reserve 4);
+laid_out!(Session 2384 phase 0 setup 4 count 12 sizes 16 locks 80);
 laid_out!(RawAnswer 16 kind 0 rule 4 stores 8);
 laid_out!(RawReply 32 answer 0 size 16 attributes 20 needed 24);
 laid_out!(RawListed 2400 answer 0 session 16);
@@ -90,7 +91,7 @@ laid_out!(RawPlan 400 rule 0 deciding 8 operations 16);
 #[rustfmt::skip]
 extern "C" {
     fn vs_check(image: *const u8, image_len: usize) -> RawChecked;
-    fn vs_session_new(custom: u32, reserve: u32) -> Session;
+    fn vs_session_new(setup: Setup) -> Session;
     fn vs_phase(session: Session, phase: u32) -> Session;
     fn vs_lock(session: Session, name: *const u8, name_len: usize, vendor: *const Guid) -> RawListed;
     fn vs_get(context: Context, session: Session, image: *const u8, image_len: usize, name: *const u8, name_len: usize,
@@ -101,7 +102,7 @@ extern "C" {
               vendor: *const Guid, attributes: u32, data: *const u8, data_len: usize, presence: u32, verdict: u32,
               content: *mut Content) -> RawAnswer;
     fn vs_format(context: Context, image: *mut u8, image_len: usize, content: *mut Content) -> RawAnswer;
-    fn vs_start_up(context: Context, image: *mut u8, image_len: usize, custom: u32, reserve: u32, content: *mut Content) -> RawStarted;
+    fn vs_start_up(context: Context, image: *mut u8, image_len: usize, setup: Setup, content: *mut Content) -> RawStarted;
     fn vs_plan_set(session: Session, image: *const u8, image_len: usize, name: *const u8, name_len: usize, vendor: *const Guid,
                    attributes: u32, data: *const u8, data_len: usize, presence: u32, verdict: u32, content: *mut Content) -> RawPlan;
     fn vs_plan_start_up(image: *const u8, image_len: usize, content: *mut Content) -> RawPlan;
@@ -149,8 +150,8 @@ pub fn check(image: &[u8]) -> Checked {
     Checked { answer: raw.answer.answer(), blocks: raw.blocks, tail: raw.tail }
 }
 
-pub fn session_new(custom: u32, reserve: u32) -> Session {
-    unsafe { vs_session_new(custom, reserve) }
+pub fn session_new(setup: Setup) -> Session {
+    unsafe { vs_session_new(setup) }
 }
 
 pub fn phase(session: Session, to: u32) -> Session {
@@ -186,8 +187,8 @@ pub fn format(context: Context, image: &mut [u8], content: &mut Content) -> Answ
     unsafe { vs_format(context, image.as_mut_ptr(), image.len(), content) }.answer()
 }
 
-pub fn start_up(context: Context, image: &mut [u8], custom: u32, reserve: u32, content: &mut Content) -> Started {
-    let raw = unsafe { vs_start_up(context, image.as_mut_ptr(), image.len(), custom, reserve, content) };
+pub fn start_up(context: Context, image: &mut [u8], setup: Setup, content: &mut Content) -> Started {
+    let raw = unsafe { vs_start_up(context, image.as_mut_ptr(), image.len(), setup, content) };
     Started { answer: raw.answer.answer(), session: raw.session }
 }
 

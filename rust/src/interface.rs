@@ -80,13 +80,25 @@ pub const RUNTIME: u32 = 2;
 pub const PLACES: usize = 16;
 pub const PLACE: usize = 144;
 
-/// Phase, custom mode, run-time reserve R and the lock list. A place of the list holds the name, zeros up to 128 bytes, then the GUID.
+/// What a start-up is given, and its session keeps: custom mode and the run-time reserve R.
+#[derive(Clone, Copy, PartialEq, Eq, Debug)]
+#[repr(C)]
+pub struct Setup {
+    pub custom: u32,
+    pub reserve: u32,
+}
+
+impl Setup {
+    /// No custom mode, no reserve.
+    pub const PLAIN: Setup = Setup { custom: 0, reserve: 0 };
+}
+
+/// Phase, what the start-up was given, and the lock list. A place of the list holds the name, zeros up to 128 bytes, then the GUID.
 #[derive(Clone, Copy, PartialEq, Eq, Debug)]
 #[repr(C)]
 pub struct Session {
     pub phase: u32,
-    pub custom: u32,
-    pub reserve: u32,
+    pub setup: Setup,
     pub count: u32,
     pub sizes: [u32; PLACES],
     pub locks: [u8; PLACES * PLACE],

@@ -15,7 +15,7 @@ use common::random::Random;
 use common::same_bytes;
 use common::stored::{carry_out, Call};
 use varstore::calls::{Read, ENGINE, PAPER};
-use varstore::interface::{Answer, Context, Reply, Session};
+use varstore::interface::{Answer, Context, Reply, Session, Setup};
 use varstore::paper;
 use varstore::plan::{Content, Operation, Plan};
 
@@ -121,8 +121,8 @@ impl Pair<'_> {
         self.store("format", &Call::Format, limit);
     }
 
-    fn start_up(&mut self, limit: u64, custom: u32, reserve: u32) -> Answer {
-        self.store("startup", &Call::StartUp { custom, reserve }, limit)
+    fn start_up(&mut self, limit: u64, setup: Setup) -> Answer {
+        self.store("startup", &Call::StartUp(setup), limit)
     }
 
     fn lock(&mut self, name: &Name) {
@@ -157,11 +157,11 @@ impl Pair<'_> {
         if let Ok(list) = paper::start_up_stores(&self.image) {
             for limit in limits(r, &list) {
                 self.image.copy_from_slice(&before);
-                self.start_up(limit, 0, 0);
+                self.start_up(limit, Setup::PLAIN);
             }
         }
         self.image.copy_from_slice(&before);
-        self.start_up(u64::MAX, 1, 100);
+        self.start_up(u64::MAX, Setup { custom: 1, reserve: 100 });
     }
 }
 
@@ -184,7 +184,7 @@ fn limits(r: &mut Random, list: &paper::Stores) -> Vec<u64> {
 }
 
 fn same_session(ours: &Session, theirs: &Session) {
-    let numbers = |session: &Session| (session.phase, session.custom, session.reserve, session.count, session.sizes);
+    let numbers = |session: &Session| (session.phase, session.setup.custom, session.setup.reserve, session.count, session.sizes);
     assert_eq!(numbers(ours), numbers(theirs), "session");
     same_bytes("lock list", &ours.locks, &theirs.locks);
 }
@@ -250,7 +250,8 @@ fn random_call(pair: &mut Pair, r: &mut Random) {
         0..=2 => random_get(pair, r),
         3..=5 => random_next(pair, r),
         6 => {
-            pair.start_up(limit(r), r.pick(&[0, 1, 2, u32::MAX]), r.pick(&[0, 1, 4096, 4097, u32::MAX]));
+            let setup = Setup { custom: r.pick(&[0, 1, 2, u32::MAX]), reserve: r.pick(&[0, 1, 4096, 4097, u32::MAX]) };
+            pair.start_up(limit(r), setup);
         }
         7 => pair.session = generate::session(r),
         8 if r.once_in(4) => pair.format(limit(r)),
@@ -292,7 +293,7 @@ fn any_call() {
 fn damaged_images() {
     let tally = rounds(100, |r, tally| {
         let (image, blocks) = generate::image(r);
-        let mut pair = Pair { image: image.clone(), session: (PAPER.session_new)(0, 0), tally };
+        let mut pair = Pair { image: image.clone(), session: (PAPER.session_new)(Setup::PLAIN), tally };
         for _ in 0..20 {
             pair.image.copy_from_slice(&image);
             for _ in 0..1 + r.below(2) {
@@ -301,7 +302,7 @@ fn damaged_images() {
             pair.check();
             random_get(&mut pair, r);
             random_next(&mut pair, r);
-            if let Answer::Done(_) = pair.start_up(limit(r), 0, 0) {
+            if let Answer::Done(_) = pair.start_up(limit(r), Setup::PLAIN) {
                 random_get(&mut pair, r);
                 enumerate(&mut pair, r);
             }
@@ -319,7 +320,7 @@ fn stops() {
     let tally = rounds(200, |r, tally| {
         let blocks = if r.once_in(4) { 2 } else { 1 };
         let image = if r.once_in(2) { generate::filled(r, blocks) } else { generate::crafted(r, blocks) };
-        let mut pair = Pair { image, session: (PAPER.session_new)(1, 0), tally };
+        let mut pair = Pair { image, session: (PAPER.session_new)(Setup { custom: 1, reserve: 0 }), tally };
         pair.start_up_with_stops(r);
         for _ in 0..6 {
             let mut asked = generate::asked_on(r, &pair.image);
@@ -339,13 +340,13 @@ fn stops() {
 #[test]
 fn authenticated_names() {
     let tally = rounds(200, |r, tally| {
-        let mut pair = Pair { image: generate::empty(1), session: (PAPER.session_new)(0, 0), tally };
+        let mut pair = Pair { image: generate::empty(1), session: (PAPER.session_new)(Setup::PLAIN), tally };
         for _ in 0..60 {
             let mut asked = generate::asked(r);
             asked.attributes = r.pick(&[0x27, 0x27, 0x67, 0x23, 0]);
             let proper = generate::data(r, 40);
             asked.data = generate::signed(r, &proper);
-            pair.session.custom = r.pick(&[0, 0, 0, 1]);
+            pair.session.setup.custom = r.pick(&[0, 0, 0, 1]);
             pair.set(&asked, u64::MAX);
         }
     });
@@ -364,11 +365,11 @@ fn descriptors_at_each_field() {
         let bytes = generate::signed(&mut right, &proper);
         asked.data = bytes.clone();
         let mut image = generate::empty(1);
-        if matches!((PAPER.set)(Context::NO_LIMIT, &(PAPER.session_new)(0, 0), &mut image, &asked.request()), Answer::Done(_)) {
+        if matches!((PAPER.set)(Context::NO_LIMIT, &(PAPER.session_new)(Setup::PLAIN), &mut image, &asked.request()), Answer::Done(_)) {
             break bytes;
         }
     };
-    let mut pair = Pair { image: generate::empty(1), session: (PAPER.session_new)(0, 0), tally: &mut tally };
+    let mut pair = Pair { image: generate::empty(1), session: (PAPER.session_new)(Setup::PLAIN), tally: &mut tally };
     let mut try_data = |data: Vec<u8>| {
         pair.image = generate::empty(1);
         asked.data = data;
@@ -403,14 +404,14 @@ fn lengths() {
             if fits && length > 20 {
                 image[16..20].copy_from_slice(&((length / BLOCK / 2 * BLOCK) as u32).to_le_bytes());
             }
-            let mut pair = Pair { image, session: (PAPER.session_new)(0, 0), tally: &mut tally };
+            let mut pair = Pair { image, session: (PAPER.session_new)(Setup::PLAIN), tally: &mut tally };
             pair.check();
             random_get(&mut pair, &mut r);
             random_next(&mut pair, &mut r);
             for _ in 0..5 {
                 pair.set(&generate::asked(&mut r), u64::MAX);
             }
-            pair.start_up(u64::MAX, 3, 5000);
+            pair.start_up(u64::MAX, Setup { custom: 3, reserve: 5000 });
             for n in (0..=44).chain([u64::MAX]) {
                 pair.image.fill(0);
                 pair.format(n);
@@ -439,8 +440,8 @@ fn sessions() {
             }
             pair.lock(&generate::name(&mut r));
         }
-        let (custom, reserve) = (r.number() as u32 >> r.below(32), r.number() as u32 >> r.below(32));
-        same_session(&(PAPER.session_new)(custom, reserve), &(ENGINE.session_new)(custom, reserve));
+        let setup = Setup { custom: r.number() as u32 >> r.below(32), reserve: r.number() as u32 >> r.below(32) };
+        same_session(&(PAPER.session_new)(setup), &(ENGINE.session_new)(setup));
     }
     expect_seen(&tally, "lock", &["done without stores", "refused 3", "refused 15", "refused 16"]);
 }

@@ -8,7 +8,7 @@ use std::path::{Path, PathBuf};
 
 use common::same_bytes;
 use varstore::calls::{ENGINE, PAPER};
-use varstore::interface::Context;
+use varstore::interface::{Context, Setup};
 use varstore::paper;
 
 fn folder() -> PathBuf {
@@ -42,7 +42,7 @@ fn listed_and_started_up() {
         for limit in [0, 1, 2, 4096, 4098, u64::MAX] {
             let (mut ours, mut theirs) = (image.clone(), image.clone());
             let context = Context { limit };
-            let (here, there) = ((PAPER.start_up)(context, &mut ours, 0, 0), (ENGINE.start_up)(context, &mut theirs, 0, 0));
+            let (here, there) = ((PAPER.start_up)(context, &mut ours, Setup::PLAIN), (ENGINE.start_up)(context, &mut theirs, Setup::PLAIN));
             assert_eq!(here.answer, there.answer, "start-up from {file} with limit {limit}");
             same_bytes(&file, &ours, &theirs);
         }

@@ -15,7 +15,7 @@ use common::rounds::{once, rounds};
 use common::stored::Call;
 use common::{same_bytes, signed, A, B, NEW, OLD, RATE, VENDOR};
 use varstore::calls::{lent, Calls, Read, BOTH, ENGINE, PAPER};
-use varstore::interface::{Answer, Context, Key, Reply, Rule};
+use varstore::interface::{Answer, Context, Key, Reply, Rule, Setup};
 use varstore::paper::request::PK;
 use varstore::paper::Stores;
 use varstore::plan::Operation;
@@ -463,14 +463,14 @@ fn some_set(run: &mut Run, r: &mut Random) -> Call {
     let mut asked = generate::asked_on(r, &run.image);
     run.session = generate::session(r);
     if !r.once_in(4) {
-        run.session = (ENGINE.session_new)(1, 0);
+        run.session = (ENGINE.session_new)(Setup { custom: 1, reserve: 0 });
         asked.presence = 1;
     }
     Call::Set(asked)
 }
 
 fn some_start_up(r: &mut Random) -> Call {
-    Call::StartUp { custom: r.pick(&[0, 1, 2, u32::MAX]), reserve: r.pick(&[0, 1, 4096, 4097, u32::MAX]) }
+    Call::StartUp(Setup { custom: r.pick(&[0, 1, 2, u32::MAX]), reserve: r.pick(&[0, 1, 4096, 4097, u32::MAX]) })
 }
 
 /// An image as a done start-up left it, and its b.
@@ -481,7 +481,7 @@ fn some_image(r: &mut Random) -> (Vec<u8>, usize) {
         1 => generate::crafted(r, blocks),
         _ => generate::filled(r, blocks),
     };
-    match (ENGINE.start_up)(Context::NO_LIMIT, &mut image, 0, 0).answer {
+    match (ENGINE.start_up)(Context::NO_LIMIT, &mut image, Setup::PLAIN).answer {
         Answer::Done(_) => (image, blocks),
         _ => (generate::empty(blocks), blocks),
     }
@@ -542,7 +542,7 @@ fn any_call_of_a_run() {
     rounds(15, 200, |r| {
         let (image, blocks) = some_image(r);
         let mut former = generate::filled(r, blocks);
-        (PAPER.start_up)(Context::NO_LIMIT, &mut former, 0, 0);
+        (PAPER.start_up)(Context::NO_LIMIT, &mut former, Setup::PLAIN);
         let mut run = Run::new(image, former[..blocks * BLOCK].to_vec());
         for _ in 0..r.below(60) {
             if r.once_in(10) && (PAPER.check)(&run.image).answer == Answer::Done(0) {

@@ -18,7 +18,7 @@ use common::digest::{crc32, sha256};
 use common::generate::{Asked, Name};
 use common::stored::Call;
 use varstore::calls::{lent, Calls, BOTH, PAPER};
-use varstore::interface::{Answer, Context, Guid, Key, Reply, Rule, Session};
+use varstore::interface::{Answer, Context, Guid, Key, Reply, Rule, Session, Setup};
 use varstore::paper;
 
 /// The fields of one line, and where it stands.
@@ -102,7 +102,7 @@ struct Player {
 
 impl Player {
     fn new(calls: Calls) -> Player {
-        Player { calls, image: Vec::new(), session: (calls.session_new)(0, 0), slots: Default::default() }
+        Player { calls, image: Vec::new(), session: (calls.session_new)(Setup::PLAIN), slots: Default::default() }
     }
 
     fn run(&mut self, line: &Line) {
@@ -140,7 +140,7 @@ impl Player {
     }
 
     fn start_up(&mut self, line: &Line) {
-        self.store(line, &Call::StartUp { custom: line.number("custom"), reserve: line.number("reserve") });
+        self.store(line, &Call::StartUp(setup(line)));
     }
 
     fn store(&mut self, line: &Line, call: &Call) {
@@ -185,20 +185,23 @@ impl Player {
         line.expect_made("sha256", || sha256(&self.image));
         line.expect_made("crc32", || crc32(&self.image).to_string());
         line.expect("s_phase", &self.session.phase.to_string());
-        line.expect("s_custom", &self.session.custom.to_string());
-        line.expect("s_reserve", &self.session.reserve.to_string());
+        line.expect("s_custom", &self.session.setup.custom.to_string());
+        line.expect("s_reserve", &self.session.setup.reserve.to_string());
         line.expect("s_count", &self.session.count.to_string());
         line.expect("s_sizes", &self.session.sizes.map(|size| size.to_string()).join(","));
         line.expect_bytes("s_locks", &self.session.locks);
     }
 }
 
+fn setup(line: &Line) -> Setup {
+    Setup { custom: line.number("custom"), reserve: line.number("reserve") }
+}
+
 fn session(line: &Line) -> Session {
     let sizes: Vec<u32> = line.text("sizes").split(',').map(|size| size.parse().expect("a size")).collect();
     Session {
         phase: line.number("phase"),
-        custom: line.number("custom"),
-        reserve: line.number("reserve"),
+        setup: setup(line),
         count: line.number("count"),
         sizes: sizes.try_into().expect("16 sizes"),
         locks: line.bytes("locks").try_into().expect("2,304 bytes"),

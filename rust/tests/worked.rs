@@ -5,7 +5,7 @@ mod common;
 use common::{signed, A, B, NEW, OLD, RATE, VENDOR};
 use varstore::calls::{lent, Calls, BOTH};
 use varstore::engine;
-use varstore::interface::{Answer, Context, Key, Reply, Request, Rule, Session, AFTER_END_OF_DXE, RUNTIME};
+use varstore::interface::{Answer, Context, Key, Reply, Request, Rule, Session, Setup, AFTER_END_OF_DXE, RUNTIME};
 use varstore::paper::{self, request};
 use varstore::plan::{Content, Operation, Plan, OPERATIONS};
 
@@ -28,7 +28,7 @@ fn empty_stores() -> impl Iterator<Item = Station> {
         println!("implementation: {}", calls.who);
         let mut image = vec![0; 3 * 4096];
         assert_eq!((calls.format)(Context::NO_LIMIT, &mut image), Answer::Done(31));
-        Station { calls, session: (calls.session_new)(0, 0), image, verdict: 0 }
+        Station { calls, session: (calls.session_new)(Setup::PLAIN), image, verdict: 0 }
     })
 }
 
@@ -67,7 +67,7 @@ impl Station {
     }
 
     fn start_up(&mut self) -> Answer {
-        let started = (self.calls.start_up)(Context::NO_LIMIT, &mut self.image, 0, 0);
+        let started = (self.calls.start_up)(Context::NO_LIMIT, &mut self.image, Setup::PLAIN);
         self.session = started.session;
         started.answer
     }

@@ -15,6 +15,7 @@ use image::Check;
 use model::Answer;
 use model::Context;
 use model::Session;
+use model::Setup;
 use plan::HostPlan;
 
 // An answer in numbers: 0 done, 1 stopped, 2 refused; the rule if refused, else 0; the number of stores if done, else 0.
@@ -98,10 +99,10 @@ pub extern "C" fn vs_check(image: &[u8]) -> Checked
 }
 
 #[no_mangle]
-pub extern "C" fn vs_session_new(custom: u32, reserve: u32) -> Session
-    ensures { λ r. ⌜ r ≡ freshSession custom reserve ⌝ }
+pub extern "C" fn vs_session_new(setup: Setup) -> Session
+    ensures { λ r. ⌜ r ≡ freshSession setup ⌝ }
 {
-    Session::fresh(custom, reserve)
+    Session::fresh(setup)
 }
 
 #[no_mangle]
@@ -237,16 +238,15 @@ pub extern "C" fn vs_format(
 pub extern "C" fn vs_start_up(
     context: Context,
     image: &mut [u8],
-    custom: u32,
-    reserve: u32,
+    setup: Setup,
     content: &mut [u8; 28672],
 ) -> Started
     ensures { λ r. ⌜ (r .answer ≡ numbersOf (outcome (context .limit) (startUpPlan (now (image .entry)))))
-        × (r .session ≡ freshSession custom reserve)
+        × (r .session ≡ freshSession setup)
         × (now (image .exit) ≡ imageAfter (context .limit) (startUpPlan (now (image .entry))) (now (image .entry)))
         × Kept (startUpPlan (now (image .entry))) (now (content .entry)) (now (content .exit)) ⌝ }
 {
-    let started = engine::start::start_up(context, image, custom, reserve, content);
+    let started = engine::start::start_up(context, image, setup, content);
     let answer = started.answer;
     let session = started.session;
     Started {

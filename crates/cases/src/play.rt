@@ -22,6 +22,7 @@ use model::Context;
 use model::Got;
 use model::Named;
 use model::Session;
+use model::Setup;
 
 fn context(step: &[u8]) -> Context {
     let n = fields::long(step, 1);
@@ -56,7 +57,12 @@ fn start_up(step: &[u8], image: &mut [u8]) -> Session {
     let custom = fields::byte(step, 5) as u32;
     let reserve = fields::long(step, 6) as u32;
     let mut content = content();
-    let started = engine::start::start_up(context(step), image, custom, reserve, &mut content);
+    let started = engine::start::start_up(
+        context(step),
+        image,
+        Setup { custom, reserve },
+        &mut content,
+    );
     let answer = started.answer;
     print_answer(b"start-up", answer);
     started.session
@@ -247,7 +253,10 @@ fn asked_size(step: &[u8], size: usize) -> usize {
 
 // The steps of a script, over a buffer for the image.
 fn play_steps(script: &[u8], buffer: &mut [u8]) {
-    let mut s = Session::fresh(0, 0);
+    let mut s = Session::fresh(Setup {
+        custom: 0,
+        reserve: 0,
+    });
     let mut size: usize = 0;
     let mut at: usize = 0;
     while at < script.len() {

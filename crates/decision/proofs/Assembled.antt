@@ -123,11 +123,11 @@ module _ (s : Session) (q : Request) (r : List ℕ) (sounds : sound r ≡ true) 
   there = stands-some r old ∙ ap isSome value
 
   abbrev wanted : List ℕ
-  wanted = wantedBy (s .custom) (q .presence) (isSome (standing keyPK (entries r))) (requestKey q) (q .attributes) (stands old)
+  wanted = wantedBy (s .setup .custom) (q .presence) (isSome (standing keyPK (entries r))) (requestKey q) (q .attributes) (stands old)
 
   wanted-here : wantedVerdicts s q vs ≡ wanted
   wanted-here = wanted-plain s q vs
-      ∙ ap₂ (λ (m t : Bool). wantedBy (s .custom) (q .presence) m (requestKey q) (q .attributes) t) (sym (mode-standing r sounds)) (sym there)
+      ∙ ap₂ (λ (m t : Bool). wantedBy (s .setup .custom) (q .presence) m (requestKey q) (q .attributes) t) (sym (mode-standing r sounds)) (sym there)
 
   later-here : rule8 q ≡ false
       → onSome (find (requestKey q) vs) (λ v. not (later (stampToStore q) (v .stamp))) false ≡ notLater r old (stampOf (q .attributes) (q .bytes))

@@ -58,7 +58,7 @@ fn judge_standing(
 ) -> Judged
     ensures { λ r. ⌜ r ≡ judgedOf (firstBroken (standingBy (atRuntime s) attributes (now (bytes .entry)) old
         ++ verdictBy (now (region .entry)) old
-        (wantedBy (s .custom) presence (isSome (standing keyPK (entries (now (region .entry))))) (keyed (now (name .entry)) (now (vendor .entry))) attributes (stands old))
+        (wantedBy (s .setup .custom) presence (isSome (standing keyPK (entries (now (region .entry))))) (keyed (now (name .entry)) (now (vendor .entry))) attributes (stands old))
         verdict (stampOf attributes (now (bytes .entry))))) ⌝ }
 {
     let t = rules::standing(session::at_runtime(s.phase), attributes, bytes, old);
@@ -66,7 +66,7 @@ fn judge_standing(
         Judged::Kept => {
             let w = rules::wanted(
                 region,
-                s.custom,
+                s.setup.custom,
                 name,
                 vendor,
                 attributes,
@@ -116,7 +116,7 @@ fn judge(
             match t {
                 Judged::Breaks(rule) => Decision::Broken(rule),
                 Judged::Kept => {
-                    let reserve = session::reserved(s.phase, s.reserve);
+                    let reserve = session::reserved(s.phase, s.setup.reserve);
                     change::outcome(
                         region,
                         old,

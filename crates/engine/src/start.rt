@@ -8,6 +8,7 @@ ghost use Rattle.plan.specs.Planned.{Kept, Plans};
 use image::Start;
 use model::Context;
 use model::Session;
+use model::Setup;
 use model::Started;
 use plan::Planned;
 
@@ -24,18 +25,12 @@ pub fn plan_start_up(image: &[u8], content: &mut [u8; 28672]) -> Planned
 }
 
 // A start-up, planned, then carried out up to n: it is given custom mode and R and makes a fresh session, also when it is refused or stopped.
-pub fn start_up(
-    c: Context,
-    image: &mut [u8],
-    custom: u32,
-    reserve: u32,
-    content: &mut [u8; 28672],
-) -> Started
-    ensures { λ r. ⌜ Returned (book.startUp custom reserve) (c .limit) (now (image .entry)) (now (image .exit)) (r .answer)
-        × (r .session ≡ freshSession custom reserve)
+pub fn start_up(c: Context, image: &mut [u8], setup: Setup, content: &mut [u8; 28672]) -> Started
+    ensures { λ r. ⌜ Returned (book.startUp setup) (c .limit) (now (image .entry)) (now (image .exit)) (r .answer)
+        × (r .session ≡ freshSession setup)
         × Kept (startUpPlan (now (image .entry))) (now (content .entry)) (now (content .exit)) ⌝ }
 {
-    let session = Session::fresh(custom, reserve);
+    let session = Session::fresh(setup);
     let planned = plan_start_up(image, content);
     let answer = flash::carry_out(image, planned, content, c);
     Started { answer, session }

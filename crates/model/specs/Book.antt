@@ -6,6 +6,7 @@ use mathlib.Core.List.{List, [], _∷_}
 use lib.ListN.{length, getD}
 use lib.Dec.{eqb, leb, ltb}
 use lib.Bits.{bitAnd}
+use Rattle.model.specs.declared.Setup.{Setup}
 use Rattle.model.specs.declared.Session.{Session}
 use Rattle.model.specs.Lists.{any}
 use Rattle.model.specs.Image.{region, workAt}
@@ -25,28 +26,28 @@ pub data Call : Type 0 where
   set : Session → Request → Call
   get : Session → Key → List ℕ → Call
   next : Session → Key → List ℕ → Call
-  startUp : ℕ → ℕ → Call
+  startUp : Setup → Call
 
 -- what each is to do to an image
 unfoldable pub planOf : Call → List ℕ → Plan
 planOf (set s r) img = setPlan s r img
 planOf (get s k buffer) img = getPlan s k buffer img
 planOf (next s k buffer) img = nextPlan s k buffer img
-planOf (startUp custom reserve) img = startUpPlan img
+planOf (startUp setup) img = startUpPlan img
 
 -- arguments are bytes, a GUID is 16 of them
 abbrev pub Sized : Call → Type 0
 Sized (set s r) = Bytes (r .name) × Bytes (r .vendor) × (length (r .vendor) ≡ 16) × Bytes (r .bytes)
 Sized (get s k buffer) = Unit {0}
 Sized (next s k buffer) = Unit {0}
-Sized (startUp custom reserve) = Unit {0}
+Sized (startUp setup) = Unit {0}
 
 -- the book: "only a set that is done, or had that store complete, changes it"
 unfoldable pub entered : Call → List Value → List Value
 entered (set s r) book = step (changeIn r book) book
 entered (get s k buffer) book = book
 entered (next s k buffer) book = book
-entered (startUp custom reserve) book = book
+entered (startUp setup) book = book
 
 -- of a call that ran with n: done, or stopped with its deciding store complete
 abbrev pub counts : Outcome → Bool → Bool
@@ -91,7 +92,7 @@ abbrev pub Agrees : Call → ℕ → List ℕ → List Value → Type 0
 Agrees (set s r) n img book = Unit {0}
 Agrees (get s k buffer) n img book = Unit {0}
 Agrees (next s k buffer) n img book = Unit {0}
-Agrees (startUp custom reserve) n img book =
+Agrees (startUp setup) n img book =
     (stores : ℕ) → outcome n (startUpPlan img) ≡ done stores → valuesOf (imageAfter n (startUpPlan img) img) ≡ book
 
 -- "after every start-up in it that is done, the image's list of values equals the book as it then stands"
@@ -142,7 +143,7 @@ StatesClearOneBit (set s r) img =
     inPlace img (changeIn r (valuesOf img)) ≡ true → ClearsOne (isState img) (storesOf (setPlan s r img)) img
 StatesClearOneBit (get s k buffer) img = Unit {0}
 StatesClearOneBit (next s k buffer) img = Unit {0}
-StatesClearOneBit (startUp custom reserve) img = Unit {0}
+StatesClearOneBit (startUp setup) img = Unit {0}
 
 -- "Every change of state clears exactly one bit": every mark of a record, by any call, and of a state, by a set in place
 abbrev pub MarksClearOneBit : Type 0

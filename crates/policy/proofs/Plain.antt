@@ -55,7 +55,7 @@ stamp-plain r h = go (timeBased (r .attributes)) (rightDescriptor (r .bytes)) re
     go false d e h = refl
 
 pub wanted-plain : (s : Session) (r : Request) (vs : List Value)
-    → wantedVerdicts s r vs ≡ wantedBy (s .custom) (r .presence) (userMode vs) (requestKey r) (r .attributes) (isSome (find (requestKey r) vs))
+    → wantedVerdicts s r vs ≡ wantedBy (s .setup .custom) (r .presence) (userMode vs) (requestKey r) (r .attributes) (isSome (find (requestKey r) vs))
 unfolding wantedVerdicts wantedBy otherVerdicts otherVerdictsOf customMode
 wanted-plain s r vs = refl
 

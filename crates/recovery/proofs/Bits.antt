@@ -89,7 +89,7 @@ unfolding planOf storesOf getPlan nextPlan startUpPlan
 call-along img bytes (set s q) sized = set-along (isRecord img) s q img bytes sized (λ i j h l n. records-bare img .below j l) (λ h. records-bare img)
 call-along img bytes (get s k buffer) sized = unless-refused (isRecord img) img (getBroken s k buffer img) (make [] []) (λ e. tt)
 call-along img bytes (next s k buffer) sized = unless-refused (isRecord img) img (nextBroken s k buffer img) (make [] []) (λ e. tt)
-call-along img bytes (startUp custom reserve) sized =
+call-along img bytes (startUp setup) sized =
     unless-refused (isRecord img) img (startUpBroken img) (make [] (startUpStores img))
     (λ e. startUp-along (isRecord img) img (startUp-length img e) (startUp-ready img e) bytes (records-bare img))
 
@@ -122,4 +122,4 @@ marks-clear-one-bit img bytes c sized = (along-one (isRecord img) (storesOf (pla
         (set-along (isState img) s q img bytes sized (states-tailed img) (λ e. absurd (true≢false (sym h ∙ e))))
     states (get s k buffer) sized = tt
     states (next s k buffer) sized = tt
-    states (startUp custom reserve) sized = tt
+    states (startUp setup) sized = tt

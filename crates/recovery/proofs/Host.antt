@@ -112,7 +112,7 @@ none-decides : (K : List Value) (part : List ℕ) (c : Call) → Sized c → Hol
 unfolding planOf entered
 none-decides K part (get s key buffer) sized holds to on e h = refl
 none-decides K part (next s key buffer) sized holds to on e h = refl
-none-decides K part (startUp custom reserve) sized holds to on e h = refl
+none-decides K part (startUp setup) sized holds to on e h = refl
 none-decides K part (set s q) sized holds to on e h = go (setBroken s q part) refl
   where
     same-to : (to to′ on on′ : List Store) → make to on ≡ make to′ on′ → to ≡ to′
@@ -162,7 +162,7 @@ unfolding planOf
 told-of (set s r) part content p t = t
 told-of (get s k buffer) part content p t = t
 told-of (next s k buffer) part content p t = t
-told-of (startUp custom reserve) part content p t = t
+told-of (startUp setup) part content p t = t
 
 pub hosting-runs : (start : List ℕ) → StartedUp start → {part : List ℕ} {book : List Value} → Hosting start part book → Run start part book
 hosting-runs start st none-yet = begin

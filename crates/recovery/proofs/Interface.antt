@@ -44,7 +44,7 @@ unfolding planOf
 step-of (set s r) n img img′ a m = record { told = m .0; left = m .1 }
 step-of (get s k buffer) n img img′ a m = record { told = m .0; left = m .1 ∙ sym (get-image n s k buffer img) }
 step-of (next s k buffer) n img img′ a m = record { told = m .0; left = m .1 ∙ sym (next-image n s k buffer img) }
-step-of (startUp custom reserve) n img img′ a m = record { told = m .0; left = m .1 }
+step-of (startUp setup) n img img′ a m = record { told = m .0; left = m .1 }
 
 -- so the calls are a run
 pub calls-run : {start img : List ℕ} {book : List Value} → Calls start img book → Run start img book
@@ -61,7 +61,7 @@ calls-run {start} (returned {img} {img′} {book} calls c sized n a m) =
 calls-run (power-failed calls c sized k left) = cut (calls-run calls) c sized k left
 
 pub interface-keeps-the-book : InterfaceKeepsTheBook
-interface-keeps-the-book before start img img′ book custom reserve n stores custom′ reserve′ n′ stores′ bytes up calls again =
+interface-keeps-the-book before start img img′ book setup setup′ n stores n′ stores′ bytes up calls again =
     let began : StartedUp start = record { before = before; bytes = bytes; n = n; stores = stores; finished = sym (up .0); left = up .1 } in
-    let all = demand3 start _ _ began (ran (calls-run calls) (startUp custom′ reserve′) tt n′) in
+    let all = demand3 start _ _ began (ran (calls-run calls) (startUp setup′) tt n′) in
     ap valuesOf (again .1) ∙ all .1 stores′ (sym (again .0))

@@ -375,8 +375,8 @@ call-cut K img img′ (get s key buffer) sized holds k left =
 call-cut K img img′ (next s key buffer) sized holds k left =
     subst (λ (vs : List Value). Holding vs img′) (sym (book-same (next s key buffer) (decided k (nextPlan s key buffer img)) K refl))
     (unchanged K img img′ (storesOf (nextPlan s key buffer img)) k (next-stores s key buffer img) holds left)
-call-cut K img img′ (startUp custom reserve) sized holds k left =
-    subst (λ (vs : List Value). Holding vs img′) (sym (book-same (startUp custom reserve) (decided k (startUpPlan img)) K refl))
+call-cut K img img′ (startUp setup) sized holds k left =
+    subst (λ (vs : List Value). Holding vs img′) (sym (book-same (startUp setup) (decided k (startUpPlan img)) K refl))
     (startUp-cut K img img′ holds k left)
 
 refused-same : (c : Call) (n : ℕ) (rule : Rule) (K : List Value) → bookAfter c (decided n (refuse rule)) K ≡ bookAfter c (counts (outcome n (refuse rule)) (decided n (refuse rule))) K
@@ -404,7 +404,7 @@ counted : (K : List Value) (img : List ℕ) (c : Call) → Sized c → Holding K
 unfolding planOf entered
 counted K img (get s key buffer) sized holds n = book-same (get s key buffer) _ K refl ∙ sym (book-same (get s key buffer) _ K refl)
 counted K img (next s key buffer) sized holds n = book-same (next s key buffer) _ K refl ∙ sym (book-same (next s key buffer) _ K refl)
-counted K img (startUp custom reserve) sized holds n = book-same (startUp custom reserve) _ K refl ∙ sym (book-same (startUp custom reserve) _ K refl)
+counted K img (startUp setup) sized holds n = book-same (startUp setup) _ K refl ∙ sym (book-same (startUp setup) _ K refl)
 counted K img (set s q) sized holds n = go (setBroken s q img) refl
   where
     go : (o : Option Rule) → setBroken s q img ≡ o
@@ -447,7 +447,7 @@ agrees : (K : List Value) (img : List ℕ) → Holding K img → (c : Call) (n :
 agrees K img holds (set s q) n = tt
 agrees K img holds (get s key buffer) n = tt
 agrees K img holds (next s key buffer) n = tt
-agrees K img holds (startUp custom reserve) n = λ stores h. startUp-values K img holds n stores h
+agrees K img holds (startUp setup) n = λ stores h. startUp-values K img holds n stores h
 
 agrees-all : (start : List ℕ) → StartedUp start → {img : List ℕ} {book : List Value} → (r : Run start img book) → AgreesAll r
 agrees-all start st begin = tt

@@ -27,7 +27,7 @@ abbrev pub PlannedFor : Call → List ℕ → List ℕ → HostPlan → Type 0
 PlannedFor (set s r) part content p = Told (setPlan s r part) content p
 PlannedFor (get s k buffer) part content p = Told (getPlan s k buffer part) content p
 PlannedFor (next s k buffer) part content p = Told (nextPlan s k buffer part) content p
-PlannedFor (startUp custom reserve) part content p = StartUpPlanned part content p
+PlannedFor (startUp setup) part content p = StartUpPlanned part content p
 
 -- the part when all operations are carried out; after a refusal there are none, so it is as before
 abbrev pub carriedOut : List ℕ → HostPlan → List ℕ → List ℕ

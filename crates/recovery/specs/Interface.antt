@@ -2,6 +2,7 @@
 use Prim.Native.Nat.{ℕ}
 use mathlib.Core.Path.{_≡_}
 use mathlib.Core.List.{List}
+use Rattle.model.specs.declared.Setup.{Setup}
 use Rattle.model.specs.declared.Answer.{Answer}
 use Rattle.model.specs.declared.Answer.the-variants.{Done}
 use Rattle.model.specs.Entry.{Value}
@@ -18,7 +19,7 @@ abbrev pub Returned : Call → ℕ → List ℕ → List ℕ → Answer → Type
 Returned (set s r) n img img′ a = (answerOf a ≡ outcome n (setPlan s r img)) × (img′ ≡ imageAfter n (setPlan s r img) img)
 Returned (get s k buffer) n img img′ a = (answerOf a ≡ outcome n (getPlan s k buffer img)) × (img′ ≡ img)
 Returned (next s k buffer) n img img′ a = (answerOf a ≡ outcome n (nextPlan s k buffer img)) × (img′ ≡ img)
-Returned (startUp custom reserve) n img img′ a =
+Returned (startUp setup) n img img′ a =
     (answerOf a ≡ outcome n (startUpPlan img)) × (img′ ≡ imageAfter n (startUpPlan img) img)
 
 -- Calls one after the other on one image, each returned or cut by a power failure; beside them the book, from the calls' arguments and answers, and of a stopped or cut
@@ -47,9 +48,9 @@ pub data Calls (start : List ℕ) : List ℕ → List Value → Type 0 where
 -- however many of the calls were stopped or cut, a start-up that returns done leaves exactly the values of the book.
 abbrev pub InterfaceKeepsTheBook : Type 0
 InterfaceKeepsTheBook =
-    (before start img img′ : List ℕ) (book : List Value) (custom reserve n stores custom′ reserve′ n′ stores′ : ℕ)
+    (before start img img′ : List ℕ) (book : List Value) (setup setup′ : Setup) (n stores n′ stores′ : ℕ)
     → Bytes before
-    → Returned (startUp custom reserve) n before start (Done stores)
+    → Returned (startUp setup) n before start (Done stores)
     → Calls start img book
-    → Returned (startUp custom′ reserve′) n′ img img′ (Done stores′)
+    → Returned (startUp setup′) n′ img img′ (Done stores′)
     → valuesOf img′ ≡ book

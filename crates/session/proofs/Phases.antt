@@ -18,7 +18,7 @@ pub runtime-phase : (s : Session) → atRuntime s ≡ eqb (countedPhase (s .phas
 unfolding atRuntime
 runtime-phase s = refl
 
-pub reserved-numbers : (s : Session) → reserved s ≡ cond (eqb (countedPhase (s .phase)) 2) (countedReserve (s .reserve)) 0
+pub reserved-numbers : (s : Session) → reserved s ≡ cond (eqb (countedPhase (s .phase)) 2) (countedReserve (s .setup .reserve)) 0
 unfolding reserved atRuntime
 reserved-numbers s = refl
 

@@ -105,7 +105,7 @@ plan-stores img b t f = rw (plan-makes img b t f)
 records-clear : (img : List ℕ) (b : ℕ) (t : Bool) → Accepted img b t → Bytes img → (ss : List Store) → startUpStores img ≡ ss → ClearsOne (isRecord img) ss img
 unfolding planOf
 records-clear img b t f bytes ss e =
-    subst (λ (l : List Store). ClearsOne (isRecord img) l img) (plan-stores img b t f ∙ e) (marks-clear-one-bit img bytes (startUp 0 0) tt .0)
+    subst (λ (l : List Store). ClearsOne (isRecord img) l img) (plan-stores img b t f ∙ e) (marks-clear-one-bit img bytes (startUp (record { custom = 0; reserve = 0 })) tt .0)
 
 part-long : (at n : ℕ) (img : List ℕ) → at + n ≤ length img → length (part at n img) ≡ n
 part-long at n img h = length-take-le n (drop at img) (rw (length-drop at img) (omega arith))

@@ -10,7 +10,7 @@ use Rattle.model.specs.Answers.{done, outcome, storesOf}
 use Rattle.model.specs.Book.{Call, set, startUp, planOf}
 use Rattle.table.proofs.Pieces.{store, clear, flat}
 use Rattle.table.proofs.Runs.{resumption}
-use Rattle.table.proofs.Row.{Row, Holds, HoldAll, end, _and_, held, computed, refuses, unlimited, ff, zeros, header, headerOf, image, guid, rate, four, behindState, startId, rateHeader, rateEntry, setting, rateStands}
+use Rattle.table.proofs.Row.{Row, Holds, HoldAll, end, _and_, held, computed, refuses, unlimited, plain, ff, zeros, header, headerOf, image, guid, rate, four, behindState, startId, rateHeader, rateEntry, setting, rateStands}
 
 -- ---- a 3E entry alone is the value: 76 stores to replace it, 3E becomes 3C to delete it, an equal set stores nothing
 
@@ -256,7 +256,7 @@ allRecords-holds = held allRecords refl refl tt tt refl refl
 abbrev inPhase : ℕ → Call
 inPhase phase =
     set
-    (record { phase = phase; custom = 0; reserve = 1; count = 0; sizes = replicate 16 0; locks = replicate 2304 0 })
+    (record { phase = phase; setup = record { custom = 0; reserve = 1 }; count = 0; sizes = replicate 16 0; locks = replicate 2304 0 })
     (record { name = nameB; vendor = guid; attributes = 0x07; bytes = replicate 1892 0x22; presence = 0; verdict = 0 })
 
 abbrev reserveKept : Row
@@ -301,7 +301,7 @@ gapRefused-holds = held gapRefused refl refl tt tt refl refl
 abbrev gapErased : Row
 gapErased = record {
   image = gap;
-  call = startUp 0 0;
+  call = startUp plain;
   answer = done 1;
   stores = clear 1 ∷ [];
   left = rateStands;
@@ -317,7 +317,7 @@ gapErased-holds = held gapErased refl refl tt tt refl refl
 abbrev resumed : Row
 resumed = record {
   image = replicate 4096 0x00 ++ (0xF8 ∷ 0xFC ∷ []) ++ ff 4094 ++ (header ++ rateEntry 0x3E 0x64 ++ ff 3992);
-  call = startUp 0 0;
+  call = startUp plain;
   answer = done 4099;
   stores = clear 0
       ∷ store 0 (header ++ rateEntry 0x3E 0x64 ++ ff 3992)
@@ -346,7 +346,7 @@ tidied = record {
       ++ ff 4095
       ++ (0x00 ∷ [])
       ++ ff 8191;
-  call = startUp 0 0;
+  call = startUp plain;
   answer = done 16394;
   stores = clear 3
       ∷ clear 4

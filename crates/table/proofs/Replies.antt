@@ -10,7 +10,7 @@ use Rattle.model.specs.Session.{movedTo}
 use Rattle.model.specs.StartUp.{formatPlan}
 use Rattle.model.specs.Answers.{done, refused, outcome, storesOf, Reply, getReply, nextReply, lockOutcome, lockSession}
 use Rattle.table.proofs.Pieces.{store, clear, flat}
-use Rattle.table.proofs.Row.{computed, unlimited, boot, zeros, header, guid, rate, four, rateStands}
+use Rattle.table.proofs.Row.{computed, unlimited, plain, boot, zeros, header, guid, rate, four, rateStands}
 
 abbrev theRate : Key
 theRate = record { name = rate; vendor = guid }
@@ -64,8 +64,7 @@ namedAbsent = refl
 abbrev oneLock : ℕ → Session
 oneLock phase = record {
   phase = phase;
-  custom = 0;
-  reserve = 0;
+  setup = plain;
   count = 1;
   sizes = 10 ∷ zeros 15;
   locks = rate ++ zeros 118 ++ guid ++ zeros 2160;
@@ -91,8 +90,7 @@ lockLate = refl
 abbrev fullLocks : ℕ → Session
 fullLocks count = record {
   phase = 0;
-  custom = 0;
-  reserve = 0;
+  setup = plain;
   count = count;
   sizes = 10 ∷ zeros 15;
   locks = rate ++ zeros 118 ++ guid ++ zeros 2160;

@@ -6,6 +6,7 @@ use mathlib.Core.Path.{_≡_, ap, _∙_}
 use mathlib.Core.List.{List, [], _∷_, _++_}
 use lib.ListN.{length, replicate}
 use lib.Dec.{T, leb, leb→le}
+use Rattle.model.specs.declared.Setup.{Setup}
 use Rattle.model.specs.declared.Session.{Session}
 use Rattle.model.specs.Image.{region}
 use Rattle.model.specs.Region.{tailAt}
@@ -70,9 +71,13 @@ computed = tt
 
 -- ---- what the rows are made of; every byte is written out here, and none is taken from the definitions
 
--- boot phase, no custom mode, no reserve, no locks
+-- no custom mode, no reserve
+abbrev pub plain : Setup
+plain = record { custom = 0; reserve = 0 }
+
+-- boot phase, so set up, no locks
 abbrev pub boot : Session
-boot = record { phase = 0; custom = 0; reserve = 0; count = 0; sizes = replicate 16 0; locks = replicate 2304 0 }
+boot = record { phase = 0; setup = plain; count = 0; sizes = replicate 16 0; locks = replicate 2304 0 }
 
 abbrev pub ff : ℕ → List ℕ
 ff n = replicate n 0xFF

@@ -22,7 +22,7 @@ use Rattle.model.specs.Answers.{done, outcome, imageAfter, storesOf, decided}
 use Rattle.model.specs.Book.{Call, startUp, planOf, Sized, bookAfter, Run, begin, ran, cut, StartedUp, Demand3}
 use Rattle.model.proofs.Stores.{after-all, after-append}
 use Rattle.table.proofs.Pieces.{Piece, flat, laidAll, allInside, flat-laid}
-use Rattle.table.proofs.Row.{ff, zeros, header, image, guid, rateEntry, behindState, startId, setting}
+use Rattle.table.proofs.Row.{plain, ff, zeros, header, image, guid, rateEntry, behindState, startId, setting}
 
 abbrev isByte : ℕ → Bool
 isByte b = ltb b 256
@@ -80,7 +80,7 @@ pub lost : {start img : List ℕ}
     → Demand3
     → ⊥
 lost started run n stores finished left same other demand =
-    other (ap valuesOf (sym same) ∙ demand _ _ _ started (ran run (startUp 0 0) tt n) .1 stores finished)
+    other (ap valuesOf (sym same) ∙ demand _ _ _ started (ran run (startUp plain) tt n) .1 stores finished)
 
 -- what follows a resumption is judged on the image that it leaves, found by laying its pieces over the image before
 pub resumption : (img : List ℕ) (ps : List Piece)

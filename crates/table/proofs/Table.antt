@@ -7,7 +7,7 @@ use lib.ListN.{replicate}
 use Rattle.model.specs.Answers.{done}
 use Rattle.model.specs.Book.{Call, set, startUp}
 use Rattle.table.proofs.Pieces.{store, clear}
-use Rattle.table.proofs.Row.{Row, Holds, HoldAll, end, _and_, held, computed, refuses, boot, ff, zeros, header, image, empty, guid, rate, four, behindState, startId, rateHeader, rateEntry, setting, rateStands}
+use Rattle.table.proofs.Row.{Row, Holds, HoldAll, end, _and_, held, computed, refuses, plain, boot, ff, zeros, header, image, empty, guid, rate, four, behindState, startId, rateHeader, rateEntry, setting, rateStands}
 
 -- ---- "New: 75 stores; entry 28 to 104 with padding."
 
@@ -368,7 +368,7 @@ laterStamp-holds = held laterStamp refl refl tt tt refl refl
 abbrev closedWork : Row
 closedWork = record {
   image = (header ++ rateEntry 0x3F 0x64 ++ ff 3992) ++ (0xF8 ∷ 0xFC ∷ []) ++ ff 8190;
-  call = startUp 0 0;
+  call = startUp plain;
   answer = done 1;
   stores = clear 1 ∷ [];
   left = rateStands;

@@ -10,7 +10,7 @@ use std::hint::black_box;
 use std::time::{Duration, Instant};
 
 use varstore::calls::{Calls, ENGINE, PAPER};
-use varstore::interface::{Answer, Context, Guid, Key, Request, Rule, Session};
+use varstore::interface::{Answer, Context, Guid, Key, Request, Rule, Session, Setup};
 use varstore::paper::entry::{self, Contents, GONE, STATE};
 use varstore::paper::region;
 
@@ -35,7 +35,7 @@ struct Case {
 
 impl Case {
     fn desk(&self) -> Desk {
-        Desk { session: (PAPER.session_new)(0, 0), image: self.image.clone(), buffer: [0; 2048] }
+        Desk { session: (PAPER.session_new)(Setup::PLAIN), image: self.image.clone(), buffer: [0; 2048] }
     }
 
     fn prepare(&self, desk: &mut Desk) {

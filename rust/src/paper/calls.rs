@@ -8,7 +8,7 @@ use super::rules::{of_the_call, of_the_change, of_what_stands, ready};
 use super::session::{is_runtime, session_new};
 use super::stores::{clearing, compaction, deletion, formatting, in_tail, resumption, Stores, Wanting};
 use super::work;
-use crate::interface::{Answer, Checked, Context, Key, Reply, Request, Rule, Session, Started};
+use crate::interface::{Answer, Checked, Context, Key, Reply, Request, Rule, Session, Setup, Started};
 
 /// Whether a call may use the image: rules 1 and 2.
 pub fn check(image: &[u8]) -> Checked {
@@ -119,9 +119,9 @@ pub fn format_stores(image: &[u8]) -> Result<Stores, Rule> {
 }
 
 /// Finishes what a power cut has left, and makes a fresh session. Rules 1 and 2.
-pub fn start_up(context: Context, image: &mut [u8], custom: u32, reserve: u32) -> Started {
+pub fn start_up(context: Context, image: &mut [u8], setup: Setup) -> Started {
     let answer = made(start_up_stores(image), context, image);
-    Started { answer, session: session_new(custom, reserve) }
+    Started { answer, session: session_new(setup) }
 }
 
 pub fn start_up_stores(image: &[u8]) -> Result<Stores, Rule> {

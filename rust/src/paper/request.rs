@@ -41,7 +41,7 @@ const BY_CREATOR: u32 = 4;
 pub fn wanted(session: &Session, region: &[u8], request: &Request, value: Option<&Entry>) -> &'static [u32] {
     let user_mode = || region::find(region, PK).value().is_some();
     match key_name(request.key) {
-        Some(_) if session.custom != 0 && request.presence != 0 => &[],
+        Some(_) if session.setup.custom != 0 && request.presence != 0 => &[],
         Some(KeyName::Pk) if user_mode() => &[BY_PK],
         Some(KeyName::Pk) => &[BY_PAYLOAD],
         Some(KeyName::Kek) if user_mode() => &[BY_PK],

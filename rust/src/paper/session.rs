@@ -1,17 +1,16 @@
 //! Session: phase, custom mode, run-time reserve and the lock list, by value.
 
 use super::entry::well_formed;
-use crate::interface::{Answer, Key, Listed, Rule, Session, BOOT, PLACE, PLACES, RUNTIME};
+use crate::interface::{Answer, Key, Listed, Rule, Session, Setup, BOOT, PLACE, PLACES, RUNTIME};
 
 const MOST_RESERVE: u32 = 4096;
 const VENDOR_IN_PLACE: usize = 128;
 
 /// A start-up's fresh session: boot, no locks, list bytes zero. R above 4,096 is kept as 4,096.
-pub fn session_new(custom: u32, reserve: u32) -> Session {
+pub fn session_new(setup: Setup) -> Session {
     Session {
         phase: BOOT,
-        custom: (custom != 0) as u32,
-        reserve: reserve.min(MOST_RESERVE),
+        setup: Setup { custom: (setup.custom != 0) as u32, reserve: setup.reserve.min(MOST_RESERVE) },
         count: 0,
         sizes: [0; PLACES],
         locks: [0; PLACES * PLACE],
@@ -75,7 +74,7 @@ pub fn is_runtime(session: &Session) -> bool {
 /// R, which counts at runtime only; above 4,096 it counts as 4,096.
 pub fn reserve(session: &Session) -> usize {
     if is_runtime(session) {
-        session.reserve.min(MOST_RESERVE) as usize
+        session.setup.reserve.min(MOST_RESERVE) as usize
     } else {
         0
     }

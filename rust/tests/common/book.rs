@@ -2,7 +2,7 @@
 
 use super::generate::Name;
 use varstore::calls::Calls;
-use varstore::interface::{Answer, Context, Key, Request, Session, RUNTIME};
+use varstore::interface::{Answer, Context, Key, Request, Session, Setup, RUNTIME};
 use varstore::paper::image::Parts;
 use varstore::paper::region;
 
@@ -83,7 +83,7 @@ impl Book {
 
     /// Panics unless an implementation's next-name and get list these values, in this order and no others.
     pub fn check_listed(&self, calls: &Calls, image: &[u8]) {
-        let session = (calls.session_new)(0, 0);
+        let session = (calls.session_new)(Setup::PLAIN);
         let mut last = Name { name: vec![0, 0], vendor: [0; 16] };
         for value in &self.values {
             let mut buffer = [0xA5; 144];

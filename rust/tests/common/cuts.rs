@@ -7,12 +7,12 @@ use super::random::Random;
 use super::same_bytes;
 use super::stored::{carry_out, Call};
 use varstore::calls::{lent, ENGINE};
-use varstore::interface::{Answer, Context, Rule, Session};
+use varstore::interface::{Answer, Context, Rule, Session, Setup};
 use varstore::paper::region::header;
 use varstore::paper::work::{BEGUN, SPARE_COMPLETE, UNUSED};
 use varstore::paper::{self, Store, Stores};
 
-pub const START_UP: Call = Call::StartUp { custom: 0, reserve: 0 };
+pub const START_UP: Call = Call::StartUp(Setup::PLAIN);
 
 /// How the stores of a call reach the image: the engine makes them, or it plans them and a host carries them out.
 #[derive(Clone, Copy, PartialEq, Eq, Debug)]
@@ -144,7 +144,7 @@ pub struct Run {
 impl Run {
     /// Begins on an image as a done start-up left it.
     pub fn new(image: Vec<u8>, former: Vec<u8>) -> Run {
-        let session = (ENGINE.session_new)(0, 0);
+        let session = (ENGINE.session_new)(Setup::PLAIN);
         Run { way: Way::Called, book: Book::of(&image), image, session, former, cuts: vec![] }
     }
 
@@ -174,8 +174,8 @@ impl Run {
         if let (Call::Set(asked), true) = (call, decided) {
             self.book.set(&asked.request());
         }
-        if let Call::StartUp { custom, reserve } = *call {
-            assert!(self.session == paper::session_new(custom, reserve), "a start-up's session is fresh");
+        if let Call::StartUp(setup) = *call {
+            assert!(self.session == paper::session_new(setup), "a start-up's session is fresh");
         }
         answer
     }

@@ -3,7 +3,7 @@
 
 use super::random::Random;
 use varstore::calls::PAPER;
-use varstore::interface::{Answer, Context, Guid, Key, Request, Session, PLACE, PLACES};
+use varstore::interface::{Answer, Context, Guid, Key, Request, Session, Setup, PLACE, PLACES};
 use varstore::paper::image::Parts;
 use varstore::paper::region::{self, values};
 use varstore::paper::request::{DB, DBT, DBX, KEK, PK};
@@ -200,10 +200,10 @@ pub fn asked_on(r: &mut Random, image: &[u8]) -> Asked {
 
 /// Any session: counts above 16, sizes above 128, phases above 2, reserves above 4,096.
 pub fn session(r: &mut Random) -> Session {
-    let mut session = (PAPER.session_new)(0, 0);
+    let mut session = (PAPER.session_new)(Setup::PLAIN);
     session.phase = r.pick(&[0, 0, 0, 1, 1, 2, 2, 3, 0x100, u32::MAX]);
-    session.custom = r.pick(&[0, 0, 0, 1, 2, 0x100, u32::MAX]);
-    session.reserve = r.pick(&[0, 0, 1, 100, 2000, 4095, 4096, 4097, 0x1_0000, u32::MAX]);
+    session.setup.custom = r.pick(&[0, 0, 0, 1, 2, 0x100, u32::MAX]);
+    session.setup.reserve = r.pick(&[0, 0, 1, 100, 2000, 4095, 4096, 4097, 0x1_0000, u32::MAX]);
     session.count = r.pick(&[0, 0, 1, 2, 3, 15, 16, 17, 0x100, 0x1_0000, u32::MAX]);
     for place in 0..PLACES {
         let locked = name(r);
@@ -240,13 +240,13 @@ pub fn empty(blocks: usize) -> Vec<u8> {
 pub fn filled(r: &mut Random, blocks: usize) -> Vec<u8> {
     let mut image = empty(blocks);
     for _ in 0..r.below(30 * blocks) {
-        let session = (PAPER.session_new)(r.below(2) as u32, 0);
+        let session = (PAPER.session_new)(Setup { custom: r.below(2) as u32, reserve: 0 });
         let mut asked = asked(r);
         asked.presence = 1;
         let limit = if r.once_in(10) { r.below(300) as u64 } else { u64::MAX };
         (PAPER.set)(Context { limit }, &session, &mut image, &asked.request());
         if r.once_in(10) {
-            (PAPER.start_up)(Context::NO_LIMIT, &mut image, 0, 0);
+            (PAPER.start_up)(Context::NO_LIMIT, &mut image, Setup::PLAIN);
         }
     }
     image

@@ -3,14 +3,14 @@
 use super::generate::Asked;
 use varstore::calls::Calls;
 use varstore::engine;
-use varstore::interface::{Answer, Context, Rule, Session};
+use varstore::interface::{Answer, Context, Rule, Session, Setup};
 use varstore::paper::{self, Store, Stores};
 use varstore::plan::{Content, Plan};
 
 #[derive(Clone, Debug)]
 pub enum Call {
     Set(Asked),
-    StartUp { custom: u32, reserve: u32 },
+    StartUp(Setup),
     Format,
 }
 
@@ -19,7 +19,7 @@ impl Call {
     pub fn stores(&self, session: &Session, image: &[u8]) -> Result<Stores, Rule> {
         match self {
             Call::Set(asked) => paper::set_stores(session, image, &asked.request()),
-            Call::StartUp { .. } => paper::start_up_stores(image),
+            Call::StartUp(_) => paper::start_up_stores(image),
             Call::Format => paper::format_stores(image),
         }
     }
@@ -28,8 +28,8 @@ impl Call {
     pub fn by(&self, calls: &Calls, context: Context, session: &Session, image: &mut [u8]) -> (Answer, Session) {
         match *self {
             Call::Set(ref asked) => ((calls.set)(context, session, image, &asked.request()), *session),
-            Call::StartUp { custom, reserve } => {
-                let started = (calls.start_up)(context, image, custom, reserve);
+            Call::StartUp(setup) => {
+                let started = (calls.start_up)(context, image, setup);
                 (started.answer, started.session)
             }
             Call::Format => ((calls.format)(context, image), *session),
@@ -40,8 +40,8 @@ impl Call {
     pub fn by_engine(&self, context: Context, session: &Session, image: &mut [u8], content: &mut Content) -> (Answer, Session) {
         match *self {
             Call::Set(ref asked) => (engine::set(context, session, image, &asked.request(), content), *session),
-            Call::StartUp { custom, reserve } => {
-                let started = engine::start_up(context, image, custom, reserve, content);
+            Call::StartUp(setup) => {
+                let started = engine::start_up(context, image, setup, content);
                 (started.answer, started.session)
             }
             Call::Format => (engine::format(context, image, content), *session),
@@ -52,7 +52,7 @@ impl Call {
     pub fn plan(&self, session: &Session, image: &[u8], content: &mut Content) -> Result<Plan, Rule> {
         match self {
             Call::Set(asked) => engine::plan_set(session, image, &asked.request(), content),
-            Call::StartUp { .. } => engine::plan_start_up(image, content),
+            Call::StartUp(_) => engine::plan_start_up(image, content),
             Call::Format => engine::plan_format(image, content),
         }
     }
@@ -60,7 +60,7 @@ impl Call {
     /// The session of a host that has planned the call: a start-up's is a new one.
     pub fn planned_session(&self, session: &Session) -> Session {
         match *self {
-            Call::StartUp { custom, reserve } => engine::session_new(custom, reserve),
+            Call::StartUp(setup) => engine::session_new(setup),
             _ => *session,
         }
     }

@@ -49,7 +49,7 @@ returns c =
     let a = c .before .before .before .before .before .before .before .before .before .before .before .before .args in
     let r = now (a .region) in
     let k = keyed (now (a .name)) (now (a .vendor)) in
-    let wanted : Bool → List ℕ = λ t. wantedBy (a .s .custom) (a .presence) (isSome (standing keyPK (entries r))) k (a .attributes) t in
+    let wanted : Bool → List ℕ = λ t. wantedBy (a .s .setup .custom) (a .presence) (isSome (standing keyPK (entries r))) k (a .attributes) t in
     let front = standingBy (atRuntime (a .s)) (a .attributes) (now (a .bytes)) (a .old) in
     let back = verdictBy r (a .old) (wanted (stands (a .old))) (a .verdict) (stampOf (a .attributes) (now (a .bytes))) in
     let same = ap (λ (t : Bool). judgedOf (firstBroken (standingBy t (a .attributes) (now (a .bytes)) (a .old)))) (runtime-phase (a .s) ∙ sym (c .before .before .before .before .before .before .before .before .at-runtime .ensures)) in
@@ -63,7 +63,7 @@ returns-2 c =
     let r = now (a .region) in
     let k = keyed (now (a .name)) (now (a .vendor)) in
     let front = standingBy (atRuntime (a .s)) (a .attributes) (now (a .bytes)) (a .old) in
-    let back = verdictBy r (a .old) (wantedBy (a .s .custom) (a .presence) (isSome (standing keyPK (entries r))) k (a .attributes) (stands (a .old))) (a .verdict) (stampOf (a .attributes) (now (a .bytes))) in
+    let back = verdictBy r (a .old) (wantedBy (a .s .setup .custom) (a .presence) (isSome (standing keyPK (entries r))) k (a .attributes) (stands (a .old))) (a .verdict) (stampOf (a .attributes) (now (a .bytes))) in
     let same = ap (λ (t : Bool). judgedOf (firstBroken (standingBy t (a .attributes) (now (a .bytes)) (a .old)))) (runtime-phase (a .s) ∙ sym (c .before .before .before .at-runtime .ensures)) in
     let told = c .enum-told2 .given in
     told .1 ∙ sym (after-breaks front back (told .0 .0) (same ∙ sym (c .before .before .standing .ensures) ∙ told .1))
