@@ -1,0 +1,119 @@
+"""A reader of images that follows document 01, "Flash image" and rules 1 and 2, sentence by sentence; nothing in it comes from the store's own code."""
+import struct
+
+BLOCK = 4096
+SIGNATURE = bytes.fromhex("782CF3AA7B949A43A1802E144EC37792")
+HEADER = 28
+ENTRY = 60
+STATES = (0xFF, 0x7F, 0x3F, 0x3E, 0x3D, 0x3C)
+RECORDS = (0xFF, 0xFE, 0xFC, 0xF8)
+
+
+def is_blank(part):
+    """every byte is FF"""
+    return part.count(0xFF) == len(part)
+
+
+def blocks_of(length):
+    """b, or None: "The image length is not 4,096 × (2b + 1) with b from 1 to 7." """
+    for b in range(1, 8):
+        if length == BLOCK * (2 * b + 1):
+            return b
+    return None
+
+
+def right_header(region):
+    """signature, size u32 = L, format 5A, state FE, then six zero bytes"""
+    return region[:HEADER] == SIGNATURE + struct.pack("<I", len(region)) + b"\x5A\xFE" + bytes(6)
+
+
+class Entry:
+    def __init__(self, region, at):
+        (start, self.state, _zero, self.attributes, _count, self.stamp, _key, self.name_size, self.data_size,
+         self.vendor) = struct.unpack_from("<HBBIQ16sIII16s", region, at)
+        self.begins = start == 0x55AA
+        # "FF header unfinished (the entry counts as 60 bytes)"; Python's numbers do not wrap
+        self.end = at + ENTRY if self.state == 0xFF else at + ENTRY + self.name_size + self.data_size
+        self.name = region[at + ENTRY:at + ENTRY + self.name_size]
+        self.next = (self.end + 3) // 4 * 4
+
+    def is_live(self):
+        return self.state in (0x3F, 0x3E)
+
+    def key(self):
+        return self.name, self.vendor
+
+
+def walk(region):
+    """"The walk starts at 28 and stops where under 60 bytes remain or no start id is found; the rest is the tail." """
+    entries, at = [], HEADER
+    while at + ENTRY <= len(region):
+        entry = Entry(region, at)
+        if not entry.begins:
+            break
+        entries.append(entry)
+        at = entry.next
+    return entries, at
+
+
+def well_named(name):
+    """"A name is UTF-16, 1 to 63 characters and a zero character: 4 to 128 bytes, even, no earlier zero." """
+    if len(name) % 2 or not 4 <= len(name) <= 128:
+        return False
+    characters = struct.unpack("<%dH" % (len(name) // 2), name)
+    return characters[-1] == 0 and 0 not in characters[:-1]
+
+
+def is_sound(region, entries):
+    if not right_header(region):
+        return False
+    for e in entries:
+        if e.state not in STATES:
+            return False
+        if e.state != 0xFF and e.end > len(region):
+            return False
+        if e.is_live():
+            if not well_named(e.name) or not 1 <= e.data_size <= 2048 or e.attributes not in (0x03, 0x07, 0x23, 0x27):
+                return False
+    for state in (0x3F, 0x3E):
+        keys = [e.key() for e in entries if e.state == state]
+        if len(set(keys)) != len(keys):
+            return False
+    return True
+
+
+def is_clean(region):
+    entries, tail = walk(region)
+    return is_sound(region, entries) and is_blank(region[tail:])
+
+
+def is_idle(work):
+    """well formed, and not ending in FC"""
+    records, rest = work[:64], work[64:]
+    used = records.rstrip(b"\xFF")
+    return (is_blank(rest)
+            and all(r in RECORDS for r in records)
+            and 0xFF not in used        # "no used record after an unused one"
+            and 0xFC not in used)       # in the last used it would end in FC, before that it is not well formed
+
+
+def values_of(entries):
+    """"A name's value is its 3F entry, else its 3E entry." In flash order."""
+    added = {e.key() for e in entries if e.state == 0x3F}
+    return [e for e in entries if e.state == 0x3F or (e.state == 0x3E and e.key() not in added)]
+
+
+def varlist(image):
+    b = blocks_of(len(image))
+    if b is None:
+        return "refused 1\n"
+    region, work, spare = image[:BLOCK * b], image[BLOCK * b:BLOCK * (b + 1)], image[BLOCK * (b + 1):]
+    # "A call finds the region not clean, the spare not all FF, or the work block not well formed or ending in FC"
+    if not (is_clean(region) and is_blank(spare) and is_idle(work)):
+        return "refused 2\n"
+    entries, tail = walk(region)
+    values = values_of(entries)
+    lines = ["region %d used %d live %d" % (len(region), tail, len(values))]
+    for e in values:
+        lines.append("%s %s %02X %d" % (e.vendor.hex().upper(), e.name.hex().upper(), e.attributes, e.data_size))
+    return "\n".join(lines) + "\n"
