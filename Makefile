@@ -1,6 +1,6 @@
 # make test: the gate. Every step's output is printed; the last line is rt ci's own tally, and the exit status is non-zero if any step failed.
 .SILENT:
-.PHONY: demo test check fmt lib host host-test stack rust-test soak bench
+.PHONY: demo test check fmt lib host host-test stack rust-test soak bench efi interop volume-test
 
 CC = cc
 CFLAGS = -std=c11 -O2 -Wall -Wextra -Werror
@@ -53,6 +53,23 @@ soak: $(LIB)
 # the engine against the second implementation: time and instruction counts, as ratios
 bench: $(LIB)
 	tools/bench
+
+# the library inside a firmware, under its timer interrupts: EDK II's OVMF in qemu; first it says which packages are missing
+efi:
+	tools/efi --packages
+	$(MAKE) -s lib
+	tools/efi
+
+# variables from the library to OVMF and back; first it says which packages are missing
+interop:
+	tools/interop --packages
+	$(MAKE) -s lib
+	rt check varlist
+	tools/interop
+
+# tools/volume on volumes that the test makes
+volume-test:
+	tools/volume-test
 
 # prove what has changed, and run the programs
 check:

@@ -1,0 +1,112 @@
+"""EDK II's firmware for a virtual machine: what tools/efi and tools/interop run on.
+
+A machine is started with a disk of files and a volume of variables, without display or network, and is to turn itself off. What it writes to its serial port is
+read while it runs, without the terminal's control sequences.
+"""
+import os
+import re
+import shutil
+import subprocess
+import sys
+import time
+
+ROOT = os.path.dirname(os.path.dirname(os.path.abspath(__file__)))
+TARGET = os.path.join(ROOT, "target")
+LIBRARY = os.path.join(TARGET, "staticlib", "libcapi.a")
+# code and blank variables of one build
+BUILDS = [(folder + code, folder + variables) for folder in ("/usr/share/OVMF/", "/usr/share/edk2/ovmf/", "/usr/share/edk2/x64/")
+          for code, variables in (("OVMF_CODE_4M.fd", "OVMF_VARS_4M.fd"), ("OVMF_CODE.fd", "OVMF_VARS.fd"))]
+# what is looked for, and the Debian package that has it
+PROGRAMS = {"qemu-system-x86_64": "qemu-system-x86", "mformat": "mtools", "mcopy": "mtools", "cc": "gcc", "objcopy": "binutils"}
+
+
+class Refused(Exception):
+    """the run cannot be made"""
+
+
+def firmware():
+    """code and blank variables, or None"""
+    return next((build for build in BUILDS if all(os.path.exists(path) for path in build)), None)
+
+
+def look(more=()):
+    """refuses with the names of all packages that are missing; `more` has further (file, package)"""
+    missing = {package for program, package in PROGRAMS.items() if shutil.which(program) is None}
+    missing |= {package for path, package in more if not os.path.exists(path)}
+    if firmware() is None:
+        missing.add("ovmf")
+    if missing:
+        raise Refused("install first: %s (the names are Debian's)" % ", ".join(sorted(missing)))
+
+
+def do(*command):
+    """a program that must succeed; its output"""
+    ended = subprocess.run(command, stdout=subprocess.PIPE, stderr=subprocess.PIPE)
+    if ended.returncode:
+        raise Refused("%s: status %d\n%s" % (" ".join(command), ended.returncode, (ended.stdout + ended.stderr).decode(errors="replace")))
+    return ended.stdout
+
+
+def disk(path, files):
+    """a FAT disk of 32 MiB with files by name, EFI/BOOT/BOOTX64.EFI among them or not"""
+    if os.path.exists(path):
+        os.remove(path)
+    do("mformat", "-C", "-i", path, "-T", "65536", "-h", "16", "-s", "63", "::")
+    made = set()
+    for name, source in files.items():
+        folders = name.split("/")[:-1]
+        for i in range(len(folders)):
+            folder = "/".join(folders[:i + 1])
+            if folder not in made:
+                made.add(folder)
+                do("mmd", "-i", path, "::/" + folder)
+        do("mcopy", "-i", path, source, "::/" + name)
+
+
+def from_disk(path, name):
+    return do("mcopy", "-n", "-i", path, "::/" + name, "-")
+
+
+def plain(serial):
+    """the text of what a terminal was sent"""
+    text = re.sub(rb"\x1b\[[0-9;?=]*[A-Za-z]", b"", serial).decode("ascii", errors="replace")
+    return re.sub(r"[ \t]+\n", "\n", text.replace("\r", "\n"))
+
+
+def run(folder, the_disk, variables, seconds, code=None):
+    """starts the machine and waits until it is off; returns the text of its serial port, whether it turned itself off, and the seconds that it took"""
+    serial = os.path.join(folder, "serial")
+    open(serial, "wb").close()
+    command = ["qemu-system-x86_64", "-accel", "tcg", "-machine", "q35", "-m", "256", "-display", "none", "-monitor", "none", "-nodefaults",
+               "-net", "none", "-no-reboot", "-serial", "file:" + serial,
+               "-drive", "if=pflash,format=raw,unit=0,readonly=on,file=" + (code or firmware()[0]), "-drive", "if=pflash,format=raw,unit=1,file=" + variables,
+               "-drive", "format=raw,file=" + the_disk]
+    began = time.monotonic()
+    with open(os.path.join(folder, "qemu"), "wb") as log:
+        machine = subprocess.Popen(command, stdin=subprocess.DEVNULL, stdout=log, stderr=log)
+        try:
+            off = False
+            while not off and time.monotonic() - began < seconds:
+                try:
+                    machine.wait(timeout=1)
+                    off = True
+                except subprocess.TimeoutExpired:
+                    # the firmware reports an exception and stands still
+                    if b"Exception Type" in open(serial, "rb").read():
+                        break
+        finally:
+            if machine.poll() is None:
+                machine.kill()
+                machine.wait()
+    if off and machine.returncode:
+        raise Refused("qemu: status %d\n%s" % (machine.returncode, open(os.path.join(folder, "qemu")).read()))
+    return plain(open(serial, "rb").read()), off, time.monotonic() - began
+
+
+def main(work):
+    """a tool's end: 0 passed, 1 failed, 2 could not be run"""
+    try:
+        sys.exit(work())
+    except Refused as why:
+        print("%s: %s" % (os.path.basename(sys.argv[0]), why), file=sys.stderr)
+        sys.exit(2)
