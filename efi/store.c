@@ -16,6 +16,7 @@
 enum { LONGEST = 2 * (VS_LARGEST_DATA + 256) };
 
 static const vs_context no_limit = {VS_NO_LIMIT};
+static const vs_setup setup = {0, 0}; /* no custom mode, no reserve */
 static uint8_t image[VS_LARGEST_IMAGE + 1], content[VS_CONTENT];
 
 static void fail(const char *why)
@@ -133,7 +134,7 @@ int main(int argc, char **argv)
         fail("usage: store IMAGE [BLOCKS]");
     }
     size_t length = argc == 3 ? format((unsigned)atoi(argv[2])) : read_image(argv[1]);
-    vs_started started = vs_start_up(no_limit, image, length, 0, 0, content);
+    vs_started started = vs_start_up(no_limit, image, length, setup, content);
     if (started.answer.kind != VS_DONE) {
         fail("the start-up is refused");
     }
