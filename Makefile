@@ -14,10 +14,10 @@ test:
 
 # prove the library and varlist, list a sample store, and play power cuts in a compaction
 demo:
-	rt check varlist
-	$(MAKE) -s lib
+	tools/progress target/varlist.log rt check varlist
+	tools/progress target/lib.log $(MAKE) -s lib
 	echo
-	target/bin/varlist <crates/varlist/stdin
+	tools/varlist crates/varlist/stdin
 	echo
 	$(MAKE) -s host
 	target/host
