@@ -10,7 +10,7 @@ use lib.ListN.{length, drop, length-append}
 use lib.Seq.{sets-eq, length-sets}
 use borrow.Author.Tests.{le-leb, lt-leb, leb-true}
 use Rattle.model.specs.Image.{block, region}
-use Rattle.model.specs.Entry.{Value, keyOf, entrySize, entryBytes}
+use Rattle.model.specs.Entry.{Value, keyOf, rounded, entrySize, entryBytes}
 use Rattle.model.specs.Region.{entries, tailAt}
 use Rattle.model.specs.Stores.{Store}
 use Rattle.model.specs.Set.{make, tailTo, tailOn, fitsTail, putPlan}
@@ -31,8 +31,8 @@ use Rattle.change.specs.Asked.{Asked, PutPlanned}
 use Rattle.change.proofs.Ready.{image-long, ready-clean}
 
 -- the size as the code counts it
-pub size-is : (name old own : List ℕ) → 60 + length name + length old + length own + 3 ≡ 60 + length name + length (old ++ own) + 3
-size-is name old own = omega (arith, length-append old own)
+pub size-is : (name old own : List ℕ) → rounded (60 + length name + (length old + length own)) ≡ rounded (60 + length name + length (old ++ own))
+size-is name old own = ap (λ (k : ℕ). rounded (60 + length name + k)) (sym (length-append old own))
 
 module _ {img : List ℕ} {b at : ℕ} {places : Places} {v : Value} (a : Asked img b at places v) where
   pub fits : at + entrySize v ≤ 4096 * b → fitsTail (region img) v ≡ true

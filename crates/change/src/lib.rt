@@ -80,7 +80,7 @@ fn fold(
     let b = standing.b;
     let n = put_after(
         content,
-        slices::cut(image, 0, 4096 * b),
+        slices::cut(image, 0, layout::BLOCK * b),
         name,
         vendor,
         attributes,
@@ -88,7 +88,7 @@ fn fold(
         old,
         own,
     );
-    compose::put_blank(content, n, 4096 * b - n);
+    compose::put_blank(content, n, layout::BLOCK * b - n);
     let used = orders::compaction::used_records(image, b);
     plan::accept(
         orders::compaction::compact(Step::Nothing, Step::Nothing, b, used),
@@ -137,8 +137,8 @@ fn put_value(
         × (length (now content) ≡ 28672) ⌝ }
     ensures { λ r. ⌜ PutPlanned (now (image .entry)) (valued (now (name .entry)) (now (vendor .entry)) attributes (now (stamp .entry)) (now (old .entry) ++ now (own .entry))) (now (content .exit)) r ⌝ }
 {
-    let size = (60 + name.len() + old.len() + own.len() + 3) / 4 * 4;
-    if standing.tail + size <= 4096 * standing.b {
+    let size = layout::entry_size(name.len(), old.len() + own.len());
+    if standing.tail + size <= layout::BLOCK * standing.b {
         return in_tail(
             image,
             standing,
@@ -182,7 +182,11 @@ pub fn put(
     let kept = policy::without_append(attributes);
     let own = policy::proper(attributes, bytes);
     let places = standing.places;
-    let old = kept_data(slices::cut(image, 0, 4096 * standing.b), places, attributes);
+    let old = kept_data(
+        slices::cut(image, 0, layout::BLOCK * standing.b),
+        places,
+        attributes,
+    );
     put_value(
         image,
         standing,

@@ -19,7 +19,6 @@ use layout::Entry;
 use region::walk;
 use values::Found;
 use values::list;
-use values::lookup;
 
 // A number as four bytes, little-endian.
 fn bytes32(n: usize) -> [u8; 4]
@@ -96,7 +95,7 @@ fn put_padding(out: &mut [u8], at: usize, size: usize) -> usize
     ensures { λ r. ⌜ Wrote (replicate (rounded size - size) 0xFF) at (now (out .entry)) (now (out .exit)) r ⌝ }
 {
     let blank = *b"\xFF\xFF\xFF";
-    let n = (size + 3) / 4 * 4 - size;
+    let n = layout::rounded(size) - size;
     text::put_bytes(out, at, &blank[..n])
 }
 
@@ -127,7 +126,11 @@ pub fn put_entry(
     let next = text::put_bytes(out, next, name);
     let next = text::put_bytes(out, next, old);
     let next = text::put_bytes(out, next, own);
-    put_padding(out, next, 60 + name.len() + old.len() + own.len())
+    put_padding(
+        out,
+        next,
+        layout::HEADER + name.len() + old.len() + own.len(),
+    )
 }
 
 // The entry of a value that is carried over: its stamp is kept.
@@ -138,7 +141,7 @@ fn put_value(out: &mut [u8], at: usize, region: &[u8], place: usize, e: Entry) -
     let stamp = walk::stamp_of(region, place);
     let name = walk::name_of(region, place, e);
     let vendor = walk::vendor_of(region, place);
-    let data = lookup::data_of(region, place, e);
+    let data = walk::data_of(region, place, e);
     put_entry(out, at, e.attributes, stamp, name, vendor, data, &data[..0])
 }
 
@@ -167,7 +170,7 @@ fn put_others(out: &mut [u8], at: usize, region: &[u8], name: &[u8], vendor: &[u
     ensures { λ r. ⌜ Wrote (joined (without (keyed (now (name .entry)) (now (vendor .entry))) (values (entries (now (region .entry)))))) at (now (out .entry)) (now (out .exit)) r ⌝ }
 {
     let mut next = at;
-    let mut here: usize = 28;
+    let mut here: usize = layout::REGION_HEADER;
     loop {
         let f = list::next_value(region, here);
         let Found::At(place, e) = f else {
@@ -193,7 +196,7 @@ pub fn old_data(region: &[u8], standing: Found) -> &[u8]
     ensures { λ r. ⌜ now r ≡ oldData (now (region .entry)) standing ⌝ }
 {
     match standing {
-        Found::At(at, e) => lookup::data_of(region, at, e),
+        Found::At(at, e) => walk::data_of(region, at, e),
         Found::Nothing => &region[..0],
     }
 }

@@ -7,9 +7,9 @@ ghost use Rattle.model.specs.Entry.{rounded};
 ghost use Rattle.decision.specs.Parts.{stands, equalBy, kindBy, newSize, oldSpace, roomBy, resultBy, outcomeBy};
 use crate::Decision;
 use model::Rule;
+use region::walk;
 use values::Found;
 use values::list;
-use values::lookup;
 
 // Whether a value stands.
 pub fn stands(old: Found) -> bool
@@ -30,7 +30,7 @@ fn is_equal(region: &[u8], old: Found, attributes: u32, proper: &[u8]) -> bool
             attributes,
             proper,
             e.attributes,
-            lookup::data_of(region, at, e),
+            walk::data_of(region, at, e),
         ),
         Found::Nothing => false,
     }
@@ -60,7 +60,7 @@ fn new_size(region: &[u8], old: Found, attributes: u32, size: usize) -> usize
     if policy::appends(attributes) {
         match old {
             Found::At(at, e) => {
-                let own = lookup::data_of(region, at, e);
+                let own = walk::data_of(region, at, e);
                 return own.len() + size;
             }
             Found::Nothing => {
@@ -98,10 +98,10 @@ fn put(region: &[u8], old: Found, reserve: u32, name: usize, size: usize) -> Dec
     requires { ⌜ (length (now region) ≤ 28672) × (name < 2 ^ 63) ⌝ }
     ensures { λ r. ⌜ r ≡ resultBy true Decision.Put size (roomBy (now (region .entry)) old (rounded (60 + name + size) + reserve)) ⌝ }
 {
-    if 2048 < size {
+    if (layout::LARGEST_DATA as usize) < size {
         return Decision::Broken(Rule::DataSize);
     }
-    let need = (60 + name + size + 3) / 4 * 4 + reserve as usize;
+    let need = layout::entry_size(name, size) + reserve as usize;
     if is_full(region, old, need) {
         return Decision::Broken(Rule::Room);
     }

@@ -22,7 +22,6 @@ use model::Rule;
 use model::Session;
 use region::walk;
 use values::Found;
-use values::lookup;
 
 // Bytes copied to the front of a buffer.
 fn deliver(buffer: &mut [u8], bytes: &[u8])
@@ -124,7 +123,7 @@ fn get_from(region: &[u8], runtime: bool, name: &[u8], vendor: &[u8; 16], buffer
     let Found::At(at, e) = found else {
         return refused(Rule::Absent, 0);
     };
-    give(lookup::data_of(region, at, e), e.attributes, buffer)
+    give(walk::data_of(region, at, e), e.attributes, buffer)
 }
 
 // Rules 11 and 14 of a next-name, from a region.
@@ -170,7 +169,7 @@ pub fn get(
     let opened = open(image, slices::is_named(name));
     match opened {
         Check::Ready(b, _) => get_from(
-            slices::cut(image, 0, 4096 * b),
+            slices::cut(image, 0, layout::BLOCK * b),
             session::at_runtime(s.phase),
             name,
             vendor,
@@ -200,7 +199,7 @@ fn name_behind(phase: u32, image: &[u8], name: &[u8], vendor: &[u8; 16], buffer:
     let opened = open(image, is_next_named(name));
     match opened {
         Check::Ready(b, _) => name_from(
-            slices::cut(image, 0, 4096 * b),
+            slices::cut(image, 0, layout::BLOCK * b),
             session::at_runtime(phase),
             name,
             vendor,

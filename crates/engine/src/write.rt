@@ -57,7 +57,7 @@ fn plan_ready(
     let attributes = asking.attributes;
     let d = decision::decide(
         s,
-        slices::cut(image, 0, 4096 * b),
+        slices::cut(image, 0, layout::BLOCK * b),
         name,
         vendor,
         attributes,
@@ -183,7 +183,7 @@ fn wipe(b: usize) -> Plan
             step: Step::Erase(0, 2 * b + 1),
         },
         Op {
-            step: Step::Program(0, 0, 28),
+            step: Step::Program(0, 0, layout::REGION_HEADER),
         },
         none,
         none,
@@ -206,7 +206,7 @@ pub fn plan_format(image: &[u8], content: &mut [u8; 28672]) -> Planned
     if b == 0 {
         return plan::refuse(Rule::Length);
     }
-    let header = layout::fixed::region_header(4096 * b);
+    let header = layout::fixed::region_header(layout::BLOCK * b);
     text::put_bytes(content, 0, &header);
     plan::accept(wipe(b), 12)
 }

@@ -15,6 +15,9 @@ use plan::Plan;
 use plan::Planned;
 use plan::Step;
 
+// The stores of an entry's header: all its bytes but the state.
+const HEADER_STORES: usize = layout::HEADER - 1;
+
 // One byte store.
 fn put(image: &mut [u8], at: usize, v: u8)
     requires { ⌜ at < length (now image) ⌝ }
@@ -28,9 +31,9 @@ fn clear(image: &mut [u8], b: usize)
     requires { ⌜ block * b + block ≤ length (now image) ⌝ }
     ensures { λ _. ⌜ now (image .exit) ≡ apply (erase b) (now (image .entry)) ⌝ }
 {
-    let at = 4096 * b;
+    let at = layout::BLOCK * b;
     let mut i = 0;
-    while i < 4096 {
+    while i < layout::BLOCK {
         image[at + i] = 0xFF;
         i += 1;
     }
@@ -56,7 +59,7 @@ fn size(step: Step) -> usize
         Step::Mark(_, _) => 1,
         Step::Erase(_, count) => count,
         Step::Program(_, _, len) => len,
-        Step::Header(_, _) => 59,
+        Step::Header(_, _) => HEADER_STORES,
     }
 }
 
@@ -106,13 +109,13 @@ fn header(image: &mut [u8], at: usize, from: usize, i: usize, content: &[u8], le
     requires { ⌜ (i < 59) × (1 ≤ left) × (from + 60 ≤ length (now content)) × (at + 60 ≤ length (now image)) ⌝ }
     ensures { λ r. ⌜ Advances (now (content .entry)) (Header at from) i left (now (image .entry)) (now (image .exit)) r ⌝ }
 {
-    if i < 2 {
-        let r = least(2 - i, left);
-        put_run(image, at, from, 60, i, r, content);
+    if i < layout::STATE {
+        let r = least(layout::STATE - i, left);
+        put_run(image, at, from, layout::HEADER, i, r, content);
         return r;
     }
-    let r = least(59 - i, left);
-    put_run(image, at, from, 60, i + 1, r, content);
+    let r = least(HEADER_STORES - i, left);
+    put_run(image, at, from, layout::HEADER, i + 1, r, content);
     r
 }
 

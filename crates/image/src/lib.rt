@@ -5,6 +5,9 @@ ghost use Rattle.model.specs.Work.{pending};
 ghost use Rattle.image.specs.Check.{blocksOf, callOf, startUpOf};
 use model::Rule;
 
+// The bytes of a block of the region and of its block of the spare.
+const PAIR: usize = 8192;
+
 // What rules 1 and 2 leave to a call: the number of blocks and the offset of the tail, or the rule broken.
 pub enum Check {
     Ready(usize, usize),
@@ -23,14 +26,14 @@ pub fn blocks(image: &[u8]) -> usize
     ensures { λ r. ⌜ (r ≡ blocksOf (now (image .entry))) × (r ≤ 7) ⌝ }
 {
     let n = image.len();
-    let b = n / 8192;
+    let b = n / PAIR;
     if b < 1 {
         return 0;
     }
     if 7 < b {
         return 0;
     }
-    if n == 8192 * b + 4096 {
+    if n == PAIR * b + layout::BLOCK {
         return b;
     }
     0
@@ -44,9 +47,9 @@ pub fn check_call(image: &[u8]) -> Check
     if b == 0 {
         return Check::Refused(Rule::Length);
     }
-    let size = 4096 * b;
-    if records::is_idle(records::look_at(slices::cut(image, size, 4096))) {
-        if slices::is_blank(slices::cut(image, size + 4096, size)) {
+    let size = layout::BLOCK * b;
+    if records::is_idle(records::look_at(slices::cut(image, size, layout::BLOCK))) {
+        if slices::is_blank(slices::cut(image, size + layout::BLOCK, size)) {
             let j = region::judge::judge(slices::cut(image, 0, size));
             if j.clean {
                 return Check::Ready(b, j.tail);
@@ -61,9 +64,9 @@ fn is_pending(image: &[u8], b: usize) -> bool
     requires { ⌜ (b ≡ blocksOf (now image)) × (1 ≤ b) × (b ≤ 7) ⌝ }
     ensures { λ r. ⌜ r ≡ pending (now (image .entry)) ⌝ }
 {
-    let size = 4096 * b;
-    if records::is_closed(records::look_at(slices::cut(image, size, 4096))) {
-        let s = region::judge::judge(slices::cut(image, size + 4096, size));
+    let size = layout::BLOCK * b;
+    if records::is_closed(records::look_at(slices::cut(image, size, layout::BLOCK))) {
+        let s = region::judge::judge(slices::cut(image, size + layout::BLOCK, size));
         return s.clean;
     }
     false
@@ -80,7 +83,7 @@ pub fn check_start(image: &[u8]) -> Start
     if is_pending(image, b) {
         return Start::Pending(b);
     }
-    let j = region::judge::judge(slices::cut(image, 0, 4096 * b));
+    let j = region::judge::judge(slices::cut(image, 0, layout::BLOCK * b));
     if j.sound {
         return Start::Sound(b);
     }

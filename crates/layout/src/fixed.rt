@@ -85,7 +85,7 @@ pub fn right_header(region: &[u8]) -> bool
     ensures { λ r. ⌜ r ≡ rightHeader (now (region .entry)) ⌝ }
 {
     let header = region_header(region.len());
-    slices::equal(slices::cut(region, 0, 28), &header)
+    slices::equal(slices::cut(region, 0, crate::REGION_HEADER), &header)
 }
 
 // Whether a name and vendor are those of one key.

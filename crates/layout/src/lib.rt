@@ -1,11 +1,27 @@
 // The layout of an entry; the fixed byte strings of the format stand in `fixed`.
 ghost use mathlib.Core.Path.{_≡_};
-ghost use Prim.Native.Nat.{_<_};
+ghost use Prim.Native.Nat.{_+_, _<_, _^_};
 ghost use lib.ListN.{getD};
 ghost use Rattle.model.specs.Lists.{u16At, u32At};
-ghost use Rattle.layout.specs.Head.{headOf};
+ghost use Rattle.model.specs.Entry.{headerSize, headerFields, rounded};
+ghost use Rattle.layout.specs.Head.{headOf, nameIn, dataIn};
 
 pub mod fixed;
+
+// The bytes of a block.
+pub const BLOCK: usize = 4096;
+
+// The bytes of the region's header, behind which the walk starts.
+pub const REGION_HEADER: usize = 28;
+
+// The bytes of an entry's header, which its name follows.
+pub const HEADER: usize = 60;
+
+// Where an entry's state stands in it.
+pub const STATE: usize = 2;
+
+// The bytes of the longest data that a value may have.
+pub const LARGEST_DATA: u32 = 2048;
 
 // The numbers of an entry's header: state, attributes, size of the name, size of the data.
 pub struct Entry {
@@ -59,12 +75,12 @@ pub fn u32_at(s: &[u8], i: usize) -> u32
 pub fn read_head(s: &[u8]) -> Head
     ensures { λ r. ⌜ r ≡ headOf (now (s .entry)) ⌝ }
 {
-    if s.len() < 60 {
+    if s.len() < HEADER {
         return Head::End;
     }
     if u16_at(s, 0) == 0x55AA {
         Head::Present(Entry {
-            state: s[2],
+            state: s[STATE],
             attributes: u32_at(s, 4),
             name: u32_at(s, 36),
             size: u32_at(s, 40),
@@ -72,4 +88,54 @@ pub fn read_head(s: &[u8]) -> Head
     } else {
         Head::End
     }
+}
+
+// A size up to the next multiple of 4, at which the next entry begins.
+pub fn rounded(size: usize) -> usize
+    requires { ⌜ size + 3 < 2 ^ 64 ⌝ }
+    ensures { λ r. ⌜ r ≡ rounded size ⌝ }
+{
+    (size + 3) / 4 * 4
+}
+
+// The rounded size of an entry whose name and data have so many bytes.
+pub fn entry_size(name: usize, size: usize) -> usize
+    requires { ⌜ headerSize + name + size + 3 < 2 ^ 64 ⌝ }
+    ensures { λ r. ⌜ r ≡ rounded (headerSize + name + size) ⌝ }
+{
+    rounded(HEADER + name + size)
+}
+
+// The stamp of the entry at the front of `s`.
+pub fn stamp_of(s: &[u8]) -> &[u8]
+    ensures { λ r. ⌜ now r ≡ headerFields (now (s .entry)) .stamp ⌝ }
+{
+    slices::cut(s, 16, 16)
+}
+
+// Its GUID.
+pub fn vendor_of(s: &[u8]) -> &[u8]
+    ensures { λ r. ⌜ now r ≡ headerFields (now (s .entry)) .vendor ⌝ }
+{
+    slices::cut(s, 44, 16)
+}
+
+// Its name by its numbers, as much of it as is there; an unfinished entry has none.
+pub fn name_of(s: &[u8], e: Entry) -> &[u8]
+    ensures { λ r. ⌜ now r ≡ nameIn (now (s .entry)) e ⌝ }
+{
+    if e.state == 0xFF {
+        return &s[..0];
+    }
+    slices::cut(s, HEADER, e.name as usize)
+}
+
+// Its data, likewise.
+pub fn data_of(s: &[u8], e: Entry) -> &[u8]
+    ensures { λ r. ⌜ now r ≡ dataIn (now (s .entry)) e ⌝ }
+{
+    if e.state == 0xFF {
+        return &s[..0];
+    }
+    slices::cut(s, HEADER + e.name as usize, e.size as usize)
 }

@@ -16,7 +16,7 @@ pub fn used_records(image: &[u8], b: usize) -> usize
     requires { ⌜ b ≤ 7 ⌝ }
     ensures { λ r. ⌜ r ≡ usedRecords (part (block * b) block (now (image .entry))) ⌝ }
 {
-    let l = records::look_at(slices::cut(image, 4096 * b, 64));
+    let l = records::look_at(slices::cut(image, layout::BLOCK * b, records::RECORDS));
     l.used
 }
 
@@ -24,14 +24,14 @@ pub fn used_records(image: &[u8], b: usize) -> usize
 fn next_record(used: usize) -> usize
     ensures { λ r. ⌜ (r ≡ cond (leb 64 used) 0 used) × (r < 64) ⌝ }
 {
-    if 64 <= used { 0 } else { used }
+    if records::RECORDS <= used { 0 } else { used }
 }
 
 // "erase the work block if 64 records are used".
 fn clear_full(b: usize, used: usize) -> Step
     ensures { λ r. ⌜ r ≡ clearStep b used ⌝ }
 {
-    if used < 64 {
+    if used < records::RECORDS {
         return Step::Nothing;
     }
     Step::Erase(b, 1)
@@ -46,7 +46,7 @@ pub fn compact(spare: Step, work: Step, b: usize, used: usize) -> Plan
     let none = Op {
         step: Step::Nothing,
     };
-    let size = 4096 * b;
+    let size = layout::BLOCK * b;
     let at = size + next_record(used);
     [
         Op { step: spare },
@@ -58,7 +58,7 @@ pub fn compact(spare: Step, work: Step, b: usize, used: usize) -> Plan
             step: Step::Mark(at, 0xFE),
         },
         Op {
-            step: Step::Program(size + 4096, 0, size),
+            step: Step::Program(size + layout::BLOCK, 0, size),
         },
         Op {
             step: Step::Mark(at, 0xFC),
@@ -88,7 +88,7 @@ pub fn resume(b: usize, place: usize) -> Plan
     let none = Op {
         step: Step::Nothing,
     };
-    let size = 4096 * b;
+    let size = layout::BLOCK * b;
     [
         Op {
             step: Step::Erase(0, b),

@@ -15,7 +15,7 @@ fn mark_found(found: Found, v: u8) -> Step
     ensures { λ r. ⌜ r ≡ markFound found v ⌝ }
 {
     match found {
-        Found::At(at, _) => Step::Mark(at + 2, v),
+        Found::At(at, _) => Step::Mark(at + layout::STATE, v),
         Found::Nothing => Step::Nothing,
     }
 }
@@ -104,16 +104,16 @@ pub fn tail_write(places: Places, at: usize, name: usize, size: usize) -> Plan
             step: Step::Header(at, 0),
         },
         Op {
-            step: Step::Mark(at + 2, 0x7F),
+            step: Step::Mark(at + layout::STATE, 0x7F),
         },
         Op {
-            step: Step::Program(at + 60, 60, name),
+            step: Step::Program(at + layout::HEADER, layout::HEADER, name),
         },
         Op {
-            step: Step::Program(at + 60 + name, 60 + name, size),
+            step: Step::Program(at + layout::HEADER + name, layout::HEADER + name, size),
         },
         Op {
-            step: Step::Mark(at + 2, 0x3F),
+            step: Step::Mark(at + layout::STATE, 0x3F),
         },
         Op {
             step: retire(places),

@@ -48,7 +48,7 @@ fn is_sought(region: &[u8], at: usize, e: Entry, runtime: bool, name: &[u8], ven
 pub fn to_get(region: &[u8], runtime: bool, name: &[u8], vendor: &[u8; 16]) -> Found
     ensures { λ r. ⌜ entryIn (now (region .entry)) r ≡ entryToGet runtime (keyed (now (name .entry)) (now (vendor .entry))) (entries (now (region .entry))) ⌝ }
 {
-    let mut at: usize = 28;
+    let mut at: usize = layout::REGION_HEADER;
     loop {
         let t = walk::turn(region, at);
         let Turn::Entry(e, next) = t else {
@@ -73,7 +73,7 @@ pub fn to_name(region: &[u8], runtime: bool, name: &[u8], vendor: &[u8; 16]) -> 
     ensures { λ r. ⌜ entryIn (now (region .entry)) r ≡ entryToName runtime (keyed (now (name .entry)) (now (vendor .entry))) (entries (now (region .entry))) ⌝ }
 {
     let mut passed = is_empty_name(name);
-    let mut here: usize = 28;
+    let mut here: usize = layout::REGION_HEADER;
     loop {
         let t = walk::turn(region, here);
         let Turn::Entry(e, next) = t else {

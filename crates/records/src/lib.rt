@@ -6,6 +6,9 @@ ghost use Rattle.model.specs.Work.{recordStates};
 ghost use Rattle.records.specs.Look.{lookAt, restsAt, closesAt};
 ghost use Rattle.records.specs.Passed.{unread, onward, through};
 
+// How many records a work block has: its first bytes.
+pub const RECORDS: usize = 64;
+
 // What a look at a work block tells: whether it is well formed, how many records are used, and the last used one (FF where none is).
 pub struct Look {
     pub formed: bool,
@@ -56,13 +59,13 @@ fn look_through(records: &[u8]) -> Look
 pub fn look_at(w: &[u8]) -> Look
     ensures { λ r. ⌜ r ≡ lookAt (now (w .entry)) ⌝ }
 {
-    if w.len() <= 64 {
+    if w.len() <= RECORDS {
         return look_through(w);
     }
-    let l = look_through(&w[..64]);
+    let l = look_through(&w[..RECORDS]);
     if l.formed {
         return Look {
-            formed: slices::is_blank(&w[64..]),
+            formed: slices::is_blank(&w[RECORDS..]),
             used: l.used,
             last: l.last,
         };

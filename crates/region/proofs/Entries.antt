@@ -1,15 +1,14 @@
--- The entry of some numbers at an offset: its name and GUID are parts of the region, since dropping twice is dropping once, and past the end there is
--- nothing of them. Being in a state under a name and GUID is judged by the state first, then by the lengths, the GUID and the name, which is a
+-- The entry of some numbers at an offset: its name and GUID are parts of the region, since dropping twice is dropping once. Being in a state under a name and GUID is judged by the state first, then by the lengths, the GUID and the name, which is a
 -- conjunction in another order.
 -- Assumes nothing.
-use Prim.Native.Nat.{ℕ, _+_, _≤_}
+use Prim.Native.Nat.{ℕ, _+_}
 use mathlib.Core.Path.{_≡_, ap}
 use mathlib.Core.Logic.{_≢_}
 use mathlib.Core.Bool.{false, _&&_, and-false}
 use mathlib.Core.List.{List, []}
-use lib.ListN.{length, take, drop, drop-of-length-le}
+use lib.ListN.{length, take, drop}
 use lib.Dec.{eqb}
-use lib.Seq.{drop-drop, drop-nil, take-nil}
+use lib.Seq.{drop-drop}
 use borrow.Author.Tests.{eq-eqb, ne-eqb}
 use Rattle.model.specs.Lists.{part, same}
 use Rattle.model.specs.Name.{keyed}
@@ -23,9 +22,6 @@ use Rattle.region.specs.Walk.{entryAt, stampAt, vendorAt}
 part-of : (r : List ℕ) (at i n : ℕ) → part i n (drop at r) ≡ part (at + i) n r
 part-of r at i n = ap (take n) (drop-drop i at r)
 
-part-past : (r : List ℕ) (at i n : ℕ) → length r ≤ at → part i n (drop at r) ≡ []
-part-past r at i n h = rw (drop-of-length-le r h, drop-nil i, take-nil n)
-
 pub unnamed : (r : List ℕ) (at : ℕ) (e : numbers.Entry) → e .state ≡ 0xFF → entryAt r at e .name ≡ []
 unfolding entryAt walk.placed
 unnamed r at e h = rw (eq-eqb (e .state) 0xFF h)
@@ -34,25 +30,13 @@ pub named : (r : List ℕ) (at : ℕ) (e : numbers.Entry) → e .state ≢ 0xFF 
 unfolding entryAt walk.placed
 named r at e h = rw (ne-eqb (e .state) 0xFF h) (part-of r at 60 (e .name))
 
-pub name-past : (r : List ℕ) (at : ℕ) (e : numbers.Entry) → e .state ≢ 0xFF → length r ≤ at → entryAt r at e .name ≡ []
-unfolding entryAt walk.placed
-name-past r at e h k = rw (ne-eqb (e .state) 0xFF h) (part-past r at 60 (e .name) k)
-
 pub stamp : (r : List ℕ) (at : ℕ) → stampAt r at ≡ part (at + 16) 16 r
 unfolding stampAt headerFields
 stamp r at = part-of r at 16 16
 
-pub stamp-past : (r : List ℕ) (at : ℕ) → length r ≤ at → stampAt r at ≡ []
-unfolding stampAt headerFields
-stamp-past r at k = part-past r at 16 16 k
-
 pub vendor : (r : List ℕ) (at : ℕ) → vendorAt r at ≡ part (at + 44) 16 r
 unfolding vendorAt headerFields
 vendor r at = part-of r at 44 16
-
-pub vendor-past : (r : List ℕ) (at : ℕ) → length r ≤ at → vendorAt r at ≡ []
-unfolding vendorAt headerFields
-vendor-past r at k = part-past r at 44 16 k
 
 module _ (r : List ℕ) (at : ℕ) (e : numbers.Entry) (state : ℕ) (name guid : List ℕ) where
   pub other-state : e .state ≢ state → isEntry state (keyed name guid) (entryAt r at e) ≡ false

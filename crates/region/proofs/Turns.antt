@@ -14,11 +14,11 @@ use Rattle.model.specs.Entry.{Header, headerSize, readHeader}
 use Rattle.model.specs.Walk as walk
 use Rattle.model.specs.Beside.{from}
 use Rattle.model.proofs.Walking.{from-end, from-entry, from-fits, read-fields, stride-least}
-use Rattle.layout.specs.Head.{numbersOf, headOf}
+use Rattle.layout.specs.Head.{numbersOf, headOf, headerOf}
 use Rattle.layout.specs.declared.Entry as numbers
 use Rattle.layout.specs.declared.Head.{Head}
 use Rattle.layout.specs.declared.Head.the-variants.{Present, End}
-use Rattle.region.specs.Walk.{headerOf, strideOf, entryAt, onHead, turnOf}
+use Rattle.region.specs.Walk.{strideOf, entryAt, onHead, turnOf}
 use Rattle.region.specs.declared.Turn.the-variants.{Entry, Stop}
 
 -- the part that `&r[at..]` lends is the rest of the list

@@ -2,25 +2,14 @@
 use Prim.Native.Nat.{ℕ, _+_}
 use mathlib.Core.List.{List, []}
 use lib.ListN.{drop}
-use Rattle.model.specs.Entry.{Header, headerSize, headerFields, readHeader}
+use Rattle.model.specs.Entry.{headerSize, headerFields, readHeader}
 use Rattle.model.specs.Walk as walk
-use Rattle.layout.specs.Head.{headOf}
+use Rattle.layout.specs.Head.{headOf, headerOf}
 use Rattle.layout.specs.declared.Entry as numbers
 use Rattle.layout.specs.declared.Head.{Head}
 use Rattle.layout.specs.declared.Head.the-variants.{Present, End}
 use Rattle.region.specs.declared.Turn.{Turn}
 use Rattle.region.specs.declared.Turn.the-variants.{Entry, Stop}
-
--- a header of these numbers, with stamp and GUID as they stand in the bytes
-abbrev pub headerOf : numbers.Entry → List ℕ → Header
-headerOf e s = record {
-  state = e .state;
-  attributes = e .attributes;
-  stamp = headerFields s .stamp;
-  nameSize = e .name;
-  dataSize = e .size;
-  vendor = headerFields s .vendor;
-}
 
 -- the bytes up to the next entry, by the numbers alone
 abbrev pub strideOf : numbers.Entry → ℕ

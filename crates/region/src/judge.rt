@@ -57,7 +57,7 @@ fn right_live(region: &[u8], at: usize, e: Entry) -> bool
         if e.size < 1 {
             return false;
         }
-        if 2048 < e.size {
+        if layout::LARGEST_DATA < e.size {
             return false;
         }
         if stored_attributes(e.attributes) {
@@ -81,7 +81,7 @@ pub fn entry_sound(region: &[u8], at: usize, e: Entry) -> bool
         if region.len() < at {
             return false;
         }
-        if region.len() - at < 60 + e.name as usize + e.size as usize {
+        if region.len() - at < layout::HEADER + e.name as usize + e.size as usize {
             return false;
         }
         right_live(region, at, e)
@@ -94,7 +94,7 @@ pub fn entry_sound(region: &[u8], at: usize, e: Entry) -> bool
 pub fn scan(region: &[u8]) -> Scan
     ensures { λ r. ⌜ r ≡ scanOf (now (region .entry)) ⌝ }
 {
-    let mut at: usize = 28;
+    let mut at: usize = layout::REGION_HEADER;
     loop {
         let t = walk::turn(region, at);
         let Turn::Entry(e, next) = t else {
@@ -148,7 +148,7 @@ fn is_doubled(region: &[u8], at: usize, e: Entry, next: usize) -> bool
 pub fn undoubled(region: &[u8]) -> bool
     ensures { λ r. ⌜ r ≡ undoubled (entries (now (region .entry))) ⌝ }
 {
-    let mut at: usize = 28;
+    let mut at: usize = layout::REGION_HEADER;
     loop {
         let t = walk::turn(region, at);
         let Turn::Entry(e, next) = t else {

@@ -13,9 +13,9 @@ fn stride(e: Entry) -> usize
     ensures { λ r. ⌜ (r ≡ strideOf e) × (r < 2 ^ 34) ⌝ }
 {
     if e.state == 0xFF {
-        return 60;
+        return layout::HEADER;
     }
-    (60 + e.name as usize + e.size as usize + 3) / 4 * 4
+    layout::entry_size(e.name as usize, e.size as usize)
 }
 
 // What stands at an offset; past the end, the end of the walk.
@@ -36,7 +36,7 @@ pub fn turn(region: &[u8], at: usize) -> Turn
 pub fn tail_at(region: &[u8]) -> usize
     ensures { λ r. ⌜ r ≡ tailAt (now (region .entry)) ⌝ }
 {
-    let mut at: usize = 28;
+    let mut at: usize = layout::REGION_HEADER;
     loop {
         let t = turn(region, at);
         let Turn::Entry(_, next) = t else {
@@ -46,37 +46,32 @@ pub fn tail_at(region: &[u8]) -> usize
     }
 }
 
-// The name of an entry, as much of it as the region holds; an unfinished entry has none.
+// The name of the entry at an offset, by its numbers: the part of the region from its first byte on is handed to the reader of entries.
 pub fn name_of(region: &[u8], at: usize, e: Entry) -> &[u8]
     ensures { λ r. ⌜ now r ≡ entryAt (now (region .entry)) at e .name ⌝ }
 {
-    if e.state == 0xFF {
-        return &region[..0];
-    }
-    if region.len() < at {
-        return &region[..0];
-    }
-    slices::cut(region, at + 60, e.name as usize)
+    layout::name_of(slices::from(region, at), e)
 }
 
-// The stamp of the entry at an offset.
+// Its data.
+pub fn data_of(region: &[u8], at: usize, e: Entry) -> &[u8]
+    ensures { λ r. ⌜ now r ≡ entryAt (now (region .entry)) at e .bytes ⌝ }
+{
+    layout::data_of(slices::from(region, at), e)
+}
+
+// Its stamp.
 pub fn stamp_of(region: &[u8], at: usize) -> &[u8]
     ensures { λ r. ⌜ now r ≡ stampAt (now (region .entry)) at ⌝ }
 {
-    if region.len() < at {
-        return &region[..0];
-    }
-    slices::cut(region, at + 16, 16)
+    layout::stamp_of(slices::from(region, at))
 }
 
 // Its GUID.
 pub fn vendor_of(region: &[u8], at: usize) -> &[u8]
     ensures { λ r. ⌜ now r ≡ vendorAt (now (region .entry)) at ⌝ }
 {
-    if region.len() < at {
-        return &region[..0];
-    }
-    slices::cut(region, at + 44, 16)
+    layout::vendor_of(slices::from(region, at))
 }
 
 // Whether an entry has this state, name and GUID. What is cheap to compare comes first, and the name before the GUID: variables of one vendor differ early in their names.

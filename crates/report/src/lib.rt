@@ -13,7 +13,6 @@ use layout::Entry;
 use region::walk;
 use values::Found;
 use values::list;
-use values::lookup;
 
 // A word and a number behind it.
 fn put_field(out: &mut [u8], at: usize, word: &[u8], n: u32) -> usize
@@ -87,7 +86,7 @@ fn put_entry(out: &mut [u8], at: usize, region: &[u8], place: usize, e: Entry) -
 {
     let vendor = walk::vendor_of(region, place);
     let name = walk::name_of(region, place, e);
-    let data = lookup::data_of(region, place, e);
+    let data = walk::data_of(region, place, e);
     put_value(out, at, vendor, name, e.attributes, data.len() as u32)
 }
 
@@ -97,7 +96,7 @@ fn put_lines(region: &[u8], out: &mut [u8], at: usize) -> usize
     ensures { λ r. ⌜ Wrote (valueLines (values (entries (now (region .entry))))) at (now (out .entry)) (now (out .exit)) r ⌝ }
 {
     let mut next = at;
-    let mut here: usize = 28;
+    let mut here: usize = layout::REGION_HEADER;
     loop {
         let f = list::next_value(region, here);
         let Found::At(place, e) = f else {
@@ -124,7 +123,7 @@ pub fn report(image: &[u8], out: &mut [u8]) -> usize
 {
     let c = image::check_call(image);
     match c {
-        Check::Ready(b, tail) => put_store(slices::cut(image, 0, 4096 * b), tail, out),
+        Check::Ready(b, tail) => put_store(slices::cut(image, 0, layout::BLOCK * b), tail, out),
         Check::Refused(rule) => put_refused(out, 0, model::number(rule)),
     }
 }

@@ -12,6 +12,9 @@ use model::Listed;
 use model::Rule;
 use model::Session;
 
+// The most bytes that are kept back.
+const LARGEST_RESERVE: u32 = 4096;
+
 // Whether the phase is boot.
 pub fn in_boot(phase: u32) -> bool
     ensures { λ r. ⌜ r ≡ eqb (countedPhase phase) 0 ⌝ }
@@ -33,8 +36,8 @@ pub fn reserved(phase: u32, reserve: u32) -> u32
     if phase < 2 {
         return 0;
     }
-    if 4096 < reserve {
-        return 4096;
+    if LARGEST_RESERVE < reserve {
+        return LARGEST_RESERVE;
     }
     reserve
 }
@@ -52,7 +55,7 @@ fn is_place(locks: &[u8], place: usize, size: usize, name: &[u8], vendor: &[u8])
     if !slices::equal(listed, name) {
         return false;
     }
-    let guid = slices::cut(locks, at + 128, 16);
+    let guid = slices::cut(locks, at + slices::LONGEST_NAME, 16);
     slices::equal(guid, vendor)
 }
 

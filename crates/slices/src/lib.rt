@@ -1,7 +1,11 @@
 // Byte slices: compared, cut, tested.
 ghost use mathlib.Core.Path.{_≡_};
+ghost use lib.ListN.{drop};
 ghost use Rattle.model.specs.Lists.{same, part, allFF};
 ghost use Rattle.model.specs.Name.{wellNamed};
+
+// The bytes of the longest well-formed name: 63 characters and a zero character.
+pub const LONGEST_NAME: usize = 128;
 
 // Whether two slices hold the same bytes.
 pub fn equal(a: &[u8], b: &[u8]) -> bool
@@ -47,6 +51,16 @@ pub fn cut(s: &[u8], start: usize, len: usize) -> &[u8]
     &s[start..start + len]
 }
 
+// The bytes from start on; past the end, none.
+pub fn from(s: &[u8], start: usize) -> &[u8]
+    ensures { λ r. ⌜ now r ≡ drop start (now (s .entry)) ⌝ }
+{
+    if s.len() < start {
+        return &s[..0];
+    }
+    &s[start..]
+}
+
 // Whether a name is well formed: 1 to 63 characters of UTF-16 and a zero character, with no zero character before.
 pub fn is_named(name: &[u8]) -> bool
     ensures { λ r. ⌜ r ≡ wellNamed (now (name .entry)) ⌝ }
@@ -55,7 +69,7 @@ pub fn is_named(name: &[u8]) -> bool
     if n < 4 {
         return false;
     }
-    if 128 < n {
+    if LONGEST_NAME < n {
         return false;
     }
     let mut i = 0;

@@ -24,7 +24,7 @@ fn look(image: &[u8], b: usize) -> Look
     requires { ⌜ b ≤ 7 ⌝ }
     ensures { λ r. ⌜ r ≡ lookAt (part (block * b) block (now (image .entry))) ⌝ }
 {
-    records::look_at(slices::cut(image, 4096 * b, 4096))
+    records::look_at(slices::cut(image, layout::BLOCK * b, layout::BLOCK))
 }
 
 // "if pending, resume at the erase of the region": the record is the last used one. What the spare holds is copied to the content, and stored from there.
@@ -33,7 +33,11 @@ pub fn resume(image: &[u8], b: usize, content: &mut [u8]) -> Planned
     ensures { λ r. ⌜ Plans (startUpPlan (now (image .entry))) (now (image .entry)) (now (content .entry)) (now (content .exit)) r ⌝ }
 {
     let l = look(image, b);
-    text::put_bytes(content, 0, slices::cut(image, 4096 * b + 4096, 4096 * b));
+    text::put_bytes(
+        content,
+        0,
+        slices::cut(image, layout::BLOCK * b + layout::BLOCK, layout::BLOCK * b),
+    );
     plan::accept(orders::compaction::resume(b, l.used - 1), 12)
 }
 
@@ -42,8 +46,8 @@ fn spare_step(image: &[u8], b: usize) -> Step
     requires { ⌜ (1 ≤ b) × (b ≤ 7) × (length (now image) ≡ block * (2 * b + 1)) ⌝ }
     ensures { λ r. ⌜ r ≡ spareStep b (allFF (spare (now (image .entry)))) ⌝ }
 {
-    let size = 4096 * b;
-    if slices::is_blank(slices::cut(image, size + 4096, size)) {
+    let size = layout::BLOCK * b;
+    if slices::is_blank(slices::cut(image, size + layout::BLOCK, size)) {
         return Step::Nothing;
     }
     Step::Erase(b + 1, b)
@@ -77,7 +81,7 @@ fn tail_is_blank(image: &[u8], b: usize) -> bool
     requires { ⌜ (1 ≤ b) × (b ≤ 7) × (length (now image) ≡ block * (2 * b + 1)) ⌝ }
     ensures { λ r. ⌜ r ≡ allFF (tail (region (now (image .entry)))) ⌝ }
 {
-    let size = 4096 * b;
+    let size = layout::BLOCK * b;
     let region = slices::cut(image, 0, size);
     let at = region::walk::tail_at(region);
     slices::is_blank(slices::cut(region, at, size))
@@ -90,9 +94,9 @@ fn compose_all(image: &[u8], b: usize, content: &mut [u8])
         × (length (now content) ≡ 28672) ⌝ }
     ensures { λ _. ⌜ part 0 (block * b) (now (content .exit)) ≡ encode (block * b) (values (entries (region (now (image .entry))))) ⌝ }
 {
-    let region = slices::cut(image, 0, 4096 * b);
+    let region = slices::cut(image, 0, layout::BLOCK * b);
     let n = compose::put_values(content, region, &region[..0], &region[..0]);
-    compose::put_blank(content, n, 4096 * b - n);
+    compose::put_blank(content, n, layout::BLOCK * b - n);
 }
 
 // "Then erase the spare's blocks .., the work block .., and compact with no change if the tail is not all FF."

@@ -1,4 +1,4 @@
--- The data of an entry is a part of the region, since dropping twice is dropping once; past the end there is nothing of it. Name and data follow
+-- The data of an entry is a part of the region, since dropping twice is dropping once. Name and data follow
 -- each other, so together they hold no more than the rest of the region, and each no more than its size says. Hence the sizes of the values add up to no
 -- more than the way that the walk has gone.
 -- Assumes nothing.
@@ -9,8 +9,8 @@ use mathlib.Core.Path.{_≡_, refl, ap, _∙_}
 use mathlib.Core.Logic.{_≢_}
 use mathlib.Core.Bool.{Bool, true, false}
 use mathlib.Core.List.{List, []}
-use lib.ListN.{length, take, drop, length-take, length-drop, drop-of-length-le}
-use lib.Seq.{drop-drop, drop-nil, take-nil}
+use lib.ListN.{length, take, drop, length-take, length-drop}
+use lib.Seq.{drop-drop}
 use lib.Dec.{eqb}
 use borrow.Author.Tests.{eq-eqb, ne-eqb, eqb-true, eqb-false}
 use Rattle.model.specs.Lists.{part}
@@ -38,10 +38,6 @@ module _ (r : List ℕ) (at : ℕ) (e : numbers.Entry) where
   data-part h =
       let place : at + (60 + e .name) ≡ at + 60 + e .name = omega arith in
       rw (ne-eqb (e .state) 0xFF h) (ap (take (e .size)) (drop-drop (60 + e .name) at r ∙ ap (λ (i : ℕ). drop i r) place))
-
-  pub data-past : e .state ≢ 0xFF → length r ≤ at → entryAt r at e .bytes ≡ []
-  unfolding entryAt walk.placed
-  data-past h k = rw (ne-eqb (e .state) 0xFF h, drop-of-length-le r k, drop-nil (60 + e .name), take-nil (e .size))
 
   -- the two lengths, by what the region has left, and the size of the value's entry by the entry's
   pub record Lengths : Type 0 where

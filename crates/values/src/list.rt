@@ -28,7 +28,7 @@ pub fn is_value(region: &[u8], at: usize, e: Entry) -> bool
     }
     let name = walk::name_of(region, at, e);
     let vendor = walk::vendor_of(region, at);
-    let f = lookup::find_from(region, 28, 0x3F, name, vendor);
+    let f = lookup::find_from(region, layout::REGION_HEADER, 0x3F, name, vendor);
     match f {
         Found::At(_, _) => false,
         Found::Nothing => true,
@@ -57,7 +57,7 @@ pub fn behind(place: usize, e: Entry) -> usize
     requires { ⌜ place < 2 ^ 40 ⌝ }
     ensures { λ r. ⌜ r ≡ place + rounded (60 + e .name + e .size) ⌝ }
 {
-    place + (60 + e.name as usize + e.size as usize + 3) / 4 * 4
+    place + layout::entry_size(e.name as usize, e.size as usize)
 }
 
 // How many values there are.
@@ -65,7 +65,7 @@ pub fn count(region: &[u8]) -> usize
     ensures { λ r. ⌜ r ≡ length (values (entries (now (region .entry)))) ⌝ }
 {
     let mut n: usize = 0;
-    let mut at: usize = 28;
+    let mut at: usize = layout::REGION_HEADER;
     loop {
         let t = walk::turn(region, at);
         let Turn::Entry(e, next) = t else {
@@ -83,16 +83,16 @@ pub fn size_of(region: &[u8], at: usize, e: Entry) -> usize
     ensures { λ r. ⌜ r ≡ entrySize (entryValue (entryAt (now (region .entry)) at e)) ⌝ }
 {
     let name = walk::name_of(region, at, e);
-    let data = lookup::data_of(region, at, e);
-    (60 + name.len() + data.len() + 3) / 4 * 4
+    let data = walk::data_of(region, at, e);
+    layout::entry_size(name.len(), data.len())
 }
 
 // The space that the values take: the region's header and their rounded entry sizes.
 pub fn space(region: &[u8]) -> usize
     ensures { λ r. ⌜ r ≡ spaceOf (values (entries (now (region .entry)))) ⌝ }
 {
-    let mut sum: usize = 28;
-    let mut at: usize = 28;
+    let mut sum: usize = layout::REGION_HEADER;
+    let mut at: usize = layout::REGION_HEADER;
     loop {
         let t = walk::turn(region, at);
         let Turn::Entry(e, next) = t else {

@@ -4,26 +4,12 @@ ghost use Rattle.model.specs.Lists.{first};
 ghost use Rattle.model.specs.Name.{keyed};
 ghost use Rattle.model.specs.Region.{entries, isEntry, added, replacing, standing};
 ghost use Rattle.model.specs.Beside.{from};
-ghost use Rattle.region.specs.Walk.{entryAt};
 ghost use Rattle.values.specs.Found.{foundOf, elseFound};
 use crate::Found;
 use crate::Places;
 use layout::Entry;
 use region::Turn;
 use region::walk;
-
-// The data of an entry, as much of it as the region holds; an unfinished entry has none.
-pub fn data_of(region: &[u8], at: usize, e: Entry) -> &[u8]
-    ensures { λ r. ⌜ now r ≡ entryAt (now (region .entry)) at e .bytes ⌝ }
-{
-    if e.state == 0xFF {
-        return &region[..0];
-    }
-    if region.len() < at {
-        return &region[..0];
-    }
-    slices::cut(region, at + 60 + e.name as usize, e.size as usize)
-}
 
 // The first entry at or behind an offset in this state, under this name and GUID.
 pub fn find_from(region: &[u8], at: usize, state: u8, name: &[u8], vendor: &[u8]) -> Found
@@ -59,7 +45,7 @@ pub fn places(region: &[u8], name: &[u8], vendor: &[u8]) -> Places
 {
     let mut added = Found::Nothing;
     let mut replacing = Found::Nothing;
-    let mut at: usize = 28;
+    let mut at: usize = layout::REGION_HEADER;
     loop {
         let t = walk::turn(region, at);
         let Turn::Entry(e, next) = t else {
@@ -92,7 +78,7 @@ pub fn find(region: &[u8], name: &[u8], vendor: &[u8]) -> Found
     ensures { λ r. ⌜ r ≡ foundOf (standing (keyed (now (name .entry)) (now (vendor .entry))) (entries (now (region .entry)))) ⌝ }
 {
     let mut replacing = Found::Nothing;
-    let mut at: usize = 28;
+    let mut at: usize = layout::REGION_HEADER;
     loop {
         let t = walk::turn(region, at);
         let Turn::Entry(e, next) = t else {

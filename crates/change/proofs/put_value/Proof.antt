@@ -1,7 +1,7 @@
 -- `change::put_value` meets its contract: the rounded entry fits the tail, or the change is folded into a compaction. Assumes nothing.
-use Prim.Native.Nat.{ℕ, _+_, _*_, _/_, _≤_, _<_}
+use Prim.Native.Nat.{ℕ, _+_, _*_, _≤_, _<_}
 use native.Mathlib.Omega.{arith}
-use mathlib.Core.Path.{subst}
+use mathlib.Core.Path.{subst, _∙_}
 use lib.ListN.{length-append}
 use denote.Ref.{now}
 use Rattle.change.proofs.Ready.{value-short}
@@ -10,36 +10,21 @@ use borrow.Author.Needs.{needs}
 use Rattle.change.proofs.put_value.Statement.{statement}
 use Rattle.change.proofs.put_value.Tie as tie
 
-add-size : tie.Need-add-size
-add-size c = search needs
-
-add-size-2 : tie.Need-add-size-2
-add-size-2 c =
+add-entry-size : tie.Need-add-entry-size
+add-entry-size c =
     let s = c .before .before .before .before .before in
     let h = value-short _ (s .pre .0 .ready) (s .pre .0 .room) in
     omega (arith, length-append (now (s .args .old)) (now (s .args .own)))
 
-add-size-3 : tie.Need-add-size-3
-add-size-3 c =
-    let s = c .before .before .before .before .before in
-    let h = value-short _ (s .pre .0 .ready) (s .pre .0 .room) in
-    omega (arith, length-append (now (s .args .old)) (now (s .args .own)))
-
-add-size-4 : tie.Need-add-size-4
-add-size-4 c =
-    let s = c .before .before .before .before .before in
-    let h = value-short _ (s .pre .0 .ready) (s .pre .0 .room) in
-    omega (arith, length-append (now (s .args .old)) (now (s .args .own)))
-
-mul-size : tie.Need-mul-size
-mul-size c =
+entry-size-requires : tie.Need-entry-size-requires
+entry-size-requires c κs =
     let s = c .before .before .before .before .before in
     let h = value-short _ (s .pre .0 .ready) (s .pre .0 .room) in
     omega (arith, length-append (now (s .args .old)) (now (s .args .own)))
 
 add-if1 : tie.Need-add-if1
 add-if1 c =
-    let s = c .before .before .before .before .before .before in
+    let s = c .before .before .before .before .before .before .before in
     let r = s .pre .0 .ready in
     let h = value-short _ r (s .pre .0 .room) in
     omega (arith, length-append (now (s .args .old)) (now (s .args .own)), r .tail-within, r .long, r .few)
@@ -49,9 +34,9 @@ mul-if1 c = search needs
 
 in-tail-requires : tie.Need-in-tail-requires
 in-tail-requires c κs =
-    let s = c .before .before .before .before .before .before .before .before .before in
-    let e = size-is (now (s .args .name)) (now (s .args .old)) (now (s .args .own)) in
-    (s .pre .0, fits (s .pre .0) (subst (λ (k : ℕ). s .args .standing .tail + k / 4 * 4 ≤ 4096 * s .args .standing .b) e (c .before .if1 .taken)), s .pre .1)
+    let s = c .before .before .before .before .before .before .before .before .before .before in
+    let e = c .before .before .before .before .entry-size .ensures ∙ size-is (now (s .args .name)) (now (s .args .old)) (now (s .args .own)) in
+    (s .pre .0, fits (s .pre .0) (subst (λ (k : ℕ). s .args .standing .tail + k ≤ 4096 * s .args .standing .b) e (c .before .if1 .taken)), s .pre .1)
 
 same-length : tie.Need-same-length
 same-length c = search needs
@@ -61,9 +46,9 @@ returns c = search needs
 
 fold-requires : tie.Need-fold-requires
 fold-requires c κs =
-    let s = c .before .before .before .before .before .before .before .before .before in
-    let e = size-is (now (s .args .name)) (now (s .args .old)) (now (s .args .own)) in
-    (s .pre .0, fits-not (s .pre .0) (subst (λ (k : ℕ). 4096 * s .args .standing .b < s .args .standing .tail + k / 4 * 4) e (c .before .if1 .left)), s .pre .1)
+    let s = c .before .before .before .before .before .before .before .before .before .before in
+    let e = c .before .before .before .before .entry-size .ensures ∙ size-is (now (s .args .name)) (now (s .args .old)) (now (s .args .own)) in
+    (s .pre .0, fits-not (s .pre .0) (subst (λ (k : ℕ). 4096 * s .args .standing .b < s .args .standing .tail + k) e (c .before .if1 .left)), s .pre .1)
 
 same-length-2 : tie.Need-same-length-2
 same-length-2 c = search needs
@@ -75,11 +60,8 @@ pub put-value-spec : {M : Type 1} → statement M
 put-value-spec =
     tie.close
     (tie.spec
-    add-size
-    add-size-2
-    add-size-3
-    add-size-4
-    mul-size
+    add-entry-size
+    entry-size-requires
     add-if1
     mul-if1
     in-tail-requires

@@ -2,8 +2,9 @@
 -- Assumes nothing.
 use Prim.Native.Nat.{ℕ, _-_}
 use native.Mathlib.Omega.{arith}
-use mathlib.Core.Path.{sym}
+use mathlib.Core.Path.{_≡_, sym, ap, _∙_}
 use mathlib.Core.List.{[], _∷_}
+use lib.ListN.{replicate}
 use lib.Seq.{length-take-le}
 use Rattle.model.specs.Entry.{rounded}
 use Rattle.text.proofs.Writing.{wrote-as}
@@ -12,11 +13,8 @@ use borrow.Author.Needs.{needs}
 use Rattle.compose.proofs.put_padding.Statement.{statement}
 use Rattle.compose.proofs.put_padding.Tie as tie
 
-add-n : tie.Need-add-n
-add-n c = search needs
-
-mul-n : tie.Need-mul-n
-mul-n c = search needs
+rounded-requires : tie.Need-rounded-requires
+rounded-requires c κs = search needs
 
 sub-n : tie.Need-sub-n
 sub-n c = search needs
@@ -26,13 +24,17 @@ array-share-prefix-blank c = search needs
 
 slice-aggregate-put-bytes : tie.Need-slice-aggregate-put-bytes
 slice-aggregate-put-bytes c =
-    let size = c .before .before .before .before .before .args .size in
-    sym (length-take-le {A = ℕ} (rounded size - size) (0xFF ∷ 0xFF ∷ 0xFF ∷ []) (omega arith))
+    let w = c .before .before .rounded in
+    let size = c .before .before .before .before .before .before .args .size in
+    let e = w .ensures in
+    sym (length-take-le {A = ℕ} (w .result - size) (0xFF ∷ 0xFF ∷ 0xFF ∷ []) (omega arith))
 
 put-bytes-requires : tie.Need-put-bytes-requires
 put-bytes-requires c κs =
-    let a = c .before .before .before .before .before .args in
-    let l = length-take-le {A = ℕ} (rounded (a .size) - a .size) (0xFF ∷ 0xFF ∷ 0xFF ∷ []) (omega arith) in
+    let w = c .before .before .rounded in
+    let a = c .before .before .before .before .before .before .args in
+    let e = w .ensures in
+    let l = length-take-le {A = ℕ} (w .result - a .size) (0xFF ∷ 0xFF ∷ 0xFF ∷ []) (omega arith) in
     omega arith
 
 same-length : tie.Need-same-length
@@ -40,15 +42,16 @@ same-length c = search needs
 
 returns : tie.Need-returns
 returns c =
-    let size = c .before .before .before .before .before .before .before .before .args .size in
-    wrote-as (padding (rounded size - size) (omega arith)) (c .before .before .put-bytes .ensures)
+    let w = c .before .before .before .before .before .rounded in
+    let size = c .before .before .before .before .before .before .before .before .before .args .size in
+    let e : w .result ≡ rounded size = w .ensures in
+    wrote-as (padding (w .result - size) (omega arith) ∙ ap (λ (k : ℕ). replicate (k - size) 0xFF) e) (c .before .before .put-bytes .ensures)
 
 pub put-padding-spec : {M : Type 1} → statement M
 put-padding-spec =
     tie.close
     (tie.spec
-    add-n
-    mul-n
+    rounded-requires
     sub-n
     array-share-prefix-blank
     slice-aggregate-put-bytes

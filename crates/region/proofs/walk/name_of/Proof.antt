@@ -1,52 +1,24 @@
--- `region::walk::name_of` meets its contract: it cuts the name out of the region, and past the end nothing is left of it.
--- Assumes nothing.
-use native.Mathlib.Omega.{arith}
-use mathlib.Core.Path.{sym, _∙_}
+-- `region::walk::name_of` meets its contract: the part handed on is the rest of the region, from which the definition reads too. Assumes nothing.
+use mathlib.Core.Path.{ap, _∙_}
 use denote.Ref.{now}
 use borrow.Author.Needs.{needs}
-use Rattle.region.proofs.Entries.{unnamed, named, name-past}
+use Rattle.model.specs.Walk.{placed}
+use Rattle.layout.specs.Head.{nameIn}
+use Rattle.region.specs.Walk.{entryAt}
 use Rattle.region.proofs.walk.name_of.Statement.{statement}
 use Rattle.region.proofs.walk.name_of.Tie as tie
 
-slice-aggregate-result : tie.Need-slice-aggregate-result
-slice-aggregate-result c = search needs
+from-requires : tie.Need-from-requires
+from-requires c κs = search needs
+
+name-of-requires : tie.Need-name-of-requires
+name-of-requires c κs = search needs
 
 returns : tie.Need-returns
+unfolding entryAt nameIn placed
 returns c =
-    let a = c .before .before .before .before .args in
-    sym (unnamed (now (a .region)) (a .at) (a .e) (c .before .if1 .taken))
-
-slice-aggregate-result-2 : tie.Need-slice-aggregate-result-2
-slice-aggregate-result-2 c = search needs
-
-returns-2 : tie.Need-returns-2
-returns-2 c =
-    let a = c .before .before .before .before .before .args in
-    sym (name-past (now (a .region)) (a .at) (a .e) (c .before .before .if1 .left) (omega arith))
-
-add-cut : tie.Need-add-cut
-add-cut c = search needs
-
-cast-cut : tie.Need-cast-cut
-cast-cut c = search needs
-
-cut-requires : tie.Need-cut-requires
-cut-requires c κs = search needs
-
-returns-3 : tie.Need-returns-3
-returns-3 c =
-    let a = c .before .before .before .before .before .before .args in
-    c .cut .ensures ∙ sym (named (now (a .region)) (a .at) (a .e) (c .before .before .before .if1 .left))
+    let a = c .before .before .before .args in
+    c .name-of .ensures ∙ ap (λ s. nameIn s (a .e)) (c .before .from .ensures)
 
 pub name-of-spec : {M : Type 1} → statement M
-name-of-spec =
-    tie.close
-    (tie.spec
-    slice-aggregate-result
-    returns
-    slice-aggregate-result-2
-    returns-2
-    add-cut
-    cast-cut
-    cut-requires
-    returns-3)
+name-of-spec = tie.close (tie.spec from-requires name-of-requires returns)

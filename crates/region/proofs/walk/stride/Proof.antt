@@ -9,36 +9,17 @@ use Rattle.region.proofs.walk.stride.Tie as tie
 returns : tie.Need-returns
 returns c = simp (eq-eqb _ _ (c .if1 .taken)) (omega arith)
 
-cast-result : tie.Need-cast-result
-cast-result c = search needs
+cast-entry-size : tie.Need-cast-entry-size
+cast-entry-size c = search needs
 
-add-result : tie.Need-add-result
-add-result c = search needs
+cast-entry-size-2 : tie.Need-cast-entry-size-2
+cast-entry-size-2 c = search needs
 
-cast-result-2 : tie.Need-cast-result-2
-cast-result-2 c = search needs
-
-add-result-2 : tie.Need-add-result-2
-add-result-2 c = search needs
-
-add-result-3 : tie.Need-add-result-3
-add-result-3 c = search needs
-
-mul-result : tie.Need-mul-result
-mul-result c = search needs
+entry-size-requires : tie.Need-entry-size-requires
+entry-size-requires c κs = search needs
 
 returns-2 : tie.Need-returns-2
-returns-2 c = simp (ne-eqb _ _ (c .before .before .if1 .left)) (omega arith)
+returns-2 c = simp (ne-eqb _ _ (c .before .before .before .if1 .left), c .entry-size .ensures) (omega arith)
 
 pub stride-spec : {M : Type 1} → statement M
-stride-spec =
-    tie.close
-    (tie.spec
-    returns
-    cast-result
-    add-result
-    cast-result-2
-    add-result-2
-    add-result-3
-    mul-result
-    returns-2)
+stride-spec = tie.close (tie.spec returns cast-entry-size cast-entry-size-2 entry-size-requires returns-2)

@@ -1,31 +1,22 @@
--- `region::walk::vendor_of` meets its contract: it cuts the GUID out of the region, and past the end nothing is left of it.
--- Assumes nothing.
-use native.Mathlib.Omega.{arith}
-use mathlib.Core.Path.{sym, _∙_}
+-- `region::walk::vendor_of` meets its contract: the part handed on is the rest of the region, from which the definition reads too. Assumes nothing.
+use mathlib.Core.Path.{ap, _∙_}
 use denote.Ref.{now}
 use borrow.Author.Needs.{needs}
-use Rattle.region.proofs.Entries.{vendor, vendor-past}
+use Rattle.model.specs.Entry.{headerFields}
+use Rattle.region.specs.Walk.{vendorAt}
 use Rattle.region.proofs.walk.vendor_of.Statement.{statement}
 use Rattle.region.proofs.walk.vendor_of.Tie as tie
 
-slice-aggregate-result : tie.Need-slice-aggregate-result
-slice-aggregate-result c = search needs
+from-requires : tie.Need-from-requires
+from-requires c κs = search needs
+
+vendor-of-requires : tie.Need-vendor-of-requires
+vendor-of-requires c κs = search needs
 
 returns : tie.Need-returns
+unfolding vendorAt
 returns c =
-    let a = c .before .before .before .args in
-    sym (vendor-past (now (a .region)) (a .at) (omega arith))
-
-add-cut : tie.Need-add-cut
-add-cut c = search needs
-
-cut-requires : tie.Need-cut-requires
-cut-requires c κs = search needs
-
-returns-2 : tie.Need-returns-2
-returns-2 c =
-    let a = c .before .before .before .args in
-    c .cut .ensures ∙ sym (vendor (now (a .region)) (a .at))
+    c .vendor-of .ensures ∙ ap (λ s. headerFields s .vendor) (c .before .from .ensures)
 
 pub vendor-of-spec : {M : Type 1} → statement M
-vendor-of-spec = tie.close (tie.spec slice-aggregate-result returns add-cut cut-requires returns-2)
+vendor-of-spec = tie.close (tie.spec from-requires vendor-of-requires returns)

@@ -15,47 +15,20 @@ name-of-requires c κs = search needs
 data-of-requires : tie.Need-data-of-requires
 data-of-requires c κs = search needs
 
-add-result : tie.Need-add-result
-add-result c = search needs
-
-add-result-2 : tie.Need-add-result-2
-add-result-2 c =
+entry-size-requires : tie.Need-entry-size-requires
+entry-size-requires c κs =
     let a = c .before .before .before .args in
     let l = lengths (now (a .region)) (a .at) (a .e) in
-    let n = ap length (c .before .name-of .ensures) in
-    let d = ap length (c .data-of .ensures) in
-    record { fits = omega arith }
-
-add-result-3 : tie.Need-add-result-3
-add-result-3 c =
-    let a = c .before .before .before .args in
-    let l = lengths (now (a .region)) (a .at) (a .e) in
-    let n = ap length (c .before .name-of .ensures) in
-    let d = ap length (c .data-of .ensures) in
-    record { fits = omega arith }
-
-mul-result : tie.Need-mul-result
-mul-result c =
-    let a = c .before .before .before .args in
-    let l = lengths (now (a .region)) (a .at) (a .e) in
-    let n = ap length (c .before .name-of .ensures) in
-    let d = ap length (c .data-of .ensures) in
-    record { fits = omega arith }
-
-returns : tie.Need-returns
-returns c =
     let n = ap length (c .before .name-of .ensures) in
     let d = ap length (c .data-of .ensures) in
     omega arith
 
+returns : tie.Need-returns
+returns c =
+    let n = ap length (c .before .before .name-of .ensures) in
+    let d = ap length (c .before .data-of .ensures) in
+    let e = c .entry-size .ensures in
+    omega arith
+
 pub size-of-spec : {M : Type 1} → statement M
-size-of-spec =
-    tie.close
-    (tie.spec
-    name-of-requires
-    data-of-requires
-    add-result
-    add-result-2
-    add-result-3
-    mul-result
-    returns)
+size-of-spec = tie.close (tie.spec name-of-requires data-of-requires entry-size-requires returns)

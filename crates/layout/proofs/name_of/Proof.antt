@@ -1,0 +1,29 @@
+-- `layout::name_of` meets its contract: the test of the state picks the same case as the definition's, and what is cut out is what it cuts out.
+-- Assumes nothing.
+use mathlib.Core.Path.{sym, _∙_}
+use borrow.Author.Needs.{needs}
+use borrow.Author.Tests.{eq-eqb, ne-eqb}
+use Rattle.model.specs.Walk.{placed}
+use Rattle.layout.specs.Head.{nameIn}
+use Rattle.layout.proofs.name_of.Statement.{statement}
+use Rattle.layout.proofs.name_of.Tie as tie
+
+slice-aggregate-result : tie.Need-slice-aggregate-result
+slice-aggregate-result c = search needs
+
+returns : tie.Need-returns
+unfolding nameIn placed
+returns c = simp (eq-eqb _ _ (c .before .if1 .taken))
+
+cast-cut : tie.Need-cast-cut
+cast-cut c = search needs
+
+cut-requires : tie.Need-cut-requires
+cut-requires c κs = search needs
+
+returns-2 : tie.Need-returns-2
+unfolding nameIn placed
+returns-2 c = simp (ne-eqb _ _ (c .before .before .if1 .left), c .cut .ensures)
+
+pub name-of-spec : {M : Type 1} → statement M
+name-of-spec = tie.close (tie.spec slice-aggregate-result returns cast-cut cut-requires returns-2)
