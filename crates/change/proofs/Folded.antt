@@ -3,8 +3,8 @@
 -- Assumes nothing.
 use Prim.Native.Nat.{ℕ, _+_, _*_, _-_, _^_, _≤_, _<_}
 use native.Mathlib.Omega.{arith}
-use mathlib.Core.Path.{_≡_, sym, ap, _∙_, subst}
-use mathlib.Core.Bool.{false}
+use mathlib.Core.Path.{_≡_, refl, sym, ap, _∙_, subst}
+use mathlib.Core.Bool.{true, false}
 use mathlib.Core.List.{List, _++_}
 use lib.ListN.{length, take, replicate, length-append, length-replicate}
 use Rattle.model.specs.Lists.{part}
@@ -15,7 +15,7 @@ use Rattle.model.specs.Work.{usedRecords}
 use Rattle.model.specs.Change.{put, step, spaceOf}
 use Rattle.model.specs.Compact.{joined, encode, nextRecord, fillSpare, finish, compactTo, compactOn}
 use Rattle.model.specs.Stores.{Store}
-use Rattle.model.specs.Set.{make, fitsTail, putPlan}
+use Rattle.model.specs.Set.{Plan, make, fitsTail, putPlan}
 use Rattle.model.specs.Answers.{storesOf}
 use Rattle.model.specs.Book.{ClearsOne, isRecord}
 use Rattle.model.proofs.Chunks.{sound-chunked}
@@ -28,8 +28,8 @@ use Rattle.plan.specs.declared.Op.{Op}
 use Rattle.plan.specs.declared.Step.the-variants.{Nothing}
 use Rattle.plan.specs.declared.Planned.{Planned}
 use Rattle.plan.specs.Plan.{storesOfStep}
-use Rattle.plan.specs.Planned.{accepted}
-use Rattle.plan.proofs.Parts.{accepted-as, accepted-ready}
+use Rattle.plan.specs.Planned.{accepted, decidesRight}
+use Rattle.plan.proofs.Parts.{mark-decides, accepted-as, accepted-ready}
 use Rattle.orders.specs.Compactions.{compactPlan}
 use Rattle.orders.proofs.CompactionPlans.{compact-to, compact-on}
 use Rattle.orders.proofs.CompactionReady.{compact-ready}
@@ -115,6 +115,15 @@ module _ {img : List ℕ} {b : ℕ} {at : ℕ} {places : Places} {v : Value} (a 
         unfolding putPlan compactTo compactOn
         is-plan = rw (fit, a .ready .number)
 
+        -- the record FC decides
+        decides : {ops : List Op} {p : Planned} → ops ≡ compactPlan Nothing Nothing b (usedRecords (work img)) → p ≡ accepted ops 5
+            → decidesRight (putPlan img v) p ≡ true
+        unfolding compactPlan
+        decides {ops} {p} o f =
+            ap (λ (q : Plan). decidesRight q p) is-plan
+            ∙ mark-decides c (compactPlan Nothing Nothing b (usedRecords (work img))) 5 (fillSpare b (work img) wanted) (finish b (nextRecord (work img)) wanted) f o refl
+            (compact-to c b (work img) wanted composed)
+
         -- *what was planned*
         pub fold-planned : {ops : List Op} {p : Planned} {used : ℕ} → used ≡ usedRecords (part (block * b) block img) → ops ≡ compactPlan Nothing Nothing b used
             → p ≡ accepted ops 5 → PutPlanned img v c p
@@ -130,6 +139,7 @@ module _ {img : List ℕ} {b : ℕ} {at : ℕ} {places : Places} {v : Value} (a 
               same =
                   accepted-as c ops′ 5 (fillSpare b (work img) wanted) (finish b (nextRecord (work img)) wanted) f is (compact-to c b (work img) wanted composed) (compact-on c b (work img) wanted composed)
                   ∙ sym is-plan;
+              decides = decides is f;
               ready = λ states records.
                   accepted-ready c img ops′ 5 f is
                   (compact-ready c img Nothing Nothing b (work img) wanted composed size (omega arith) held tt tt tt tt

@@ -2,7 +2,7 @@
 -- Assumes nothing.
 use Prim.Native.Nat.{ℕ, _+_, _*_, _^_, _≤_, _<_}
 use native.Mathlib.Omega.{arith}
-use mathlib.Core.Path.{_≡_, sym, ap, _∙_, subst}
+use mathlib.Core.Path.{_≡_, refl, sym, ap, _∙_, subst}
 use mathlib.Core.Logic.{_⊎_, inl, inr}
 use mathlib.Core.Bool.{true, false}
 use mathlib.Core.List.{List, _++_}
@@ -13,7 +13,7 @@ use Rattle.model.specs.Image.{block, region}
 use Rattle.model.specs.Entry.{Value, keyOf, rounded, entrySize, entryBytes}
 use Rattle.model.specs.Region.{entries, tailAt}
 use Rattle.model.specs.Stores.{Store}
-use Rattle.model.specs.Set.{make, tailTo, tailOn, fitsTail, putPlan}
+use Rattle.model.specs.Set.{Plan, make, tailTo, tailOn, fitsTail, putPlan}
 use Rattle.model.specs.Answers.{storesOf}
 use Rattle.model.specs.Book.{ClearsOne, isState}
 use Rattle.values.specs.declared.Places.{Places}
@@ -21,8 +21,8 @@ use Rattle.text.specs.Text.{Wrote}
 use Rattle.compose.proofs.Headers.{entry-short}
 use Rattle.plan.specs.declared.Op.{Op}
 use Rattle.plan.specs.declared.Planned.{Planned}
-use Rattle.plan.specs.Planned.{accepted}
-use Rattle.plan.proofs.Parts.{accepted-as, accepted-ready}
+use Rattle.plan.specs.Planned.{accepted, decidesRight}
+use Rattle.plan.proofs.Parts.{mark-decides, accepted-as, accepted-ready}
 use Rattle.orders.specs.Entries.{Below, tailPlan}
 use Rattle.orders.proofs.EntryPlans.{Holds, tail-to, tail-on, entry-holds}
 use Rattle.orders.proofs.EntryReady.{tail-ready}
@@ -86,6 +86,17 @@ module _ {img : List ℕ} {b at : ℕ} {places : Places} {v : Value} (a : Asked 
       unfolding putPlan
       is-plan = rw fit
 
+      -- the state 3F decides
+      decides : {ops : List Op} {p : Planned} → ops ≡ tailPlan places (tailAt (region img)) (length (v .name)) (length (v .bytes)) → p ≡ accepted ops 6
+          → decidesRight (putPlan img v) p ≡ true
+      unfolding tailPlan
+      decides {ops} {p} o f =
+          let es = entries (region img) in
+          let t = tailAt (region img) in
+          ap (λ (q : Plan). decidesRight q p) is-plan
+          ∙ mark-decides c (tailPlan places t (length (v .name)) (length (v .bytes))) 6 (tailTo t v es) (tailOn v es) f o refl
+          (tail-to c places v es (a .added) (a .replacing) holds t)
+
       -- *what was planned*
       pub tail-planned : {ops : List Op} {p : Planned} {m : ℕ} → m ≡ length (v .bytes) → ops ≡ tailPlan places at (length (v .name)) m → p ≡ accepted ops 6 → PutPlanned img v c p
       unfolding storesOf block
@@ -101,6 +112,7 @@ module _ {img : List ℕ} {b at : ℕ} {places : Places} {v : Value} (a : Asked 
             same =
                 accepted-as c ops′ 6 (tailTo t v es) (tailOn v es) f is (tail-to c places v es (a .added) (a .replacing) holds t) (tail-on c places v es (a .added) (a .replacing) t)
                 ∙ sym is-plan;
+            decides = decides is f;
             ready = λ states records.
                 accepted-ready c img ops′ 6 f is
                 (tail-ready c img places v (a .added) (a .replacing) (x .0) (x .1) (omega (arith, a .ready .long, long .1)) held holds

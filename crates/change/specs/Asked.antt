@@ -20,7 +20,7 @@ use Rattle.values.specs.declared.Places.{Places}
 use Rattle.image.specs.Check.{IsReady}
 use Rattle.plan.specs.declared.Planned.{Planned}
 use Rattle.plan.specs.Plan.{Ready}
-use Rattle.plan.specs.Planned.{plannedAs}
+use Rattle.plan.specs.Planned.{plannedAs, decidesRight}
 
 -- a value by its fields
 abbrev pub valued : List ℕ → List ℕ → ℕ → List ℕ → List ℕ → Value
@@ -50,9 +50,11 @@ pub record Asked (img : List ℕ) (b tail : ℕ) (places : Places) (v : Value) :
   pub valid : length (v .vendor) ≡ 16 → Valid v
   pub room : spaceOf (step (put v) (valuesOf img)) ≤ regionSize img
 
--- a put was planned over an image, with this content: it is what the definitions plan, and what the executor asks, if every change of state and record clears one bit
+-- a put was planned over an image, with this content: it is what the definitions plan, its deciding operation is told rightly, and it is what the executor
+-- asks, if every change of state and record clears one bit
 pub record PutPlanned (img : List ℕ) (v : Value) (content : List ℕ) (p : Planned) : Type 0 where
   pub same : plannedAs content p ≡ putPlan img v
+  pub decides : decidesRight (putPlan img v) p ≡ true
   pub ready : (fitsTail (region img) v ≡ true → ClearsOne (isState img) (storesOf (putPlan img v)) img)
       → ClearsOne (isRecord img) (storesOf (putPlan img v)) img
       → Ready content (p .plan) img

@@ -10,18 +10,21 @@ use mathlib.Core.Option.{Option, none, some}
 use lib.ListN.{length}
 use Rattle.model.specs.declared.Session.{Session}
 use Rattle.model.specs.declared.Rule.{Rule}
-use Rattle.model.specs.Lists.{part, onSome}
+use Rattle.model.specs.Lists.{part, isSome, onSome}
 use Rattle.model.specs.Name.{keyed}
 use Rattle.model.specs.Image.{block, regionSize, region}
 use Rattle.model.specs.Entry.{Value}
-use Rattle.model.specs.Region.{entries, sound, values, valuesOf, added, replacing, find}
+use Rattle.model.specs.Walk as walk
+use Rattle.model.specs.Region.{entries, sound, values, valuesOf, added, replacing, standing, find}
 use Rattle.model.specs.Request.{Request, requestKey, dataProper, stampToStore}
 use Rattle.model.specs.Change.{Change, nothing, remove, put, changeIn, newData, newValue}
 use Rattle.model.specs.Rules.{firstBroken, imageRules, requestRules, standingRules, resultRules, roomRules, rule8, setBroken}
 use Rattle.model.specs.Stores.{Store, Bytes}
 use Rattle.model.specs.Set.{Plan, refuse, make, fitsTail, deleteTo, putPlan, changePlan, setPlan}
 use Rattle.model.specs.Answers.{storesOf}
-use Rattle.model.proofs.Requests.{broken-append, unbroken, put-is-valid, put-fits}
+use Rattle.model.proofs.Chunks.{sound-parts}
+use Rattle.model.proofs.Values.{find-standing}
+use Rattle.model.proofs.Requests.{broken-append, unbroken, put-is-valid, put-fits, remove-present}
 use Rattle.values.specs.Found.{foundOf}
 use Rattle.values.specs.declared.Places.{Places}
 use Rattle.image.proofs.Ready.{refused-rule}
@@ -33,10 +36,10 @@ use Rattle.model.specs.Book.{set, planOf, Sized, ClearsOne, isState, isRecord, 
 use Rattle.recovery.proofs.Bits.{marks-clear-one-bit}
 use Rattle.plan.specs.declared.Op.{Op}
 use Rattle.plan.specs.declared.Planned.{Planned}
-use Rattle.plan.specs.Planned.{accepted, Kept, Plans}
-use Rattle.plan.proofs.Parts.{accepted-plans, either-kept}
+use Rattle.plan.specs.Planned.{accepted, decidesRight, Kept, Plans}
+use Rattle.plan.proofs.Parts.{mark-decides, accepted-plans, either-kept}
 use Rattle.orders.specs.Entries.{Below, deletePlan}
-use Rattle.orders.proofs.EntryPlans.{delete-to, delete-on}
+use Rattle.orders.proofs.EntryPlans.{delete-to, delete-on, remove-marks}
 use Rattle.orders.proofs.EntryReady.{delete-ready}
 use Rattle.orders.proofs.Found.{places-below}
 use Rattle.change.specs.Asked.{valueToPut, Asked, PutPlanned}
@@ -123,6 +126,32 @@ module _ (s : Session) (name vendor : List ℕ) (a : ℕ) (bytes : List ℕ) (pr
   pub remove-asked : Below (2 ^ 62) (places .added) × Below (2 ^ 62) (places .replacing)
   remove-asked = below (2 ^ 62) (omega (arith, ready .long, ready .few))
 
+  -- rule 11: an entry of the name stands
+  stands : what ≡ decision.Remove → isSome (standing (keyed name vendor) (entries (region img))) ≡ true
+  unfolding valuesOf
+  stands h =
+      let k = keyed name vendor in
+      let es = entries (region img) in
+      let present : isSome (find k (valuesOf img)) ≡ true =
+      remove-present s q img (broken ∙ ap brokenOf h) k (remove-change s q (regionSize img) (valuesOf img) (decided ∙ h)) in
+      let looked : find k (values es) ≡ onSome (standing k es) (λ e. some (walk.entryValue e)) none =
+      find-standing (length (region img)) es k (sound-parts (region img) (ready .sounds) .1) in
+      go (standing k es) (ap isSome (sym looked) ∙ present)
+    where
+      go : (o : Option walk.Entry) → isSome (onSome o (λ e. some (walk.entryValue e)) none) ≡ true → isSome o ≡ true
+      go (some e) p = refl
+      go none p = p
+
+  -- its mark decides
+  remove-decides : what ≡ decision.Remove → (c : List ℕ) {ops : List Op} {p : Planned} → ops ≡ deletePlan places → p ≡ accepted ops 1
+      → decidesRight (make (deleteTo (keyed name vendor) (entries (region img))) []) p ≡ true
+  unfolding deletePlan
+  remove-decides h c o e =
+      let k = keyed name vendor in
+      let es = entries (region img) in
+      mark-decides c (deletePlan places) 1 (deleteTo k es) [] e o (remove-marks c places k es found-added found-replacing (stands h))
+      (delete-to c places k es found-added found-replacing)
+
   -- *what was planned*
   pub remove-plans : what ≡ decision.Remove → Bytes img → Sized (set s q) → (before c : List ℕ) {ops : List Op} {p : Planned} → ops ≡ deletePlan places → p ≡ accepted ops 1
       → Plans (setPlan s q img) img before c p
@@ -134,7 +163,7 @@ module _ (s : Session) (name vendor : List ℕ) (a : ℕ) (bytes : List ℕ) (pr
       let x = below (length img) (omega (arith, ready .long, l .1)) in
       let clears = remove-clears s q img k bytes-img args (remove-change s q (regionSize img) (valuesOf img) (decided ∙ h)) (remove-plan h) in
       accepted-plans before c img (setPlan s q img) (deletePlan places) 1 (deleteTo k es) [] e o (delete-to c places k es found-added found-replacing)
-      (delete-on c places k es found-added found-replacing) (remove-plan h) (delete-ready c img places k found-added found-replacing (x .0) (x .1) clears)
+      (delete-on c places k es found-added found-replacing) (remove-plan h) (remove-decides h c o e) (delete-ready c img places k found-added found-replacing (x .0) (x .1) clears)
 
   -- ---- a put
 
@@ -179,6 +208,7 @@ module _ (s : Session) (name vendor : List ℕ) (a : ℕ) (bytes : List ℕ) (pr
       let marks = marks-clear-one-bit img bytes-img (set s q) args in
       record {
         same = d .same ∙ sym (put-plan h);
+        decides = ap (λ (x : Plan). decidesRight x p) (put-plan h) ∙ d .decides;
         kept = put-kept before c h;
         ready =
             d .ready

@@ -1,13 +1,13 @@
 // The executor: the only functions that write an image. It carries out the operations of a plan store by store, and ends where n stores are made.
 ghost use mathlib.Core.Path.{_≡_};
 ghost use Prim.Native.Nat.{_+_, _*_, _≤_, _<_};
-ghost use lib.ListN.{length, getD};
+ghost use lib.ListN.{length};
 ghost use Rattle.model.specs.Image.{block};
-ghost use Rattle.model.specs.Stores.{byte, erase, apply, after, difference};
+ghost use Rattle.model.specs.Stores.{byte, erase, apply, after};
 ghost use Rattle.model.specs.Answers.{answerOf, outcome, imageAfter};
 ghost use Rattle.plan.specs.Plan.{expand, sizeOf, many, Advances, Fits, OneBit, Ready, ended};
 ghost use Rattle.plan.specs.Planned.{plannedAs};
-ghost use Rattle.plan.specs.declared.Step.the-variants.{Program, Header};
+ghost use Rattle.plan.specs.declared.Step.the-variants.{Mark, Program, Header};
 use model::Answer;
 use model::Context;
 use plan::Judged;
@@ -41,7 +41,7 @@ fn clear(image: &mut [u8], b: usize)
 
 // A mark: "Every change of state clears exactly one bit", so the ones in the difference of old and new are counted.
 fn mark(image: &mut [u8], at: usize, new: u8)
-    requires { ⌜ (at < length (now image)) × (difference (getD (now image) at 0) new ≡ 1) ⌝ }
+    requires { ⌜ (at < length (now image)) × OneBit (Mark at new) (now image) ⌝ }
     ensures { λ _. ⌜ now (image .exit) ≡ apply (byte at new) (now (image .entry)) ⌝ }
 {
     let old = image[at];

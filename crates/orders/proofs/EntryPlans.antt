@@ -3,13 +3,14 @@
 use Prim.Native.Nat.{ℕ, _+_, _-_}
 use native.Mathlib.Omega.{arith}
 use mathlib.Core.Path.{_≡_, refl, sym, ap, ap₂, _∙_}
+use mathlib.Core.Bool.{true}
 use mathlib.Core.List.{List, [], _∷_, _++_, append-assoc, append-nil}
 use mathlib.Core.Option.{Option, none, some}
 use lib.ListN.{length, take, drop, replicate, length-append, length-replicate}
 use lib.Seq.{take-at, drop-at}
 use lib.Dec.{eqb}
 use borrow.Author.Tests.{eqb-true}
-use Rattle.model.specs.Lists.{part, first, onSome, orElse}
+use Rattle.model.specs.Lists.{part, first, isSome, onSome, orElse}
 use Rattle.model.specs.Name.{Key, sameKey}
 use Rattle.model.specs.Entry.{Value, keyOf, plainSize, entrySize, headerFront, headerRest, entryBytes}
 use Rattle.model.specs.Walk as walk
@@ -25,7 +26,7 @@ use Rattle.values.specs.declared.Places.{Places}
 use Rattle.values.proofs.Finds.{found-else}
 use Rattle.plan.specs.declared.Step.{Step}
 use Rattle.plan.specs.declared.Step.the-variants as step
-use Rattle.plan.specs.Plan.{storesOfStep, expand}
+use Rattle.plan.specs.Plan.{isMark, storesOfStep, expand}
 use Rattle.orders.specs.Entries.{onFound, Below, markFound, leftoverStep, removeStep, retireStep, deletePlan, tailPlan}
 
 pub standing-below : (end : ℕ) (x y : Found) → Below end x → Below end y → Below end (elseFound x y)
@@ -58,6 +59,13 @@ unfolding storesOfStep markFound
 remove-stores c (some a) r h k = ap (λ (s : ℕ). markState (a .at) (s - 0x02)) (sym h)
 remove-stores c none (some r) h k = ap (λ (s : ℕ). markState (r .at) (s - 0x02)) (sym k)
 remove-stores c none none h k = refl
+
+remove-mark : (a r : Option walk.Entry) → isSome (orElse a r) ≡ true
+    → isMark (onFound {A = Step} (foundOf a) (λ at e. markFound (foundOf a) 0x3D) (markFound (foundOf r) 0x3C)) ≡ true
+unfolding markFound
+remove-mark (some a) r h = refl
+remove-mark none (some r) h = refl
+remove-mark none none h = h
 
 -- as `remove` comes to it
 pub on-found : (x : Found) (a d : Step) {at : ℕ} {e : Entry} → x ≡ At at e → a ≡ onFound {A = Step} x (λ at e. a) d
@@ -102,6 +110,11 @@ module _ (c : List ℕ) (places : Places) (k : Key) (es : List walk.Entry) (is-a
   pub delete-on : expand c (drop 2 (deletePlan places)) ≡ []
   unfolding expand storesOfStep deletePlan
   delete-on = refl
+
+  -- a delete marks the entry that stands
+  pub remove-marks : isSome (standing k es) ≡ true → isMark (removeStep places) ≡ true
+  unfolding removeStep standing
+  remove-marks h = rw (is-added, is-replacing) (remove-mark (added k es) (replacing k es) h)
 
   -- the entry that stands
   pub standing-is : elseFound (places .added) (places .replacing) ≡ foundOf (standing k es)

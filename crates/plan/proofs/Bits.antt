@@ -24,7 +24,7 @@ clears-split marks (erase b ∷ xs) ys img h = clears-split marks xs ys (apply (
 one-bit : (marks : ℕ → Bool) (c : List ℕ) (s : Step) (img : List ℕ) → MarkAt marks s → ClearsOne marks (storesOfStep c s) img → OneBit s img
 unfolding storesOfStep
 one-bit marks c Nothing img m h = tt
-one-bit marks c (Mark at v) img m h = h .0 m .1
+one-bit marks c (Mark at v) img m h = (h .0 m .0, h .0 m .1)
 one-bit marks c (Erase first count) img m h = tt
 one-bit marks c (Program at from len) img m h = tt
 one-bit marks c (Header at from) img m h = tt

@@ -1,17 +1,20 @@
 -- What was planned: a refusal, an empty list, or a plan's two parts.
 -- Assumes nothing.
-use Prim.Native.Nat.{ℕ}
-use mathlib.Core.Path.{_≡_, refl, sym, ap₂, _∙_}
-use mathlib.Core.Bool.{Bool, true, false, cond}
-use mathlib.Core.List.{List, []}
-use lib.ListN.{take, drop}
+use Prim.Native.Nat.{ℕ, zero, suc}
+use mathlib.Core.Path.{_≡_, refl, sym, ap, ap₂, _∙_}
+use mathlib.Core.Bool.{Bool, true, false, cond, false≢true}
+use mathlib.Core.List.{List, [], _∷_, _++_}
+use lib.ListN.{getD, take, drop}
+use Rattle.model.specs.Lists.{isEmpty}
 use Rattle.model.specs.declared.Rule.{Rule}
 use Rattle.model.specs.Stores.{Store}
 use Rattle.model.specs.Set.{Plan, make, refuse}
 use Rattle.plan.specs.declared.Op.{Op}
+use Rattle.plan.specs.declared.Step.{Step}
+use Rattle.plan.specs.declared.Step.the-variants.{Nothing, Mark, Erase, Program, Header}
 use Rattle.plan.specs.declared.Planned.{Planned}
-use Rattle.plan.specs.Plan.{storesOfStep, expand, Ready}
-use Rattle.plan.specs.Planned.{nothings, accepted, refused, upTo, plannedAs, Kept, Plans}
+use Rattle.plan.specs.Plan.{op, isMark, storesOfStep, expand, Ready}
+use Rattle.plan.specs.Planned.{nothings, accepted, refused, upTo, plannedAs, decidesRight, Kept, Plans}
 
 nothing-ready : (c img : List ℕ) → Ready c nothings img
 unfolding nothings
@@ -28,30 +31,47 @@ pub either-kept : (t : Bool) (to on to′ on′ : List Store) (before c : List �
 either-kept true to on to′ on′ before c = tt
 either-kept false to on to′ on′ before c = tt
 
+-- ---- the operation that decides
+
+-- a mark is a store
+mark-there : (c : List ℕ) (ops : List Op) (d : ℕ) → isMark (getD ops d (op Nothing) .step) ≡ true → isEmpty (expand c (take (suc d) ops)) ≡ false
+unfolding expand storesOfStep
+mark-there c [] d m = absurd (false≢true m)
+mark-there c (o ∷ os) zero m = go (o .step) m
+  where
+    go : (s : Step) → isMark s ≡ true → isEmpty (storesOfStep c s ++ []) ≡ false
+    go Nothing m = absurd (false≢true m)
+    go (Mark at v) m = refl
+    go (Erase first count) m = absurd (false≢true m)
+    go (Program at from len) m = absurd (false≢true m)
+    go (Header at from) m = absurd (false≢true m)
+mark-there c (o ∷ os) (suc d) m = behind (storesOfStep c (o .step)) (expand c (take (suc d) os)) (mark-there c os d m)
+  where
+    behind : (xs ys : List Store) → isEmpty ys ≡ false → isEmpty (xs ++ ys) ≡ false
+    behind [] ys h = h
+    behind (x ∷ xs) ys h = refl
+
+-- it decides
+pub mark-decides : (c : List ℕ) (ops : List Op) (d : ℕ) (to on : List Store) {p : Planned} {ops′ : List Op} → p ≡ accepted ops′ d → ops′ ≡ ops
+    → isMark (getD ops d (op Nothing) .step) ≡ true → expand c (take (suc d) ops) ≡ to → decidesRight (make to on) p ≡ true
+unfolding decidesRight accepted
+mark-decides c ops d to on e o m t =
+    let some : isEmpty to ≡ false = ap isEmpty (sym t) ∙ mark-there c ops d m in
+    rw (e, o, some) m
+
+-- none does
+none-decides : (on : List Store) (ops : List Op) {p : Planned} → p ≡ accepted ops 12 → decidesRight (make [] on) p ≡ true
+unfolding decidesRight accepted
+none-decides on ops e = rw e refl
+
+-- ---- what was planned
+
 -- *refused*
 pub refused-plans : (c img : List ℕ) (plan : Plan) (rule : Rule) {p : Planned} → p ≡ refused rule → plan ≡ refuse rule → Plans plan img c c p
-unfolding plannedAs refused
-refused-plans c img plan rule e f = rw (e, f) (record { same = refl; kept = refl; ready = nothing-ready c img })
+unfolding plannedAs decidesRight refused
+refused-plans c img plan rule e f = rw (e, f) (record { same = refl; decides = refl; kept = refl; ready = nothing-ready c img })
 
--- *nothing to store*
-pub nothing-plans : (before c img : List ℕ) (plan : Plan) {p : Planned} {ops : List Op} → ops ≡ nothings → p ≡ accepted ops 12 → plan ≡ make [] [] → Plans plan img before c p
-unfolding plannedAs accepted expand storesOfStep nothings
-nothing-plans before c img plan n e f = rw (e, n) (record { same = sym f; kept = made-kept before c f; ready = nothing-ready c img })
-
--- *accepted*, with the plan's two parts
-pub accepted-plans : (before c img : List ℕ) (plan : Plan) (ops : List Op) (d : ℕ) (to on : List Store) {p : Planned} {ops′ : List Op} → p ≡ accepted ops′ d → ops′ ≡ ops
-    → expand c (take (upTo d) ops) ≡ to → expand c (drop (upTo d) ops) ≡ on → plan ≡ make to on → Ready c ops img → Plans plan img before c p
-unfolding plannedAs accepted
-accepted-plans before c img plan ops d to on e o t u f ready =
-    rw (e, o) (record { same = ap₂ make t u ∙ sym f; kept = made-kept before c f; ready = ready })
-
--- no store decides
-pub undecided-plans : (before c img : List ℕ) (plan : Plan) (ops : List Op) (on : List Store) {p : Planned} {ops′ : List Op} → p ≡ accepted ops′ 12 → ops′ ≡ ops
-    → expand c ops ≡ on → plan ≡ make [] on → Ready c ops img → Plans plan img before c p
-unfolding expand
-undecided-plans before c img plan ops on e o u f ready = accepted-plans before c img plan ops 12 [] on e o refl u f ready
-
--- the same, one by one
+-- *accepted*, with the plan's two parts: field by field, and whole
 pub accepted-as : (c : List ℕ) (ops : List Op) (d : ℕ) (to on : List Store) {p : Planned} {ops′ : List Op} → p ≡ accepted ops′ d → ops′ ≡ ops
     → expand c (take (upTo d) ops) ≡ to → expand c (drop (upTo d) ops) ≡ on → plannedAs c p ≡ make to on
 unfolding plannedAs accepted
@@ -60,3 +80,25 @@ accepted-as c ops d to on e o t u = rw (e, o) (ap₂ make t u)
 pub accepted-ready : (c img : List ℕ) (ops : List Op) (d : ℕ) {p : Planned} {ops′ : List Op} → p ≡ accepted ops′ d → ops′ ≡ ops → Ready c ops img → Ready c (p .plan) img
 unfolding accepted
 accepted-ready c img ops d e o r = rw (e, o) r
+
+pub accepted-plans : (before c img : List ℕ) (plan : Plan) (ops : List Op) (d : ℕ) (to on : List Store) {p : Planned} {ops′ : List Op} → p ≡ accepted ops′ d → ops′ ≡ ops
+    → expand c (take (upTo d) ops) ≡ to → expand c (drop (upTo d) ops) ≡ on → plan ≡ make to on → decidesRight (make to on) p ≡ true → Ready c ops img
+    → Plans plan img before c p
+accepted-plans before c img plan ops d to on {p} e o t u f decides ready = record {
+  same = accepted-as c ops d to on e o t u ∙ sym f;
+  decides = ap (λ (q : Plan). decidesRight q p) f ∙ decides;
+  kept = made-kept before c f;
+  ready = accepted-ready c img ops d e o ready;
+}
+
+-- no store decides
+pub undecided-plans : (before c img : List ℕ) (plan : Plan) (ops : List Op) (on : List Store) {p : Planned} {ops′ : List Op} → p ≡ accepted ops′ 12 → ops′ ≡ ops
+    → expand c ops ≡ on → plan ≡ make [] on → Ready c ops img → Plans plan img before c p
+unfolding expand
+undecided-plans before c img plan ops on e o u f ready =
+    accepted-plans before c img plan ops 12 [] on e o refl u f (none-decides on ops (e ∙ ap (λ (l : List Op). accepted l 12) o)) ready
+
+-- *nothing to store*
+pub nothing-plans : (before c img : List ℕ) (plan : Plan) {p : Planned} {ops : List Op} → ops ≡ nothings → p ≡ accepted ops 12 → plan ≡ make [] [] → Plans plan img before c p
+unfolding expand storesOfStep nothings
+nothing-plans before c img plan n e f = undecided-plans before c img plan nothings [] e n refl f (nothing-ready c img)

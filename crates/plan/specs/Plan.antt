@@ -1,9 +1,10 @@
 -- A plan's operations, and the stores that they are.
 use Prim.Native.Nat.{ℕ, zero, suc, _+_, _*_, _-_, _≤_, _<_}
 use mathlib.Core.Path.{_≡_}
-use mathlib.Core.Bool.{Bool, true, cond}
+use mathlib.Core.Bool.{Bool, true, false, cond}
 use mathlib.Core.List.{List, [], _∷_, _++_}
 use lib.ListN.{length, getD}
+use lib.Bits.{bitAnd}
 use lib.Dec.{leb, ltb}
 use Rattle.model.specs.Lists.{part}
 use Rattle.model.specs.Image.{block}
@@ -36,6 +37,14 @@ expand content (o ∷ os) = storesOfStep content (o .step) ++ expand content os
 abbrev pub op : Step → Op
 op s = record { step = s }
 
+-- an operation is a mark
+abbrev pub isMark : Step → Bool
+isMark Nothing = false
+isMark (Mark at v) = true
+isMark (Erase first count) = false
+isMark (Program at from len) = false
+isMark (Header at from) = false
+
 -- how many stores an operation is, where its bytes lie in the content
 abbrev pub sizeOf : Step → ℕ
 sizeOf Nothing = 0
@@ -64,10 +73,10 @@ Fits held long (Erase first count) = block * first + block * count ≤ long
 Fits held long (Program at from len) = (from + len ≤ held) × (at + len ≤ long)
 Fits held long (Header at from) = (from + headerSize ≤ held) × (at + headerSize ≤ long)
 
--- "Every change of state clears exactly one bit"
+-- "Every change of state clears exactly one bit": no bit rises, and one differs
 abbrev pub OneBit : Step → List ℕ → Type 0
 OneBit Nothing img = Unit {0}
-OneBit (Mark at v) img = difference (getD img at 0) v ≡ 1
+OneBit (Mark at v) img = (bitAnd (getD img at 0) v ≡ v) × (difference (getD img at 0) v ≡ 1)
 OneBit (Erase first count) img = Unit {0}
 OneBit (Program at from len) img = Unit {0}
 OneBit (Header at from) img = Unit {0}

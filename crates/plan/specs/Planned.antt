@@ -1,10 +1,11 @@
 -- What was planned for a call, as the definitions have it: a refusal, or its stores up to the deciding one and on from there.
 use Prim.Native.Nat.{ℕ, suc}
 use mathlib.Core.Path.{_≡_}
-use mathlib.Core.Bool.{cond}
+use mathlib.Core.Bool.{Bool, true, cond}
 use mathlib.Core.List.{List, [], _∷_}
-use lib.ListN.{take, drop}
-use lib.Dec.{ltb}
+use lib.ListN.{getD, take, drop}
+use lib.Dec.{eqb, ltb}
+use Rattle.model.specs.Lists.{isEmpty}
 use Rattle.model.specs.declared.Rule.{Rule}
 use Rattle.model.specs.Set as set
 use Rattle.plan.specs.declared.Op.{Op}
@@ -12,7 +13,7 @@ use Rattle.plan.specs.declared.Step.the-variants.{Nothing}
 use Rattle.plan.specs.declared.Judged.{Judged}
 use Rattle.plan.specs.declared.Judged.the-variants.{Accepted, Refused}
 use Rattle.plan.specs.declared.Planned.{Planned}
-use Rattle.plan.specs.Plan.{op, expand, Ready}
+use Rattle.plan.specs.Plan.{op, isMark, expand, Ready}
 
 -- no operation at all
 unfoldable pub nothings : List Op
@@ -43,8 +44,15 @@ abbrev pub Kept : set.Plan → List ℕ → List ℕ → Type 0
 Kept (set.refuse rule) before after = after ≡ before
 Kept (set.make to on) before after = Unit {0}
 
--- this was planned, over an image and with the content as it was before and is now: it is what the definitions plan, and what the executor asks
+-- the operation `deciding` is the one whose store decides, always a mark; it is 12 where none decides: of a refused call, and of a list without a deciding store
+unfoldable pub decidesRight : set.Plan → Planned → Bool
+decidesRight (set.refuse rule) p = eqb (p .deciding) 12
+decidesRight (set.make to on) p = cond (isEmpty to) (eqb (p .deciding) 12) (isMark (getD (p .plan) (p .deciding) (op Nothing) .step))
+
+-- this was planned, over an image and with the content as it was before and is now: it is what the definitions plan, its deciding operation is told
+-- rightly, and it is what the executor asks
 pub record Plans (plan : set.Plan) (img before content : List ℕ) (p : Planned) : Type 0 where
   pub same : plannedAs content p ≡ plan
+  pub decides : decidesRight plan p ≡ true
   pub kept : Kept plan before content
   pub ready : Ready content (p .plan) img
