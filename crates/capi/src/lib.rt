@@ -10,6 +10,7 @@ ghost use Rattle.model.specs.Book as book;
 ghost use Rattle.recovery.specs.Host.{StartUpPlanned, PlannedFor};
 ghost use Rattle.plan.specs.Planned.{Kept};
 ghost use Rattle.plan.specs.Told.{Told};
+ghost use Rattle.plan.specs.Numbers.{Numbered};
 ghost use Rattle.capi.specs.Numbers.{numbersOf, checkedOf};
 use image::Check;
 use model::Answer;
@@ -275,7 +276,13 @@ pub extern "C" fn vs_plan_set(
         × Kept
         (setPlan session (requestOf (now (name .entry)) (now (vendor .entry)) attributes (now (bytes .entry)) presence verdict) (now (image .entry)))
         (now (content .entry))
-        (now (content .exit)) ⌝ }
+        (now (content .exit))
+        × Numbered
+        (setPlan session (requestOf (now (name .entry)) (now (vendor .entry)) attributes (now (bytes .entry)) presence verdict) (now (image .entry)))
+        (now (image .entry))
+        (now (content .entry))
+        (now (content .exit))
+        r ⌝ }
 {
     let planned = engine::write::plan_set(
         session,
@@ -294,7 +301,8 @@ pub extern "C" fn vs_plan_set(
 #[no_mangle]
 pub extern "C" fn vs_plan_start_up(image: &[u8], content: &mut [u8; 28672]) -> HostPlan
     ensures { λ r. ⌜ StartUpPlanned (now (image .entry)) (now (content .exit)) r
-        × Kept (startUpPlan (now (image .entry))) (now (content .entry)) (now (content .exit)) ⌝ }
+        × Kept (startUpPlan (now (image .entry))) (now (content .entry)) (now (content .exit))
+        × Numbered (startUpPlan (now (image .entry))) (now (image .entry)) (now (content .entry)) (now (content .exit)) r ⌝ }
 {
     let planned = engine::start::plan_start_up(image, content);
     plan::in_numbers(planned)
@@ -303,7 +311,8 @@ pub extern "C" fn vs_plan_start_up(image: &[u8], content: &mut [u8; 28672]) -> H
 #[no_mangle]
 pub extern "C" fn vs_plan_format(image: &[u8], content: &mut [u8; 28672]) -> HostPlan
     ensures { λ r. ⌜ Told (formatPlan (now (image .entry))) (now (content .exit)) r
-        × Kept (formatPlan (now (image .entry))) (now (content .entry)) (now (content .exit)) ⌝ }
+        × Kept (formatPlan (now (image .entry))) (now (content .entry)) (now (content .exit))
+        × Numbered (formatPlan (now (image .entry))) (now (image .entry)) (now (content .entry)) (now (content .exit)) r ⌝ }
 {
     let planned = engine::write::plan_format(image, content);
     plan::in_numbers(planned)

@@ -2,7 +2,7 @@
 -- Assumes nothing.
 use Prim.Native.Nat.{ℕ, zero, suc}
 use native.Mathlib.Omega.{arith}
-use mathlib.Core.Path.{_≡_, refl, ap, ap₂, _∙_, subst}
+use mathlib.Core.Path.{_≡_, refl, sym, ap, ap₂, _∙_, subst}
 use mathlib.Core.List.{List, [], _∷_, _++_}
 use lib.ListN.{length, take, drop}
 use Rattle.model.specs.declared.Rule.{Rule}
@@ -12,14 +12,15 @@ use Rattle.model.specs.Answers.{ruleNumber}
 use Rattle.plan.specs.declared.Op.{Op}
 use Rattle.plan.specs.declared.Step.{Step}
 use Rattle.plan.specs.declared.Step.the-variants.{Nothing, Mark, Erase, Program, Header}
+use Rattle.plan.specs.declared.Judged.{Judged}
 use Rattle.plan.specs.declared.Judged.the-variants.{Accepted, Refused}
 use Rattle.plan.specs.declared.Planned.{Planned}
 use Rattle.plan.specs.declared.HostOp.{HostOp}
 use Rattle.plan.specs.declared.HostPlan.{HostPlan}
 use Rattle.plan.specs.Plan.{op, storesOfStep, expand}
-use Rattle.plan.specs.Planned.{nothings, upTo, plannedAs}
+use Rattle.plan.specs.Planned.{nothings, upTo, onJudged, plannedAs}
 use Rattle.plan.specs.Told.{headerStores, storesOfNumbers, expandNumbers, noOperations, refusalOf, Told}
-use Rattle.plan.specs.Numbers.{operationOf, operationAt, operationsOf, Tells}
+use Rattle.plan.specs.Numbers.{operationOf, operationAt, operationsOf, judgedNumbers, inNumbers}
 
 -- twelve, one by one
 pub twelve : (p : List Op) → length p ≡ 12
@@ -79,19 +80,25 @@ told-at c ops d = (
   ap (expandNumbers c) (drop-operations d ops) ∙ expand-same c (drop d ops),
 )
 
-pub accepted-told : (p : Planned) (ops : List HostOp) → p .judged ≡ Accepted → ops ≡ operationsOf (p .plan)
-    → Tells p (record { rule = 0; deciding = p .deciding; ops = ops })
-unfolding plannedAs
-accepted-told p ops j e c =
-    let t = told-at c (p .plan) (upTo (p .deciding)) in
-    rw (j, e) (refl, t .0, t .1)
-
--- *a refused call*
-pub refused-told : (p : Planned) (rule : Rule) (number : ℕ) (ops : List HostOp) → p .judged ≡ Refused rule → number ≡ ruleNumber rule → ops ≡ noOperations
-    → Tells p (record { rule = number; deciding = 12; ops = ops })
-unfolding plannedAs refusalOf
-refused-told p rule number ops j e f c = rw (j, e, f) refl
+tells : (c : List ℕ) (p : Planned) → Told (plannedAs c p) c (inNumbers p)
+unfolding plannedAs inNumbers
+tells c p = go (p .judged)
+  where
+    go : (j : Judged) → Told (onJudged c (p .plan) (p .deciding) j) c (judgedNumbers (p .plan) (p .deciding) j)
+    go Accepted = let t = told-at c (p .plan) (upTo (p .deciding)) in (refl, t .0, t .1)
+    go (Refused rule) = refl
 
 -- *what was planned as the definitions plan, is told so*
-pub told : (c : List ℕ) (p : Planned) (h : HostPlan) {plan : set.Plan} → plannedAs c p ≡ plan → Tells p h → Told plan c h
-told c p h e t = subst (λ (q : set.Plan). Told q c h) e (t c)
+pub told : (c : List ℕ) (p : Planned) {h : HostPlan} {plan : set.Plan} → plannedAs c p ≡ plan → h ≡ inNumbers p → Told plan c h
+told c p {h} {plan} e n = subst (λ (x : HostPlan). Told plan c x) (sym n) (subst (λ (q : set.Plan). Told q c (inNumbers p)) e (tells c p))
+
+-- as `in_numbers` comes to it: accepted, and refused
+pub accepted-numbers : (p : Planned) (ops : List HostOp) → p .judged ≡ Accepted → ops ≡ operationsOf (p .plan)
+    → _≡_ {A = HostPlan} (record { rule = 0; deciding = p .deciding; ops = ops }) (inNumbers p)
+unfolding inNumbers
+accepted-numbers p ops j e = rw (j, e) refl
+
+pub refused-numbers : (p : Planned) (rule : Rule) (number : ℕ) (ops : List HostOp) → p .judged ≡ Refused rule → number ≡ ruleNumber rule → ops ≡ noOperations
+    → _≡_ {A = HostPlan} (record { rule = number; deciding = 12; ops = ops }) (inNumbers p)
+unfolding inNumbers refusalOf
+refused-numbers p rule number ops j e f = rw (j, e, f) refl

@@ -2,7 +2,7 @@
 ghost use mathlib.Core.Path.{_≡_};
 ghost use Rattle.plan.specs.Planned.{accepted, refused, nothings};
 ghost use Rattle.plan.specs.Told.{noOperations};
-ghost use Rattle.plan.specs.Numbers.{operationOf, operationAt, operationsOf, Tells};
+ghost use Rattle.plan.specs.Numbers.{operationOf, operationAt, operationsOf, inNumbers};
 use model::Rule;
 
 // One operation: none; a byte marked (offset, new value); blocks erased (the first, how many); bytes of the content stored (offset in the image, offset in the content,
@@ -182,9 +182,9 @@ fn no_operations() -> [HostOp; 12]
     operations(nothing())
 }
 
-// What was planned for a call, in numbers: whatever the content holds, they tell it.
+// What was planned for a call, in numbers.
 pub fn in_numbers(planned: Planned) -> HostPlan
-    ensures { λ r. ⌜ Tells planned r ⌝ }
+    ensures { λ r. ⌜ r ≡ inNumbers planned ⌝ }
 {
     let judged = planned.judged;
     let plan = planned.plan;

@@ -12,7 +12,9 @@ in-numbers-requires c κs = search needs
 
 returns : tie.Need-returns
 returns c =
-    let p = c .before .plan-set in (told _ (p .result) (c .in-numbers .result) (p .ensures .same) (c .in-numbers .ensures), p .ensures .kept)
+    let p = c .before .plan-set in
+    let n = c .in-numbers .ensures in
+    (told _ (p .result) (p .ensures .same) n, p .ensures .kept, record { planned = p .result; plans = p .ensures; same = n })
 
 pub vs-plan-set-spec : {M : Type 1} → statement M
 vs-plan-set-spec = tie.close (tie.spec plan-set-requires in-numbers-requires returns)

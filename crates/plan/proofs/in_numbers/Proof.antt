@@ -1,5 +1,5 @@
 -- `plan::in_numbers` meets its contract, by how the call was judged. Assumes nothing.
-use Rattle.plan.proofs.InNumbers.{accepted-told, refused-told}
+use Rattle.plan.proofs.InNumbers.{accepted-numbers, refused-numbers}
 use borrow.Author.Needs.{needs}
 use Rattle.plan.proofs.in_numbers.Statement.{statement}
 use Rattle.plan.proofs.in_numbers.Tie as tie
@@ -22,12 +22,12 @@ no-operations-requires c κs = search needs
 returns : tie.Need-returns
 returns c =
     let s = c .before .before .before .before in
-    accepted-told (s .args .planned) _ (c .before .enum-told .given .1) (c .operations .ensures)
+    accepted-numbers (s .args .planned) _ (c .before .enum-told .given .1) (c .operations .ensures)
 
 returns-2 : tie.Need-returns-2
 returns-2 c =
     let s = c .before .before .before .before .before in
-    refused-told (s .before .args .planned) _ _ _ (c .before .before .before .judged .given .1) (c .before .number .ensures) (c .no-operations .ensures)
+    refused-numbers (s .before .args .planned) _ _ _ (c .before .before .before .judged .given .1) (c .before .number .ensures) (c .no-operations .ensures)
 
 pub in-numbers-spec : {M : Type 1} → statement M
 in-numbers-spec =
