@@ -4,6 +4,7 @@ ghost use Rattle.model.specs.Name.{keyed};
 ghost use Rattle.model.specs.Session.{freshSession, movedTo};
 ghost use Rattle.model.specs.Set.{setPlan};
 ghost use Rattle.model.specs.StartUp.{startUpPlan, formatPlan};
+ghost use Rattle.model.specs.Beside.{Gives};
 ghost use Rattle.model.specs.Answers.{answerOf, outcome, imageAfter, getPlan, nextPlan, getReply, nextReply, lockOutcome, lockSession};
 ghost use Rattle.decision.specs.Decision.{requestOf};
 ghost use Rattle.model.specs.Book as book;
@@ -139,10 +140,9 @@ pub extern "C" fn vs_get(
     ensures { λ r. ⌜ (r .answer
         ≡ numbersOf (outcome (context .limit)
         (getPlan session (keyed (now (name .entry)) (now (vendor .entry))) (now (buffer .entry)) (now (image .entry)))))
-        × (r .size ≡ getReply session (keyed (now (name .entry)) (now (vendor .entry))) (now (buffer .entry)) (now (image .entry)) .size)
-        × (r .attributes ≡ getReply session (keyed (now (name .entry)) (now (vendor .entry))) (now (buffer .entry)) (now (image .entry)) .attributes)
-        × (r .needed ≡ getReply session (keyed (now (name .entry)) (now (vendor .entry))) (now (buffer .entry)) (now (image .entry)) .needed)
-        × (now (buffer .exit) ≡ getReply session (keyed (now (name .entry)) (now (vendor .entry))) (now (buffer .entry)) (now (image .entry)) .buffer) ⌝ }
+        × Gives
+        (getReply session (keyed (now (name .entry)) (now (vendor .entry))) (now (buffer .entry)) (now (image .entry)))
+        (r .size) (r .attributes) (r .needed) (now (buffer .exit)) ⌝ }
 {
     let g = engine::read::get(context, session, image, name, vendor, buffer);
     let answer = g.answer;
@@ -166,10 +166,9 @@ pub extern "C" fn vs_next_name(
     ensures { λ r. ⌜ (r .answer
         ≡ numbersOf (outcome (context .limit)
         (nextPlan session (keyed (now (name .entry)) (now (vendor .entry))) (now (buffer .entry)) (now (image .entry)))))
-        × (r .size ≡ nextReply session (keyed (now (name .entry)) (now (vendor .entry))) (now (buffer .entry)) (now (image .entry)) .size)
-        × (r .attributes ≡ 0)
-        × (r .needed ≡ nextReply session (keyed (now (name .entry)) (now (vendor .entry))) (now (buffer .entry)) (now (image .entry)) .needed)
-        × (now (buffer .exit) ≡ nextReply session (keyed (now (name .entry)) (now (vendor .entry))) (now (buffer .entry)) (now (image .entry)) .buffer) ⌝ }
+        × Gives
+        (nextReply session (keyed (now (name .entry)) (now (vendor .entry))) (now (buffer .entry)) (now (image .entry)))
+        (r .size) (r .attributes) (r .needed) (now (buffer .exit)) ⌝ }
 {
     let g = engine::read::next_name(context, session, image, name, vendor, buffer);
     let answer = g.answer;

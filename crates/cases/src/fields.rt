@@ -4,7 +4,7 @@ ghost use lib.ListN.{length};
 ghost use Rattle.io.specs.Counts.{Counts};
 
 // A byte, zero past the end.
-pub fn byte(s: &[u8], at: usize) -> u8 {
+pub(crate) fn byte(s: &[u8], at: usize) -> u8 {
     if at < s.len() {
         return s[at];
     }
@@ -18,7 +18,7 @@ fn wide(b: u8) -> usize
 }
 
 // A number of two bytes.
-pub fn short(s: &[u8], at: usize) -> usize
+pub(crate) fn short(s: &[u8], at: usize) -> usize
     ensures { λ r. ⌜ r < 65536 ⌝ }
 {
     let field = slices::cut(s, at, 2);
@@ -26,7 +26,7 @@ pub fn short(s: &[u8], at: usize) -> usize
 }
 
 // A number of four bytes.
-pub fn long(s: &[u8], at: usize) -> usize
+pub(crate) fn long(s: &[u8], at: usize) -> usize
     ensures { λ r. ⌜ r < 2 ^ 32 ⌝ }
 {
     let field = slices::cut(s, at, 4);
@@ -34,14 +34,14 @@ pub fn long(s: &[u8], at: usize) -> usize
 }
 
 // Bytes, at most so many.
-pub fn bytes(s: &[u8], at: usize, size: usize) -> &[u8]
+pub(crate) fn bytes(s: &[u8], at: usize, size: usize) -> &[u8]
     ensures { λ r. ⌜ length (now r) ≤ size ⌝ }
 {
     slices::cut(s, at, size)
 }
 
 // A number of the bytes of a buffer: all of them if they are fewer.
-pub fn least(n: usize, buffer: &[u8]) -> usize
+pub(crate) fn least(n: usize, buffer: &[u8]) -> usize
     ensures { λ r. ⌜ Counts r (now (buffer .entry)) ⌝ }
 {
     if buffer.len() < n {
@@ -51,7 +51,7 @@ pub fn least(n: usize, buffer: &[u8]) -> usize
 }
 
 // A GUID.
-pub fn vendor(s: &[u8], at: usize) -> [u8; 16] {
+pub(crate) fn vendor(s: &[u8], at: usize) -> [u8; 16] {
     let field = slices::cut(s, at, 16);
     let mut guid = [0u8; 16];
     let mut i = 0;

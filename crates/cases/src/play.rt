@@ -175,7 +175,7 @@ fn phase(step: &[u8], s: Session) -> Session {
 fn poke(step: &[u8], image: &mut [u8]) {
     let at = fields::long(step, 5);
     let bytes = fields::bytes(step, 11, fields::short(step, 9));
-    text::put_bytes(image, at, bytes);
+    output::put_bytes(image, at, bytes);
     print::number(b"bytes at ", at as u64);
     print::hex(b" are ", bytes);
     print::end();
@@ -188,7 +188,7 @@ fn show(step: &[u8], image: &[u8]) {
     print::end();
 }
 
-pub fn varlist(image: &[u8]) {
+pub(crate) fn varlist(image: &[u8]) {
     let mut out = io::large_buffer();
     let n = report::report(image, &mut out);
     print::word(slices::cut(&out, 0, n));
@@ -267,7 +267,7 @@ fn play_steps(script: &[u8], buffer: &mut [u8]) {
     }
 }
 
-pub fn play(script: &[u8]) {
+pub(crate) fn play(script: &[u8]) {
     let mut buffer = io::large_buffer();
     play_steps(script, &mut buffer);
 }

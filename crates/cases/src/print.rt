@@ -3,20 +3,20 @@ use libc::STDOUT_FILENO;
 use model::Answer;
 use model::Session;
 
-pub fn word(text: &[u8]) {
+pub(crate) fn word(text: &[u8]) {
     io::write_all(STDOUT_FILENO, text);
 }
 
-pub fn number(text: &[u8], n: u64) {
+pub(crate) fn number(text: &[u8], n: u64) {
     word(text);
     io::print_decimal(STDOUT_FILENO, n);
 }
 
 // Bytes in hexadecimal, at most as many as an image has.
-pub fn hex(text: &[u8], bytes: &[u8]) {
+pub(crate) fn hex(text: &[u8], bytes: &[u8]) {
     word(text);
     let mut out = digits();
-    let n = text::put_hex(&mut out, 0, crate::fields::bytes(bytes, 0, 65536));
+    let n = output::put_hex(&mut out, 0, crate::fields::bytes(bytes, 0, 65536));
     word(slices::cut(&out, 0, n));
 }
 
@@ -26,7 +26,7 @@ fn digits() -> [u8; 131072] {
 }
 
 // What a call answered; whether it is done.
-pub fn answer(call: &[u8], a: Answer) -> bool {
+pub(crate) fn answer(call: &[u8], a: Answer) -> bool {
     word(call);
     match a {
         Answer::Done(stores) => {
@@ -45,18 +45,18 @@ pub fn answer(call: &[u8], a: Answer) -> bool {
 }
 
 // The size needed, where a call tells one.
-pub fn needed(n: u32) {
+pub(crate) fn needed(n: u32) {
     if 0 < n {
         number(b" needed ", n as u64);
     }
 }
 
 // Phase and number of locks.
-pub fn session(s: Session) {
+pub(crate) fn session(s: Session) {
     number(b" phase ", s.phase as u64);
     number(b" count ", s.count as u64);
 }
 
-pub fn end() {
+pub(crate) fn end() {
     word(b"\n");
 }

@@ -10,8 +10,8 @@ use Rattle.model.specs.Image.{regionHeader}
 use Rattle.model.specs.Entry.{Value, keyOf, entrySize, entryBytes}
 use Rattle.model.specs.Change.{without, put, step, entrySizes, spaceOf}
 use Rattle.model.specs.Compact.{joined}
-use Rattle.text.specs.Text.{Wrote}
-use Rattle.text.proofs.Writing.{wrote-append, wrote-as}
+use Rattle.output.specs.Text.{Wrote}
+use Rattle.output.proofs.Writing.{wrote-append, wrote-as}
 use Rattle.compose.proofs.Encoded.{joined-put}
 
 module _ (n : ℕ) (v : Value) (vs : List Value) where

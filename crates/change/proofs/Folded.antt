@@ -21,8 +21,8 @@ use Rattle.model.specs.Book.{ClearsOne, isRecord}
 use Rattle.model.proofs.Chunks.{sound-chunked}
 use Rattle.model.proofs.Encode.{AllValid, sound-valid, put-valid}
 use Rattle.values.specs.declared.Places.{Places}
-use Rattle.text.specs.Text.{Wrote}
-use Rattle.text.proofs.Writing.{wrote-append, wrote-front, wrote-length}
+use Rattle.output.specs.Text.{Wrote}
+use Rattle.output.proofs.Writing.{wrote-append, wrote-front, wrote-length}
 use Rattle.compose.proofs.Encoded.{content-length, encode-content}
 use Rattle.plan.specs.declared.Op.{Op}
 use Rattle.plan.specs.declared.Step.the-variants.{Nothing}

@@ -17,7 +17,7 @@ use Rattle.model.specs.Set.{Plan, make, tailTo, tailOn, fitsTail, putPlan}
 use Rattle.model.specs.Answers.{storesOf}
 use Rattle.model.specs.Book.{ClearsOne, isState}
 use Rattle.values.specs.declared.Places.{Places}
-use Rattle.text.specs.Text.{Wrote}
+use Rattle.output.specs.Text.{Wrote}
 use Rattle.compose.proofs.Headers.{entry-short}
 use Rattle.plan.specs.declared.Op.{Op}
 use Rattle.plan.specs.declared.Planned.{Planned}

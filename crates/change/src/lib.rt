@@ -11,7 +11,7 @@ ghost use Rattle.model.specs.Compact.{joined};
 ghost use Rattle.model.specs.Request.{appends};
 ghost use Rattle.model.specs.Set.{fitsTail};
 ghost use Rattle.values.specs.Found.{elseFound};
-ghost use Rattle.text.specs.Text.{Wrote};
+ghost use Rattle.output.specs.Text.{Wrote};
 ghost use Rattle.compose.specs.Compose.{oldData};
 ghost use Rattle.policy.specs.Rules.{rule8Of};
 ghost use Rattle.change.specs.Asked.{valued, valueToPut, Asked, PutPlanned};
@@ -52,8 +52,14 @@ fn put_after(
         × (length (now name) < 2 ^ 32)
         × (length (now old ++ now own) < 2 ^ 32)
         × (length (now vendor) ≡ 16)
-        × (length (regionHeader (length (now region)) ++ joined (step (put (valued (now name) (now vendor) attributes (now stamp) (now old ++ now own))) (values (entries (now region))))) ≤ 28672) ⌝ }
-    ensures { λ r. ⌜ Wrote (regionHeader (length (now (region .entry))) ++ joined (step (put (valued (now (name .entry)) (now (vendor .entry)) attributes (now (stamp .entry)) (now (old .entry) ++ now (own .entry)))) (values (entries (now (region .entry)))))) 0 (now (out .entry)) (now (out .exit)) r
+        × (length
+        (regionHeader (length (now region)) ++ joined
+        (step (put (valued (now name) (now vendor) attributes (now stamp) (now old ++ now own))) (values (entries (now region))))) ≤ 28672) ⌝ }
+    ensures { λ r.
+        ⌜ Wrote
+        (regionHeader (length (now (region .entry))) ++ joined
+        (step (put (valued (now (name .entry)) (now (vendor .entry)) attributes (now (stamp .entry)) (now (old .entry) ++ now (own .entry))))
+        (values (entries (now (region .entry)))))) 0 (now (out .entry)) (now (out .exit)) r
         × (length (now (vendor .entry)) ≡ 16) ⌝ }
 {
     let next = compose::put_values(out, region, name, vendor);
@@ -75,7 +81,9 @@ fn fold(
     requires { ⌜ Asked (now image) (standing .b) (standing .tail) (standing .places) (valued (now name) (now vendor) attributes (now stamp) (now old ++ now own))
         × (fitsTail (region (now image)) (valued (now name) (now vendor) attributes (now stamp) (now old ++ now own)) ≡ false)
         × (length (now content) ≡ 28672) ⌝ }
-    ensures { λ r. ⌜ PutPlanned (now (image .entry)) (valued (now (name .entry)) (now (vendor .entry)) attributes (now (stamp .entry)) (now (old .entry) ++ now (own .entry))) (now (content .exit)) r ⌝ }
+    ensures { λ r.
+        ⌜ PutPlanned (now (image .entry))
+        (valued (now (name .entry)) (now (vendor .entry)) attributes (now (stamp .entry)) (now (old .entry) ++ now (own .entry))) (now (content .exit)) r ⌝ }
 {
     let b = standing.b;
     let n = put_after(
@@ -111,7 +119,9 @@ fn in_tail(
     requires { ⌜ Asked (now image) (standing .b) (standing .tail) (standing .places) (valued (now name) (now vendor) attributes (now stamp) (now old ++ now own))
         × (fitsTail (region (now image)) (valued (now name) (now vendor) attributes (now stamp) (now old ++ now own)) ≡ true)
         × (length (now content) ≡ 28672) ⌝ }
-    ensures { λ r. ⌜ PutPlanned (now (image .entry)) (valued (now (name .entry)) (now (vendor .entry)) attributes (now (stamp .entry)) (now (old .entry) ++ now (own .entry))) (now (content .exit)) r ⌝ }
+    ensures { λ r.
+        ⌜ PutPlanned (now (image .entry))
+        (valued (now (name .entry)) (now (vendor .entry)) attributes (now (stamp .entry)) (now (old .entry) ++ now (own .entry))) (now (content .exit)) r ⌝ }
 {
     let places = standing.places;
     compose::put_entry(content, 0, attributes, stamp, name, vendor, old, own);
@@ -135,7 +145,9 @@ fn put_value(
 ) -> Planned
     requires { ⌜ Asked (now image) (standing .b) (standing .tail) (standing .places) (valued (now name) (now vendor) attributes (now stamp) (now old ++ now own))
         × (length (now content) ≡ 28672) ⌝ }
-    ensures { λ r. ⌜ PutPlanned (now (image .entry)) (valued (now (name .entry)) (now (vendor .entry)) attributes (now (stamp .entry)) (now (old .entry) ++ now (own .entry))) (now (content .exit)) r ⌝ }
+    ensures { λ r.
+        ⌜ PutPlanned (now (image .entry))
+        (valued (now (name .entry)) (now (vendor .entry)) attributes (now (stamp .entry)) (now (old .entry) ++ now (own .entry))) (now (content .exit)) r ⌝ }
 {
     let size = layout::entry_size(name.len(), old.len() + own.len());
     if standing.tail + size <= layout::BLOCK * standing.b {
@@ -174,9 +186,12 @@ pub fn put(
     bytes: &[u8],
     content: &mut [u8],
 ) -> Planned
-    requires { ⌜ Asked (now image) (standing .b) (standing .tail) (standing .places) (valueToPut (now image) (now name) (now vendor) attributes (now bytes)) × (rule8Of attributes (now bytes) ≡ false)
+    requires { ⌜ Asked (now image) (standing .b) (standing .tail) (standing .places) (valueToPut (now image) (now name) (now vendor) attributes (now bytes))
+        × (rule8Of attributes (now bytes) ≡ false)
         × (length (now content) ≡ 28672) ⌝ }
-    ensures { λ r. ⌜ PutPlanned (now (image .entry)) (valueToPut (now (image .entry)) (now (name .entry)) (now (vendor .entry)) attributes (now (bytes .entry))) (now (content .exit)) r ⌝ }
+    ensures { λ r.
+        ⌜ PutPlanned (now (image .entry)) (valueToPut (now (image .entry)) (now (name .entry)) (now (vendor .entry)) attributes (now (bytes .entry)))
+        (now (content .exit)) r ⌝ }
 {
     let stamp = policy::stamp(attributes, bytes);
     let kept = policy::without_append(attributes);

@@ -26,8 +26,8 @@ use Rattle.region.proofs.Entries.{stamp as stamp-part, vendor as vendor-part}
 use Rattle.values.proofs.Listed.{listed, listed-all}
 use Rattle.values.proofs.Sizes.{lengths}
 use Rattle.values.proofs.Next.{Next}
-use Rattle.text.specs.Text.{Wrote}
-use Rattle.text.proofs.Writing.{wrote-none, wrote-append, wrote-as}
+use Rattle.output.specs.Text.{Wrote}
+use Rattle.output.proofs.Writing.{wrote-none, wrote-append, wrote-as}
 use Rattle.compose.proofs.Headers.{entry-short}
 
 -- ---- an entry's value by what is read of it

@@ -9,8 +9,8 @@ use mathlib.Core.List.{List, [], _∷_, _++_, append-assoc}
 use lib.ListN.{length, take, set, replicate, length-append, length-replicate}
 use Rattle.model.specs.Lists.{bytes32}
 use Rattle.model.specs.Entry.{headerFront, headerRest, rounded, Value, plainSize, entrySize, entryBytes}
-use Rattle.text.specs.Text.{Wrote}
-use Rattle.text.proofs.Writing.{wrote-append, wrote-as}
+use Rattle.output.specs.Text.{Wrote}
+use Rattle.output.proofs.Writing.{wrote-append, wrote-as}
 use Rattle.compose.specs.Compose.{beforeStamp, behindStamp, headerBytes}
 
 -- ---- a header

@@ -13,7 +13,7 @@ ghost use Rattle.model.specs.Region.{entries, values};
 ghost use Rattle.model.specs.Change.{without};
 ghost use Rattle.model.specs.Compact.{joined};
 ghost use Rattle.region.specs.Walk.{entryAt};
-ghost use Rattle.text.specs.Text.{Wrote};
+ghost use Rattle.output.specs.Text.{Wrote};
 ghost use Rattle.compose.specs.Compose.{beforeStamp, behindStamp, headerBytes, oldData};
 use layout::Entry;
 use region::walk;
@@ -79,14 +79,16 @@ fn put_header(
     vendor: &[u8],
 ) -> usize
     requires { ⌜ (at < 2 ^ 62) × (length (now stamp) < 2 ^ 32) × (length (now vendor) < 2 ^ 32) ⌝ }
-    ensures { λ r. ⌜ Wrote (headerBytes state attributes (now (stamp .entry)) name size (now (vendor .entry))) at (now (out .entry)) (now (out .exit)) r × (r ≡ at + 28 + length (now (stamp .entry)) + length (now (vendor .entry))) ⌝ }
+    ensures { λ r.
+        ⌜ Wrote (headerBytes state attributes (now (stamp .entry)) name size (now (vendor .entry))) at (now (out .entry)) (now (out .exit)) r
+        × (r ≡ at + 28 + length (now (stamp .entry)) + length (now (vendor .entry))) ⌝ }
 {
     let front = before_stamp(state, attributes);
-    let next = text::put_bytes(out, at, &front);
-    let next = text::put_bytes(out, next, stamp);
+    let next = output::put_bytes(out, at, &front);
+    let next = output::put_bytes(out, next, stamp);
     let sizes = behind_stamp(name, size);
-    let next = text::put_bytes(out, next, &sizes);
-    text::put_bytes(out, next, vendor)
+    let next = output::put_bytes(out, next, &sizes);
+    output::put_bytes(out, next, vendor)
 }
 
 // The FF bytes between an entry of `size` bytes and the next multiple of 4.
@@ -96,7 +98,7 @@ fn put_padding(out: &mut [u8], at: usize, size: usize) -> usize
 {
     let blank = *b"\xFF\xFF\xFF";
     let n = layout::rounded(size) - size;
-    text::put_bytes(out, at, &blank[..n])
+    output::put_bytes(out, at, &blank[..n])
 }
 
 // An entry in state 3F, whole: header, name, data (those kept, then those given), padding.
@@ -110,8 +112,19 @@ pub fn put_entry(
     old: &[u8],
     own: &[u8],
 ) -> usize
-    requires { ⌜ (at < 2 ^ 62) × (length (now stamp) < 2 ^ 32) × (length (now name) < 2 ^ 32) × (length (now vendor) < 2 ^ 32) × (length (now old) < 2 ^ 32) × (length (now own) < 2 ^ 32) ⌝ }
-    ensures { λ r. ⌜ Wrote (entryBytes 0x3F (record { name = now (name .entry); vendor = now (vendor .entry); attributes = attributes; stamp = now (stamp .entry); bytes = now (old .entry) ++ now (own .entry) })) at (now (out .entry)) (now (out .exit)) r ⌝ }
+    requires { ⌜ (at < 2 ^ 62) × (length (now stamp) < 2 ^ 32) × (length (now name) < 2 ^ 32) × (length (now vendor) < 2 ^ 32)
+        × (length (now old) < 2 ^ 32) × (length (now own) < 2 ^ 32) ⌝ }
+    ensures { λ r.
+        ⌜ Wrote
+        (entryBytes 0x3F
+        (record {
+          name = now (name .entry);
+          vendor = now (vendor .entry);
+          attributes = attributes;
+          stamp = now (stamp .entry);
+          bytes = now
+              (old .entry) ++ now (own .entry);
+        })) at (now (out .entry)) (now (out .exit)) r ⌝ }
 {
     let next = put_header(
         out,
@@ -123,9 +136,9 @@ pub fn put_entry(
         old.len() + own.len(),
         vendor,
     );
-    let next = text::put_bytes(out, next, name);
-    let next = text::put_bytes(out, next, old);
-    let next = text::put_bytes(out, next, own);
+    let next = output::put_bytes(out, next, name);
+    let next = output::put_bytes(out, next, old);
+    let next = output::put_bytes(out, next, own);
     put_padding(
         out,
         next,
@@ -136,7 +149,8 @@ pub fn put_entry(
 // The entry of a value that is carried over: its stamp is kept.
 fn put_value(out: &mut [u8], at: usize, region: &[u8], place: usize, e: Entry) -> usize
     requires { ⌜ (at < 2 ^ 62) × (length (now region) ≤ 28672) ⌝ }
-    ensures { λ r. ⌜ Wrote (entryBytes 0x3F (entryValue (entryAt (now (region .entry)) place e))) at (now (out .entry)) (now (out .exit)) r × (r ≤ at + entrySize (entryValue (entryAt (now (region .entry)) place e))) ⌝ }
+    ensures { λ r. ⌜ Wrote (entryBytes 0x3F (entryValue (entryAt (now (region .entry)) place e))) at (now (out .entry)) (now (out .exit)) r
+        × (r ≤ at + entrySize (entryValue (entryAt (now (region .entry)) place e))) ⌝ }
 {
     let stamp = walk::stamp_of(region, place);
     let name = walk::name_of(region, place, e);
@@ -156,7 +170,9 @@ fn put_other(
     vendor: &[u8],
 ) -> usize
     requires { ⌜ (at < 2 ^ 62) × (length (now region) ≤ 28672) ⌝ }
-    ensures { λ r. ⌜ Wrote (joined (without (keyed (now (name .entry)) (now (vendor .entry))) (entryValue (entryAt (now (region .entry)) place e) ∷ []))) at (now (out .entry)) (now (out .exit)) r × (r ≤ at + entrySize (entryValue (entryAt (now (region .entry)) place e))) ⌝ }
+    ensures { λ r.
+        ⌜ Wrote (joined (without (keyed (now (name .entry)) (now (vendor .entry))) (entryValue (entryAt (now (region .entry)) place e) ∷ []))) at
+        (now (out .entry)) (now (out .exit)) r × (r ≤ at + entrySize (entryValue (entryAt (now (region .entry)) place e))) ⌝ }
 {
     if walk::is_entry(region, place, e, e.state, name, vendor) {
         return at;
@@ -167,7 +183,9 @@ fn put_other(
 // The values in flash order, but for one name and GUID.
 fn put_others(out: &mut [u8], at: usize, region: &[u8], name: &[u8], vendor: &[u8]) -> usize
     requires { ⌜ (at < 2 ^ 32) × (length (now region) ≤ 28672) ⌝ }
-    ensures { λ r. ⌜ Wrote (joined (without (keyed (now (name .entry)) (now (vendor .entry))) (values (entries (now (region .entry)))))) at (now (out .entry)) (now (out .exit)) r ⌝ }
+    ensures { λ r.
+        ⌜ Wrote (joined (without (keyed (now (name .entry)) (now (vendor .entry))) (values (entries (now (region .entry)))))) at (now (out .entry))
+        (now (out .exit)) r ⌝ }
 {
     let mut next = at;
     let mut here: usize = layout::REGION_HEADER;
@@ -184,10 +202,13 @@ fn put_others(out: &mut [u8], at: usize, region: &[u8], name: &[u8], vendor: &[u
 // The front of a compacted region: its header, and the values without the one that is changed. Under the empty name no value of a sound region is left out.
 pub fn put_values(out: &mut [u8], region: &[u8], name: &[u8], vendor: &[u8]) -> usize
     requires { ⌜ length (now region) ≤ 28672 ⌝ }
-    ensures { λ r. ⌜ Wrote (regionHeader (length (now (region .entry))) ++ joined (without (keyed (now (name .entry)) (now (vendor .entry))) (values (entries (now (region .entry)))))) 0 (now (out .entry)) (now (out .exit)) r ⌝ }
+    ensures { λ r.
+        ⌜ Wrote
+        (regionHeader (length (now (region .entry))) ++ joined
+        (without (keyed (now (name .entry)) (now (vendor .entry))) (values (entries (now (region .entry)))))) 0 (now (out .entry)) (now (out .exit)) r ⌝ }
 {
     let header = layout::fixed::region_header(region.len());
-    let next = text::put_bytes(out, 0, &header);
+    let next = output::put_bytes(out, 0, &header);
     put_others(out, next, region, name, vendor)
 }
 

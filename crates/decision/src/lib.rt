@@ -58,7 +58,8 @@ fn judge_standing(
 ) -> Judged
     ensures { λ r. ⌜ r ≡ judgedOf (firstBroken (standingBy (atRuntime s) attributes (now (bytes .entry)) old
         ++ verdictBy (now (region .entry)) old
-        (wantedBy (s .setup .custom) presence (isSome (standing keyPK (entries (now (region .entry))))) (keyed (now (name .entry)) (now (vendor .entry))) attributes (stands old))
+        (wantedBy (s .setup .custom) presence (isSome (standing keyPK (entries (now (region .entry)))))
+        (keyed (now (name .entry)) (now (vendor .entry))) attributes (stands old))
         verdict (stampOf attributes (now (bytes .entry))))) ⌝ }
 {
     let t = rules::standing(session::at_runtime(s.phase), attributes, bytes, old);

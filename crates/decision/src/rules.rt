@@ -21,7 +21,7 @@ use values::Found;
 use values::lookup;
 
 // Rules 3 to 6, on the call itself.
-pub fn request(s: Session, name: &[u8], vendor: &[u8; 16], attributes: u32) -> Judged
+pub(crate) fn request(s: Session, name: &[u8], vendor: &[u8; 16], attributes: u32) -> Judged
     ensures { λ r. ⌜ r ≡ judgedOf (firstBroken (requestRules s (requestOf (now (name .entry)) (now (vendor .entry)) attributes [] 0 0))) ⌝ }
 {
     if !slices::is_named(name) {

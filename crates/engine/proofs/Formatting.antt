@@ -14,8 +14,8 @@ use Rattle.model.specs.Set.{refuse, make}
 use Rattle.model.specs.StartUp.{formatStores, formatPlan}
 use Rattle.image.specs.Check.{blocksOf}
 use Rattle.image.proofs.Cut.{Parted, parted}
-use Rattle.text.specs.Text.{Wrote}
-use Rattle.text.proofs.Writing.{wrote-front, wrote-length}
+use Rattle.output.specs.Text.{Wrote}
+use Rattle.output.proofs.Writing.{wrote-front, wrote-length}
 use Rattle.plan.specs.declared.Op.{Op}
 use Rattle.plan.specs.declared.Planned.{Planned}
 use Rattle.plan.specs.Plan.{storesOfStep, expand}

@@ -151,20 +151,26 @@ region-name phase k img r runtime p q = ap₂ (λ (t : Bool) (x : List ℕ). nam
 pub get-answered : (n : ℕ) (s : Session) (k : Key) (buffer img : List ℕ) {got : Got} {after : List ℕ}
     → Read img (valueToGet s k (valuesOf img)) gotBytes (λ v. v .attributes) buffer (wellNamed (k .name)) got after
     → Returned (book.get s k buffer) n img img (got .answer)
-    × (got .size ≡ getReply s k buffer img .size)
-    × (got .attributes ≡ getReply s k buffer img .attributes)
-    × (got .needed ≡ getReply s k buffer img .needed)
-    × (after ≡ getReply s k buffer img .buffer)
+    × Gives (getReply s k buffer img) (got .size) (got .attributes) (got .needed) after
 unfolding getPlan getReply getBroken rule3 readBroken replyOf
 get-answered n s k buffer img h =
     ((h .answer ∙ sym (no-stores n (getBroken s k buffer img)), refl), h .size, h .attributes, h .needed, h .buffer)
 
+-- a name has no attributes
+no-attributes : (s : Session) (k : Key) (buffer img : List ℕ) → nextReply s k buffer img .attributes ≡ 0
+unfolding nextReply refusal written
+no-attributes s k buffer img = go (nextBroken s k buffer img) (valueToName s k (valuesOf img))
+  where
+    go : (o : Option Rule) (v : Option Value)
+        → (onSome o (λ rule. refusal rule (onSome v (λ w. length (namedBytes w)) 0) buffer) (onSome v (λ w. written (namedBytes w) 0 buffer) (written [] 0 buffer))) .attributes ≡ 0
+    go (some rule) v = refl
+    go none (some w) = refl
+    go none none = refl
+
 pub next-answered : (n : ℕ) (s : Session) (k : Key) (buffer img : List ℕ) {got : Got} {after : List ℕ}
     → Answered (nextBrokenAt (s .phase) k buffer img) (nextReplyAt (s .phase) k buffer img) got after
     → Returned (book.next s k buffer) n img img (got .answer)
-    × (got .size ≡ nextReply s k buffer img .size)
-    × (got .needed ≡ nextReply s k buffer img .needed)
-    × (after ≡ nextReply s k buffer img .buffer)
+    × Gives (nextReply s k buffer img) (got .size) 0 (got .needed) after
 unfolding nextPlan nextReply nextBroken rule3Next readBroken replyOf nameAt seenAt valueToName seen atRuntime
 next-answered n s k buffer img h =
-    ((h .answer ∙ sym (no-stores n (nextBroken s k buffer img)), refl), h .size, h .needed, h .buffer)
+    ((h .answer ∙ sym (no-stores n (nextBroken s k buffer img)), refl), h .size, sym (no-attributes s k buffer img), h .needed, h .buffer)

@@ -9,6 +9,7 @@ ghost use Rattle.model.specs.Name.{keyed, wellNamed, emptyName};
 ghost use Rattle.model.specs.Region.{entries, values};
 ghost use Rattle.model.specs.Rules.{gotBytes, namedBytes};
 ghost use Rattle.model.specs.Answers.{getReply, nextReply};
+ghost use Rattle.model.specs.Beside.{Gives};
 ghost use Rattle.model.specs.Book as book;
 ghost use Rattle.recovery.specs.Interface.{Returned};
 ghost use Rattle.query.specs.Query.{getAt, nameAt};
@@ -161,10 +162,9 @@ pub fn get(
     ensures { λ r. ⌜ Returned
         (book.get s (keyed (now (name .entry)) (now (vendor .entry))) (now (buffer .entry)))
         (c .limit) (now (image .entry)) (now (image .entry)) (r .answer)
-        × (r .size ≡ getReply s (keyed (now (name .entry)) (now (vendor .entry))) (now (buffer .entry)) (now (image .entry)) .size)
-        × (r .attributes ≡ getReply s (keyed (now (name .entry)) (now (vendor .entry))) (now (buffer .entry)) (now (image .entry)) .attributes)
-        × (r .needed ≡ getReply s (keyed (now (name .entry)) (now (vendor .entry))) (now (buffer .entry)) (now (image .entry)) .needed)
-        × (now (buffer .exit) ≡ getReply s (keyed (now (name .entry)) (now (vendor .entry))) (now (buffer .entry)) (now (image .entry)) .buffer) ⌝ }
+        × Gives
+        (getReply s (keyed (now (name .entry)) (now (vendor .entry))) (now (buffer .entry)) (now (image .entry)))
+        (r .size) (r .attributes) (r .needed) (now (buffer .exit)) ⌝ }
 {
     let opened = open(image, slices::is_named(name));
     match opened {
@@ -221,9 +221,9 @@ pub fn next_name(
     ensures { λ r. ⌜ Returned
         (book.next s (keyed (now (name .entry)) (now (vendor .entry))) (now (buffer .entry)))
         (c .limit) (now (image .entry)) (now (image .entry)) (r .answer)
-        × (r .size ≡ nextReply s (keyed (now (name .entry)) (now (vendor .entry))) (now (buffer .entry)) (now (image .entry)) .size)
-        × (r .needed ≡ nextReply s (keyed (now (name .entry)) (now (vendor .entry))) (now (buffer .entry)) (now (image .entry)) .needed)
-        × (now (buffer .exit) ≡ nextReply s (keyed (now (name .entry)) (now (vendor .entry))) (now (buffer .entry)) (now (image .entry)) .buffer) ⌝ }
+        × Gives
+        (nextReply s (keyed (now (name .entry)) (now (vendor .entry))) (now (buffer .entry)) (now (image .entry)))
+        (r .size) 0 (r .needed) (now (buffer .exit)) ⌝ }
 {
     let got = name_behind(s.phase, image, name, vendor, buffer);
     let answer = got.answer;

@@ -207,7 +207,7 @@ pub fn plan_format(image: &[u8], content: &mut [u8; 28672]) -> Planned
         return plan::refuse(Rule::Length);
     }
     let header = layout::fixed::region_header(layout::BLOCK * b);
-    text::put_bytes(content, 0, &header);
+    output::put_bytes(content, 0, &header);
     plan::accept(wipe(b), 12)
 }
 

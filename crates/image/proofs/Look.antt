@@ -8,7 +8,7 @@ use Rattle.model.specs.Lists.{allFF}
 use Rattle.model.specs.Region.{tailAt, tail, sound, clean}
 use Rattle.model.specs.Work.{wellFormed, endsInFC, idle}
 use Rattle.model.proofs.Tests.{and-split}
-use Rattle.records.specs.Look.{lookAt, restsAt, closesAt}
+use Rattle.records.specs.Look.{lookAt, idleAt, endsAt}
 use Rattle.records.specs.declared.Look.{Look}
 use Rattle.records.proofs.Block.{look-idle, look-closed}
 use Rattle.region.specs.Judge.{judgedOf}
@@ -16,11 +16,11 @@ use Rattle.region.specs.declared.Judged.{Judged}
 
 -- cut from the image as w′, which is its part w
 module _ {w w′ : List ℕ} (same : w′ ≡ w) {l : Look} (looked : l ≡ lookAt w′) {t : Bool} where
-  pub told-idle : t ≡ restsAt l → idle w ≡ t
-  told-idle e = sym (look-idle w) ∙ ap (λ (x : List ℕ). restsAt (lookAt x)) (sym same) ∙ ap restsAt (sym looked) ∙ sym e
+  pub told-idle : t ≡ idleAt l → idle w ≡ t
+  told-idle e = sym (look-idle w) ∙ ap (λ (x : List ℕ). idleAt (lookAt x)) (sym same) ∙ ap idleAt (sym looked) ∙ sym e
 
-  pub told-closed : t ≡ closesAt l → (wellFormed w && endsInFC w) ≡ t
-  told-closed e = sym (look-closed w) ∙ ap (λ (x : List ℕ). closesAt (lookAt x)) (sym same) ∙ ap closesAt (sym looked) ∙ sym e
+  pub told-closed : t ≡ endsAt l → (wellFormed w && endsInFC w) ≡ t
+  told-closed e = sym (look-closed w) ∙ ap (λ (x : List ℕ). endsAt (lookAt x)) (sym same) ∙ ap endsAt (sym looked) ∙ sym e
 
 module _ {r r′ : List ℕ} (same : r′ ≡ r) {j : Judged} (judged : j ≡ judgedOf r′) where
   its : j ≡ judgedOf r

@@ -65,7 +65,7 @@ fn is_pending(image: &[u8], b: usize) -> bool
     ensures { λ r. ⌜ r ≡ pending (now (image .entry)) ⌝ }
 {
     let size = layout::BLOCK * b;
-    if records::is_closed(records::look_at(slices::cut(image, size, layout::BLOCK))) {
+    if records::ends_in_fc(records::look_at(slices::cut(image, size, layout::BLOCK))) {
         let s = region::judge::judge(slices::cut(image, size + layout::BLOCK, size));
         return s.clean;
     }

@@ -3,16 +3,10 @@ ghost use mathlib.Core.Path.{_≡_};
 ghost use mathlib.Core.Bool.{_&&_, _||_};
 ghost use Prim.Native.Nat.{_%_};
 ghost use Rattle.model.specs.Lists.{same};
-ghost use Rattle.model.specs.Image.{signature, regionHeader};
+ghost use Rattle.model.specs.Image.{regionHeader};
 ghost use Rattle.model.specs.Region.{rightHeader};
 ghost use Rattle.model.specs.Name.{keyed, sameKey};
 ghost use Rattle.model.specs.Request.{globalVendor, databaseVendor, certificate, keyPK, keyKEK, keydb, keydbx, keydbt, isDatabase, isKeyName};
-
-pub fn signature() -> [u8; 16]
-    ensures { λ r. ⌜ r ≡ signature ⌝ }
-{
-    *b"\x78\x2C\xF3\xAA\x7B\x94\x9A\x43\xA1\x80\x2E\x14\x4E\xC3\x77\x92"
-}
 
 pub fn global_vendor() -> [u8; 16]
     ensures { λ r. ⌜ r ≡ globalVendor ⌝ }
@@ -20,7 +14,7 @@ pub fn global_vendor() -> [u8; 16]
     *b"\x61\xDF\xE4\x8B\xCA\x93\xD2\x11\xAA\x0D\x00\xE0\x98\x03\x2B\x8C"
 }
 
-pub fn database_vendor() -> [u8; 16]
+fn database_vendor() -> [u8; 16]
     ensures { λ r. ⌜ r ≡ databaseVendor ⌝ }
 {
     *b"\xCB\xB2\x19\xD7\x3A\x3D\x96\x45\xA3\xBC\xDA\xD0\x0E\x67\x65\x6F"
@@ -38,25 +32,25 @@ pub fn pk_name() -> [u8; 6]
     *b"P\0K\0\0\0"
 }
 
-pub fn kek_name() -> [u8; 8]
+fn kek_name() -> [u8; 8]
     ensures { λ r. ⌜ r ≡ keyKEK .name ⌝ }
 {
     *b"K\0E\0K\0\0\0"
 }
 
-pub fn db_name() -> [u8; 6]
+fn db_name() -> [u8; 6]
     ensures { λ r. ⌜ r ≡ keydb .name ⌝ }
 {
     *b"d\0b\0\0\0"
 }
 
-pub fn dbx_name() -> [u8; 8]
+fn dbx_name() -> [u8; 8]
     ensures { λ r. ⌜ r ≡ keydbx .name ⌝ }
 {
     *b"d\0b\0x\0\0\0"
 }
 
-pub fn dbt_name() -> [u8; 8]
+fn dbt_name() -> [u8; 8]
     ensures { λ r. ⌜ r ≡ keydbt .name ⌝ }
 {
     *b"d\0b\0t\0\0\0"
@@ -106,7 +100,7 @@ pub fn is_pk(name: &[u8], vendor: &[u8; 16]) -> bool
     is_key(name, vendor, &key, &of)
 }
 
-pub fn is_kek(name: &[u8], vendor: &[u8; 16]) -> bool
+fn is_kek(name: &[u8], vendor: &[u8; 16]) -> bool
     ensures { λ r. ⌜ r ≡ sameKey (keyed (now (name .entry)) (now (vendor .entry))) keyKEK ⌝ }
 {
     let key = kek_name();

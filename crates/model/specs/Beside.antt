@@ -12,6 +12,7 @@ use Rattle.model.specs.Entry.{Value, headerSize, readHeader}
 use Rattle.model.specs.Walk.{Entry, walk}
 use Rattle.model.specs.Region.{storedAttributes, maxData}
 use Rattle.model.specs.Session.{lockSpace, nameSpace, withLock}
+use Rattle.model.specs.Answers.{Reply}
 
 -- the entries of a region from an offset on, as a loop over them meets them
 unfoldable pub from : List ℕ → ℕ → List Entry
@@ -29,3 +30,8 @@ pub record Valid (v : Value) : Type 0 where
   pub attributes : among storedAttributes (v .attributes) ≡ true
   pub some-data : 1 ≤ length (v .bytes)
   pub few-data : length (v .bytes) ≤ maxData
+
+-- what a get or next-name hands out beside its answer is what its reply says: size, attributes, the size needed, and the buffer as it leaves it
+abbrev pub Gives : Reply → ℕ → ℕ → ℕ → List ℕ → Type 0
+Gives reply size attributes needed buffer =
+    (size ≡ reply .size) × (attributes ≡ reply .attributes) × (needed ≡ reply .needed) × (buffer ≡ reply .buffer)

@@ -16,7 +16,7 @@ use Rattle.model.specs.Compact.{nextRecord, fillSpare, finish, encode, compactT
 use Rattle.model.specs.StartUp.{resume, tidySpare, tidyWork, tidyTail, startUpStores}
 use Rattle.plan.specs.declared.Step.{Step}
 use Rattle.plan.specs.Plan.{storesOfStep, expand}
-use Rattle.orders.specs.Compactions.{rested, compactPlan, restPlan, spareStep, workStep}
+use Rattle.orders.specs.Compactions.{tidied, compactPlan, restPlan, spareStep, workStep}
 use Rattle.orders.proofs.CompactionPlans.{compact-is}
 use Rattle.model.proofs.Parts.{Parts, parts-blocks, parts-size, parts-region, parts-work, parts-spare}
 use Rattle.model.proofs.Segments.{erases-segment, erase-segment, length-blank}
@@ -81,7 +81,7 @@ pub tidy-is : {b : ℕ} {r w s : List ℕ} → Parts b r w s → pending (r ++ (
     ≡ cond (allFF s) [] (erases (b + 1) b)
     ++ (cond (idle w) [] (erase b ∷ [])
     ++ cond (allFF (tail r)) []
-    (fillSpare b (rested w) (encode (block * b) (values (entries r))) ++ finish b (nextRecord (rested w)) (encode (block * b) (values (entries r)))))
+    (fillSpare b (tidied w) (encode (block * b) (values (entries r))) ++ finish b (nextRecord (tidied w)) (encode (block * b) (values (entries r)))))
 unfolding startUpStores resume applyAll
 tidy-is {b} {r} {w} {s} p h =
     let s₁ : List ℕ = cond (allFF s) s (replicate (block * b) 0xFF) in
@@ -104,11 +104,11 @@ work-step c b false = refl
 -- *a start-up with nothing pending and something in the tail*: its plan, made from the image that it begins on, is its list of stores
 pub startUp-is : {b : ℕ} {r w s : List ℕ} → Parts b r w s → pending (r ++ (w ++ s)) ≡ false → allFF (tail r) ≡ false
     → (c : List ℕ) → part 0 (block * b) c ≡ encode (block * b) (values (entries r))
-    → expand c (compactPlan (spareStep b (allFF s)) (workStep b (idle w)) b (usedRecords (rested w))) ≡ startUpStores (r ++ (w ++ s))
+    → expand c (compactPlan (spareStep b (allFF s)) (workStep b (idle w)) b (usedRecords (tidied w))) ≡ startUpStores (r ++ (w ++ s))
 startUp-is {b} {r} {w} {s} p h dirty c e =
-    compact-is c (spareStep b (allFF s)) (workStep b (idle w)) b (rested w) (encode (block * b) (values (entries r))) e
+    compact-is c (spareStep b (allFF s)) (workStep b (idle w)) b (tidied w) (encode (block * b) (values (entries r))) e
     ∙ rw (spare-step c b (allFF s), work-step c b (idle w))
-    (sym (tidy-is p h ∙ ap (λ (t : Bool). cond (allFF s) [] (erases (b + 1) b) ++ (cond (idle w) [] (erase b ∷ []) ++ cond t [] (fillSpare b (rested w) (encode (block * b) (values (entries r))) ++ finish b (nextRecord (rested w)) (encode (block * b) (values (entries r)))))) dirty))
+    (sym (tidy-is p h ∙ ap (λ (t : Bool). cond (allFF s) [] (erases (b + 1) b) ++ (cond (idle w) [] (erase b ∷ []) ++ cond t [] (fillSpare b (tidied w) (encode (block * b) (values (entries r))) ++ finish b (nextRecord (tidied w)) (encode (block * b) (values (entries r)))))) dirty))
 
 rest-stores : (c : List ℕ) (x y : Step) → expand c (restPlan x y) ≡ storesOfStep c x ++ storesOfStep c y
 unfolding expand storesOfStep restPlan
@@ -119,8 +119,8 @@ blank-used : usedRecords blank ≡ 0
 unfolding usedRecords records blank block
 blank-used = refl
 
-pub rested-used : (w : List ℕ) (t : Bool) → idle w ≡ t → cond t (usedRecords w) 0 ≡ usedRecords (rested w)
-rested-used w t h = ap (λ (u : Bool). cond u (usedRecords w) 0) (sym h) ∙ go (idle w)
+pub tidied-used : (w : List ℕ) (t : Bool) → idle w ≡ t → cond t (usedRecords w) 0 ≡ usedRecords (tidied w)
+tidied-used w t h = ap (λ (u : Bool). cond u (usedRecords w) 0) (sym h) ∙ go (idle w)
   where
     go : (u : Bool) → cond u (usedRecords w) 0 ≡ usedRecords (cond u w blank)
     go true = refl
@@ -132,5 +132,5 @@ pub rest-is : {b : ℕ} {r w s : List ℕ} → Parts b r w s → pending (r ++ (
 rest-is {b} {r} {w} {s} p h blank c =
     rest-stores c (spareStep b (allFF s)) (workStep b (idle w)) ∙ rw (spare-step c b (allFF s), work-step c b (idle w))
     (sym (tidy-is p h
-    ∙ ap (λ (t : Bool). cond (allFF s) [] (erases (b + 1) b) ++ (cond (idle w) [] (erase b ∷ []) ++ cond t [] (fillSpare b (rested w) (encode (block * b) (values (entries r))) ++ finish b (nextRecord (rested w)) (encode (block * b) (values (entries r)))))) blank
+    ∙ ap (λ (t : Bool). cond (allFF s) [] (erases (b + 1) b) ++ (cond (idle w) [] (erase b ∷ []) ++ cond t [] (fillSpare b (tidied w) (encode (block * b) (values (entries r))) ++ finish b (nextRecord (tidied w)) (encode (block * b) (values (entries r)))))) blank
     ∙ ap (λ (l : List Store). cond (allFF s) [] (erases (b + 1) b) ++ l) (append-nil (cond (idle w) [] (erase b ∷ [])))))

@@ -22,8 +22,8 @@ unfoldable pub workStep : ℕ → Bool → Step
 workStep b t = cond t Nothing (Erase b 1)
 
 -- the work block as a start-up's compaction finds it
-abbrev pub rested : List ℕ → List ℕ
-rested w = cond (idle w) w blank
+abbrev pub tidied : List ℕ → List ℕ
+tidied w = cond (idle w) w blank
 
 -- where the next record stands
 abbrev pub recordAt : ℕ → ℕ → ℕ

@@ -5,8 +5,9 @@ ghost use Rattle.plan.specs.Told.{noOperations};
 ghost use Rattle.plan.specs.Numbers.{operationOf, operationAt, operationsOf, inNumbers};
 use model::Rule;
 
-// One operation: none; a byte marked (offset, new value); blocks erased (the first, how many); bytes of the content stored (offset in the image, offset in the content,
-// how many); an entry's header stored around its state (offset in the image, offset in the content), so that a part programmed in pages can take it as one piece.
+// One operation: none; a byte marked (offset, new value); blocks erased (the first, how many); bytes of the content stored (offset in the image, offset in
+// the content, how many); an entry's header stored around its state (offset in the image, offset in the content), so that a part programmed in pages can take
+// it as one piece.
 pub enum Step {
     Nothing,
     Mark(usize, u8),
@@ -82,8 +83,8 @@ pub fn refuse(rule: Rule) -> Planned
 }
 
 // One operation in numbers, as a host reads it: kind 0 none; 1 a mark: the byte at `at` becomes `from` (len 1); 2 an erase: `len` blocks from block `at` on;
-// 3 a program: `len` bytes of the content from `from` on, stored from `at` on; 4 a header: 60 bytes (len 60) of the content from `from` on, stored from `at` on,
-// all but the third, which is the state.
+// 3 a program: `len` bytes of the content from `from` on, stored from `at` on; 4 a header: 60 bytes (len 60) of the content from `from` on, stored from `at`
+// on, all but the third, which is the state.
 #[repr(C)]
 pub struct HostOp {
     pub kind: u64,

@@ -143,7 +143,7 @@ fn kind_right(bytes: &[u8]) -> bool
 }
 
 // Whether a descriptor fits the form and the data; nine bytes of its stamp are zero.
-pub fn descriptor_right(bytes: &[u8]) -> bool
+fn descriptor_right(bytes: &[u8]) -> bool
     ensures { λ r. ⌜ r ≡ rightDescriptor (now (bytes .entry)) ⌝ }
 {
     if size_right(bytes) {

@@ -34,7 +34,8 @@ fn is_seen(region: &[u8], at: usize, e: Entry, runtime: bool) -> bool
 
 // Whether an entry is a value that is seen, of this name and GUID; what is cheap to look at comes first.
 fn is_sought(region: &[u8], at: usize, e: Entry, runtime: bool, name: &[u8], vendor: &[u8]) -> bool
-    ensures { λ r. ⌜ r ≡ isSought runtime (keyed (now (name .entry)) (now (vendor .entry))) (entries (now (region .entry))) (entryAt (now (region .entry)) at e) ⌝ }
+    ensures { λ r.
+        ⌜ r ≡ isSought runtime (keyed (now (name .entry)) (now (vendor .entry))) (entries (now (region .entry))) (entryAt (now (region .entry)) at e) ⌝ }
 {
     if judge::is_live(e.state) {
         if walk::is_entry(region, at, e, e.state, name, vendor) {

@@ -9,7 +9,7 @@ use lib.ListN.{length, take, drop, drop-of-length-le}
 use lib.Seq.{take-all}
 use Rattle.model.specs.Lists.{allFF}
 use Rattle.model.specs.Work.{recordSpace, records, wellFormed, usedRecords, endsInFC, idle}
-use Rattle.records.specs.Look.{lookAt, restsAt, closesAt}
+use Rattle.records.specs.Look.{lookAt, idleAt, endsAt}
 use Rattle.records.specs.Passed.{unread, through}
 use Rattle.records.specs.declared.Look.{Look}
 use Rattle.records.proofs.Passed.{same-look, through-records}
@@ -39,10 +39,10 @@ pub look-disordered : (w : List ℕ) (l : Look) → l ≡ through unread 0 (take
 look-disordered w l e f =
     same-look l (restTold (allFF (drop recordSpace w)) l) (rw f) refl refl ∙ rw e (look-parts w)
 
-pub look-idle : (w : List ℕ) → restsAt (lookAt w) ≡ idle w
+pub look-idle : (w : List ℕ) → idleAt (lookAt w) ≡ idle w
 unfolding lookAt idle endsInFC
 look-idle w = refl
 
-pub look-closed : (w : List ℕ) → closesAt (lookAt w) ≡ (wellFormed w && endsInFC w)
+pub look-closed : (w : List ℕ) → endsAt (lookAt w) ≡ (wellFormed w && endsInFC w)
 unfolding lookAt endsInFC
 look-closed w = refl

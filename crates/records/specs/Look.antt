@@ -11,9 +11,9 @@ unfoldable pub lookAt : List ℕ → Look
 lookAt w = record { formed = wellFormed w; used = usedRecords w; last = lastUsed (records w) }
 
 -- the block looked at is well formed and does not end in FC
-abbrev pub restsAt : Look → Bool
-restsAt l = l .formed && not (eqb (l .last) 0xFC)
+abbrev pub idleAt : Look → Bool
+idleAt l = l .formed && not (eqb (l .last) 0xFC)
 
 -- the block looked at is well formed and ends in FC
-abbrev pub closesAt : Look → Bool
-closesAt l = l .formed && eqb (l .last) 0xFC
+abbrev pub endsAt : Look → Bool
+endsAt l = l .formed && eqb (l .last) 0xFC

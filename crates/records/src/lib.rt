@@ -3,7 +3,7 @@ ghost use mathlib.Core.Path.{_≡_};
 ghost use Prim.Native.Nat.{_≤_, _<_};
 ghost use Rattle.model.specs.Lists.{among};
 ghost use Rattle.model.specs.Work.{recordStates};
-ghost use Rattle.records.specs.Look.{lookAt, restsAt, closesAt};
+ghost use Rattle.records.specs.Look.{lookAt, idleAt, endsAt};
 ghost use Rattle.records.specs.Passed.{unread, onward, through};
 
 // How many records a work block has: its first bytes.
@@ -75,14 +75,14 @@ pub fn look_at(w: &[u8]) -> Look
 
 // Well formed and not ending in FC: a call may find the block so.
 pub fn is_idle(l: Look) -> bool
-    ensures { λ b. ⌜ b ≡ restsAt l ⌝ }
+    ensures { λ b. ⌜ b ≡ idleAt l ⌝ }
 {
     l.formed & (l.last != 0xFC)
 }
 
 // Well formed and ending in FC: the spare is complete.
-pub fn is_closed(l: Look) -> bool
-    ensures { λ b. ⌜ b ≡ closesAt l ⌝ }
+pub fn ends_in_fc(l: Look) -> bool
+    ensures { λ b. ⌜ b ≡ endsAt l ⌝ }
 {
     l.formed & (l.last == 0xFC)
 }

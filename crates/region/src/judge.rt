@@ -15,7 +15,7 @@ use crate::walk;
 use layout::Entry;
 
 // Whether a state is one of the six.
-pub fn known_state(state: u8) -> bool
+fn known_state(state: u8) -> bool
     ensures { λ r. ⌜ r ≡ among states state ⌝ }
 {
     match state {
@@ -30,7 +30,7 @@ pub fn known_state(state: u8) -> bool
 }
 
 // Whether attributes are among those that are stored.
-pub fn stored_attributes(attributes: u32) -> bool
+fn stored_attributes(attributes: u32) -> bool
     ensures { λ r. ⌜ r ≡ among storedAttributes attributes ⌝ }
 {
     match attributes {
@@ -71,7 +71,7 @@ fn right_live(region: &[u8], at: usize, e: Entry) -> bool
 }
 
 // Whether an entry is sound by itself: a known state, an end within the region, and right if it is live.
-pub fn entry_sound(region: &[u8], at: usize, e: Entry) -> bool
+fn entry_sound(region: &[u8], at: usize, e: Entry) -> bool
     ensures { λ r. ⌜ r ≡ entrySound (length (now (region .entry))) (entryAt (now (region .entry)) at e) ⌝ }
 {
     if e.state == 0xFF {
@@ -91,7 +91,7 @@ pub fn entry_sound(region: &[u8], at: usize, e: Entry) -> bool
 }
 
 // One pass over the entries.
-pub fn scan(region: &[u8]) -> Scan
+fn scan(region: &[u8]) -> Scan
     ensures { λ r. ⌜ r ≡ scanOf (now (region .entry)) ⌝ }
 {
     let mut at: usize = layout::REGION_HEADER;
@@ -145,7 +145,7 @@ fn is_doubled(region: &[u8], at: usize, e: Entry, next: usize) -> bool
 }
 
 // Whether no name with its GUID has two 3F or two 3E entries.
-pub fn undoubled(region: &[u8]) -> bool
+fn undoubled(region: &[u8]) -> bool
     ensures { λ r. ⌜ r ≡ undoubled (entries (now (region .entry))) ⌝ }
 {
     let mut at: usize = layout::REGION_HEADER;

@@ -15,8 +15,8 @@ use Rattle.region.specs.Walk.{entryAt, vendorAt}
 use Rattle.region.proofs.Entries.{vendor as vendor-part}
 use Rattle.values.proofs.Listed.{listed, listed-all}
 use Rattle.values.proofs.Sizes.{lengths}
-use Rattle.text.specs.Text.{Wrote}
-use Rattle.text.proofs.Writing.{wrote-none, wrote-append, wrote-as}
+use Rattle.output.specs.Text.{Wrote}
+use Rattle.output.proofs.Writing.{wrote-none, wrote-append, wrote-as}
 use Rattle.report.specs.Varlist.{entryLine, valueLine, valueLines}
 use Rattle.values.proofs.Next.{Next}
 

@@ -18,7 +18,7 @@ use Rattle.model.specs.Rules.{firstBroken, rule1, rule2, rule3, rule4, rule5, r
 use Rattle.model.specs.Stores.{apply, applyAll, after, run}
 use Rattle.model.specs.Set.{leftover, entryStores, tailTo, tailOn, fitsTail, putPlan, changePlan, setPlan}
 use Rattle.model.specs.Answers.{storesOf, imageAfter}
-use Rattle.text.specs.Text.{ascii, digit, hexOf, leading, decimalOf}
+use Rattle.output.specs.Text.{ascii, digit, hexOf, leading, decimalOf}
 use Rattle.report.specs.Varlist.{field, summaryLine, keyText, entryLine, valueLine, valueLines, refusedLine, storeText, varlistText}
 
 -- an empty store, b = 1

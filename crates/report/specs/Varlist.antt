@@ -8,7 +8,7 @@ use Rattle.model.specs.Entry.{Value}
 use Rattle.model.specs.Region.{tailAt, valuesOf}
 use Rattle.model.specs.Rules.{firstBroken, imageRules}
 use Rattle.model.specs.Answers.{ruleNumber}
-use Rattle.text.specs.Text.{ascii, hexOf, decimalOf}
+use Rattle.output.specs.Text.{ascii, hexOf, decimalOf}
 
 -- a word, as "region ", and a number behind it
 unfoldable pub field : List ℕ → ℕ → List ℕ

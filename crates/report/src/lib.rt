@@ -6,7 +6,7 @@ ghost use lib.ListN.{length};
 ghost use Rattle.model.specs.Walk.{entryValue};
 ghost use Rattle.model.specs.Region.{entries, values};
 ghost use Rattle.region.specs.Walk.{entryAt};
-ghost use Rattle.text.specs.Text.{Wrote};
+ghost use Rattle.output.specs.Text.{Wrote};
 ghost use Rattle.report.specs.Varlist.{field, summaryLine, keyText, entryLine, valueLine, valueLines, refusedLine, varlistText};
 use image::Check;
 use layout::Entry;
@@ -19,8 +19,8 @@ fn put_field(out: &mut [u8], at: usize, word: &[u8], n: u32) -> usize
     requires { ⌜ at + length (now word) < 2 ^ 61 ⌝ }
     ensures { λ r. ⌜ Wrote (field (now (word .entry)) n) at (now (out .entry)) (now (out .exit)) r × (r ≤ at + length (now (word .entry)) + 10) ⌝ }
 {
-    let next = text::put_bytes(out, at, word);
-    text::put_decimal(out, next, n)
+    let next = output::put_bytes(out, at, word);
+    output::put_decimal(out, next, n)
 }
 
 // An image that a call refuses, by the number of the rule.
@@ -29,7 +29,7 @@ fn put_refused(out: &mut [u8], at: usize, rule: u32) -> usize
     ensures { λ r. ⌜ Wrote (refusedLine rule) at (now (out .entry)) (now (out .exit)) r ⌝ }
 {
     let next = put_field(out, at, b"refused ", rule);
-    text::put_byte(out, next, b'\n')
+    output::put_byte(out, next, b'\n')
 }
 
 // The first line: region length, tail offset, number of values.
@@ -40,18 +40,19 @@ fn put_summary(out: &mut [u8], at: usize, size: u32, used: u32, live: u32) -> us
     let next = put_field(out, at, b"region ", size);
     let next = put_field(out, next, b" used ", used);
     let next = put_field(out, next, b" live ", live);
-    text::put_byte(out, next, b'\n')
+    output::put_byte(out, next, b'\n')
 }
 
 // GUID and name bytes, a space behind each.
 fn put_key(out: &mut [u8], at: usize, vendor: &[u8], name: &[u8]) -> usize
     requires { ⌜ at + 2 * length (now vendor) + 2 * length (now name) < 2 ^ 60 ⌝ }
-    ensures { λ r. ⌜ Wrote (keyText (now (vendor .entry)) (now (name .entry))) at (now (out .entry)) (now (out .exit)) r × (r ≡ at + 2 * length (now (vendor .entry)) + 2 * length (now (name .entry)) + 2) ⌝ }
+    ensures { λ r. ⌜ Wrote (keyText (now (vendor .entry)) (now (name .entry))) at (now (out .entry)) (now (out .exit)) r
+        × (r ≡ at + 2 * length (now (vendor .entry)) + 2 * length (now (name .entry)) + 2) ⌝ }
 {
-    let next = text::put_hex(out, at, vendor);
-    let next = text::put_byte(out, next, b' ');
-    let next = text::put_hex(out, next, name);
-    text::put_byte(out, next, b' ')
+    let next = output::put_hex(out, at, vendor);
+    let next = output::put_byte(out, next, b' ');
+    let next = output::put_hex(out, next, name);
+    output::put_byte(out, next, b' ')
 }
 
 // Stored attributes are below 256.
@@ -71,18 +72,20 @@ fn put_value(
     size: u32,
 ) -> usize
     requires { ⌜ at + 2 * length (now vendor) + 2 * length (now name) < 2 ^ 60 ⌝ }
-    ensures { λ r. ⌜ Wrote (entryLine (now (vendor .entry)) (now (name .entry)) attributes size) at (now (out .entry)) (now (out .exit)) r × (r ≤ at + 2 * length (now (vendor .entry)) + 2 * length (now (name .entry)) + 16) ⌝ }
+    ensures { λ r. ⌜ Wrote (entryLine (now (vendor .entry)) (now (name .entry)) attributes size) at (now (out .entry)) (now (out .exit)) r
+        × (r ≤ at + 2 * length (now (vendor .entry)) + 2 * length (now (name .entry)) + 16) ⌝ }
 {
     let next = put_key(out, at, vendor, name);
-    let next = text::put_hex_byte(out, next, low_byte(attributes));
+    let next = output::put_hex_byte(out, next, low_byte(attributes));
     let next = put_field(out, next, b" ", size);
-    text::put_byte(out, next, b'\n')
+    output::put_byte(out, next, b'\n')
 }
 
 // The line of the value that an entry holds.
 fn put_entry(out: &mut [u8], at: usize, region: &[u8], place: usize, e: Entry) -> usize
     requires { ⌜ (at < 2 ^ 40) × (length (now region) ≤ 28672) ⌝ }
-    ensures { λ r. ⌜ Wrote (valueLine (entryValue (entryAt (now (region .entry)) place e))) at (now (out .entry)) (now (out .exit)) r × (r ≤ at + 48 + 2 * length (entryAt (now (region .entry)) place e .name)) ⌝ }
+    ensures { λ r. ⌜ Wrote (valueLine (entryValue (entryAt (now (region .entry)) place e))) at (now (out .entry)) (now (out .exit)) r
+        × (r ≤ at + 48 + 2 * length (entryAt (now (region .entry)) place e .name)) ⌝ }
 {
     let vendor = walk::vendor_of(region, place);
     let name = walk::name_of(region, place, e);
@@ -110,7 +113,10 @@ fn put_lines(region: &[u8], out: &mut [u8], at: usize) -> usize
 // The report on an accepted store: the summary, then the values.
 fn put_store(region: &[u8], tail: usize, out: &mut [u8]) -> usize
     requires { ⌜ (tail ≤ 28672) × (length (now region) ≤ 28672) ⌝ }
-    ensures { λ r. ⌜ Wrote (summaryLine (length (now (region .entry))) tail (length (values (entries (now (region .entry))))) ++ valueLines (values (entries (now (region .entry))))) 0 (now (out .entry)) (now (out .exit)) r ⌝ }
+    ensures { λ r.
+        ⌜ Wrote
+        (summaryLine (length (now (region .entry))) tail (length (values (entries (now (region .entry))))) ++ valueLines
+        (values (entries (now (region .entry))))) 0 (now (out .entry)) (now (out .exit)) r ⌝ }
 {
     let live = list::count(region);
     let next = put_summary(out, 0, region.len() as u32, tail as u32, live as u32);

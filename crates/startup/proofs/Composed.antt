@@ -16,8 +16,8 @@ use Rattle.model.specs.Change.{without}
 use Rattle.model.specs.Compact.{joined, encode}
 use Rattle.model.proofs.Chunks.{Chunked, region-chunked}
 use Rattle.model.proofs.Encode.{AllValid, sound-valid, sound-fits}
-use Rattle.text.specs.Text.{Wrote}
-use Rattle.text.proofs.Writing.{wrote-as, wrote-append, wrote-length, wrote-front}
+use Rattle.output.specs.Text.{Wrote}
+use Rattle.output.proofs.Writing.{wrote-as, wrote-append, wrote-length, wrote-front}
 use Rattle.compose.proofs.Carried.{without-unnamed}
 use Rattle.compose.proofs.Encoded.{content-length, encode-content}
 use Rattle.startup.proofs.Stages.{its-region, region-long}

@@ -16,7 +16,7 @@ use Rattle.model.specs.Compact.{finish}
 use Rattle.model.specs.StartUp.{resume}
 use Rattle.model.proofs.Tests.{and-split}
 use Rattle.model.proofs.WorkBlock.{Last, work-last}
-use Rattle.records.specs.Look.{lookAt, restsAt}
+use Rattle.records.specs.Look.{lookAt, idleAt}
 use Rattle.records.specs.declared.Look.{Look}
 use Rattle.image.proofs.Cut.{Parted, blocks-right, parted}
 use Rattle.image.proofs.Look.{told-idle}
@@ -63,7 +63,7 @@ module _ (img : List ℕ) (b : ℕ) (low : 1 ≤ b) (high : b ≤ 7) (long : len
     unfolding lookAt
     used-told = ap (λ (x : Look). x .used) (looked ∙ ap lookAt its-work)
 
-    pub idle-told : {t : Bool} → t ≡ restsAt l → idle (work img) ≡ t
+    pub idle-told : {t : Bool} → t ≡ idleAt l → idle (work img) ≡ t
     idle-told e = told-idle its-work looked e
 
     -- a compaction is pending: the last used record

@@ -31,8 +31,8 @@ use Rattle.recovery.proofs.Bits.{marks-clear-one-bit}
 use Rattle.image.specs.Check.{startUpOf}
 use Rattle.image.specs.declared.Start.{Start}
 use Rattle.image.specs.declared.Start.the-variants.{Pending, Sound, Refused}
-use Rattle.text.specs.Text.{Wrote}
-use Rattle.text.proofs.Writing.{wrote-front, wrote-length}
+use Rattle.output.specs.Text.{Wrote}
+use Rattle.output.proofs.Writing.{wrote-front, wrote-length}
 use Rattle.records.specs.Look.{lookAt}
 use Rattle.records.specs.declared.Look.{Look}
 use Rattle.plan.specs.declared.Op.{Op}
@@ -41,7 +41,7 @@ use Rattle.plan.specs.declared.Planned.{Planned}
 use Rattle.plan.specs.Plan.{storesOfStep, expand}
 use Rattle.plan.specs.Planned.{accepted, Plans}
 use Rattle.plan.proofs.Parts.{undecided-plans}
-use Rattle.orders.specs.Compactions.{spareStep, workStep, rested, compactPlan, resumePlan, restPlan}
+use Rattle.orders.specs.Compactions.{spareStep, workStep, tidied, compactPlan, resumePlan, restPlan}
 use Rattle.orders.proofs.CompactionPlans.{compact-is, resume-is}
 use Rattle.orders.proofs.StartUps.{startUp-is, rest-is}
 use Rattle.orders.proofs.CompactionReady.{compact-ready, resume-ready, rest-ready, spare-good, work-good}
@@ -209,11 +209,11 @@ module _ (img : List ℕ) (b : ℕ) (f : Accepted img b false) where
   -- *it is not*
   pub tidy-plans : Bytes img → (before c : List ℕ) {ops : List Op} {p : Planned} → allFF (tail (region img)) ≡ false → length c ≡ 28672
       → part 0 (block * b) c ≡ encode (block * b) (values (entries (region img)))
-      → ops ≡ compactPlan (spareStep b (allFF (spare img))) (workStep b (idle (work img))) b (usedRecords (rested (work img))) → p ≡ accepted ops 12
+      → ops ≡ compactPlan (spareStep b (allFF (spare img))) (workStep b (idle (work img))) b (usedRecords (tidied (work img))) → p ≡ accepted ops 12
       → Plans (startUpPlan img) img before c p
   tidy-plans bytes before c {ops} {p} t room e o a =
       let content : List ℕ = encode (block * b) (values (entries (region img))) in
-      let w : List ℕ = rested (work img) in
+      let w : List ℕ = tidied (work img) in
       let x = spareStep b (allFF (spare img)) in
       let y = workStep b (idle (work img)) in
       let is : expand c (compactPlan x y b (usedRecords w)) ≡ startUpStores img = startUp-is own waits t c e ∙ ap startUpStores (sym whole) in

@@ -1,5 +1,6 @@
 // The plan of a start-up: "if pending, resume at the erase of the region. Then erase the spare's blocks if it is not all FF, the work block if it is not well
-// formed or ends in FC, and compact with no change if the tail is not all FF." The erases leave alone what is looked at later, so all of it is planned from the image found.
+// formed or ends in FC, and compact with no change if the tail is not all FF." The erases leave alone what is looked at later, so all of it is planned from
+// the image found.
 ghost use mathlib.Core.Path.{_≡_};
 ghost use mathlib.Core.Bool.{true};
 ghost use Prim.Native.Nat.{_+_, _*_, _≤_};
@@ -14,7 +15,7 @@ ghost use Rattle.records.specs.Look.{lookAt};
 ghost use Rattle.image.specs.Check.{startUpOf};
 ghost use Rattle.image.specs.declared.Start.the-variants.{Pending, Sound};
 ghost use Rattle.plan.specs.Planned.{Plans};
-ghost use Rattle.orders.specs.Compactions.{spareStep, workStep, rested};
+ghost use Rattle.orders.specs.Compactions.{spareStep, workStep, tidied};
 use plan::Planned;
 use plan::Step;
 use records::Look;
@@ -33,7 +34,7 @@ pub fn resume(image: &[u8], b: usize, content: &mut [u8]) -> Planned
     ensures { λ r. ⌜ Plans (startUpPlan (now (image .entry))) (now (image .entry)) (now (content .entry)) (now (content .exit)) r ⌝ }
 {
     let l = look(image, b);
-    text::put_bytes(
+    output::put_bytes(
         content,
         0,
         slices::cut(image, layout::BLOCK * b + layout::BLOCK, layout::BLOCK * b),
@@ -53,27 +54,28 @@ fn spare_step(image: &[u8], b: usize) -> Step
     Step::Erase(b + 1, b)
 }
 
-// "the work block if it is not well formed or ends in FC".
-fn work_step(image: &[u8], b: usize) -> Step
-    requires { ⌜ (1 ≤ b) × (b ≤ 7) × (length (now image) ≡ block * (2 * b + 1)) ⌝ }
-    ensures { λ r. ⌜ r ≡ workStep b (idle (work (now (image .entry)))) ⌝ }
-{
-    if records::is_idle(look(image, b)) {
-        return Step::Nothing;
-    }
-    Step::Erase(b, 1)
+// "the work block if it is not well formed or ends in FC", and how many records are used then.
+struct WorkLeft {
+    step: Step,
+    used: usize,
 }
 
-// How many records are used then.
-fn used_left(image: &[u8], b: usize) -> usize
+fn work_left(image: &[u8], b: usize) -> WorkLeft
     requires { ⌜ (1 ≤ b) × (b ≤ 7) × (length (now image) ≡ block * (2 * b + 1)) ⌝ }
-    ensures { λ r. ⌜ r ≡ usedRecords (rested (work (now (image .entry)))) ⌝ }
+    ensures { λ r. ⌜ (r .step ≡ workStep b (idle (work (now (image .entry)))))
+        × (r .used ≡ usedRecords (tidied (work (now (image .entry))))) ⌝ }
 {
     let l = look(image, b);
     if records::is_idle(l) {
-        return l.used;
+        return WorkLeft {
+            step: Step::Nothing,
+            used: l.used,
+        };
     }
-    0
+    WorkLeft {
+        step: Step::Erase(b, 1),
+        used: 0,
+    }
 }
 
 // Whether the region's tail is all FF.
@@ -105,11 +107,11 @@ pub fn tidy(image: &[u8], b: usize, content: &mut [u8]) -> Planned
     ensures { λ r. ⌜ Plans (startUpPlan (now (image .entry))) (now (image .entry)) (now (content .entry)) (now (content .exit)) r ⌝ }
 {
     let spare = spare_step(image, b);
-    let work = work_step(image, b);
+    let left = work_left(image, b);
+    let work = left.step;
     if tail_is_blank(image, b) {
         return plan::accept(orders::compaction::rest(spare, work), 12);
     }
     compose_all(image, b, content);
-    let used = used_left(image, b);
-    plan::accept(orders::compaction::compact(spare, work, b, used), 12)
+    plan::accept(orders::compaction::compact(spare, work, b, left.used), 12)
 }

@@ -12,7 +12,7 @@ use region::Turn;
 use region::walk;
 
 // The first entry at or behind an offset in this state, under this name and GUID.
-pub fn find_from(region: &[u8], at: usize, state: u8, name: &[u8], vendor: &[u8]) -> Found
+pub(crate) fn find_from(region: &[u8], at: usize, state: u8, name: &[u8], vendor: &[u8]) -> Found
     ensures { λ r. ⌜ r ≡ foundOf (first (isEntry state (keyed (now (name .entry)) (now (vendor .entry)))) (from (now (region .entry)) at)) ⌝ }
 {
     let mut here = at;

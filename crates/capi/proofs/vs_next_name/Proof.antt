@@ -1,6 +1,6 @@
 -- `capi::vs_next_name` meets its contract: it is the engine's, with the answer in numbers.
 -- Assumes nothing.
-use mathlib.Core.Path.{refl, ap, _∙_}
+use mathlib.Core.Path.{ap, _∙_}
 use Rattle.capi.specs.Numbers.{numbersOf}
 use borrow.Author.Needs.{needs}
 use Rattle.capi.proofs.vs_next_name.Statement.{statement}
@@ -16,7 +16,7 @@ same-length : tie.Need-same-length
 same-length c = search needs
 
 returns : tie.Need-returns
-returns c = let e = c .before .before .before .next-name .ensures in (c .numbers .ensures ∙ ap numbersOf (e .0 .0), e .1, refl, e .2, e .3)
+returns c = let e = c .before .before .before .next-name .ensures in (c .numbers .ensures ∙ ap numbersOf (e .0 .0), e .1, e .2, e .3, e .4)
 
 pub vs-next-name-spec : {M : Type 1} → statement M
 vs-next-name-spec = tie.close (tie.spec next-name-requires numbers-requires same-length returns)

@@ -3,7 +3,7 @@ use Prim.Native.Nat.{_+_, _-_, _≤_}
 use native.Mathlib.Omega.{arith}
 use mathlib.Core.Path.{_≡_, refl, _∙_}
 use lib.ListN.{length, replicate, length-set}
-use Rattle.text.specs.Text.{Wrote}
+use Rattle.output.specs.Text.{Wrote}
 use Rattle.compose.proofs.Headers.{wrote-one, blank-all}
 use borrow.Author.Needs.{needs}
 use Rattle.compose.proofs.put_blank.Statement.{statement}

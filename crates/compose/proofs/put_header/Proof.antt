@@ -1,6 +1,6 @@
 -- `compose::put_header` meets its contract: what stands before the stamp, the stamp, the sizes, the GUID, one behind the other.
 -- Assumes nothing.
-use Rattle.text.proofs.Writing.{wrote-as}
+use Rattle.output.proofs.Writing.{wrote-as}
 use Rattle.compose.proofs.Headers.{header-wrote}
 use borrow.Author.Needs.{needs}
 use Rattle.compose.proofs.put_header.Statement.{statement}

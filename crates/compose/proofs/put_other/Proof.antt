@@ -4,7 +4,7 @@ use native.Mathlib.Omega.{arith}
 use mathlib.Core.Path.{sym, _∙_}
 use denote.Ref.{now}
 use Rattle.model.specs.Name.{Key, keyed}
-use Rattle.text.proofs.Writing.{wrote-none, wrote-as}
+use Rattle.output.proofs.Writing.{wrote-none, wrote-as}
 use Rattle.compose.proofs.Carried.{left-out, carried-over}
 use borrow.Author.Needs.{needs}
 use Rattle.compose.proofs.put_other.Statement.{statement}

@@ -7,7 +7,7 @@ use mathlib.Core.List.{[], _∷_}
 use lib.ListN.{replicate}
 use lib.Seq.{length-take-le}
 use Rattle.model.specs.Entry.{rounded}
-use Rattle.text.proofs.Writing.{wrote-as}
+use Rattle.output.proofs.Writing.{wrote-as}
 use Rattle.compose.proofs.Headers.{padding}
 use borrow.Author.Needs.{needs}
 use Rattle.compose.proofs.put_padding.Statement.{statement}

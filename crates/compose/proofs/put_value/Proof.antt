@@ -3,7 +3,7 @@ use native.Mathlib.Omega.{arith}
 use mathlib.Core.Path.{_∙_}
 use mathlib.Core.List.{append-nil}
 use denote.Ref.{now}
-use Rattle.text.proofs.Writing.{wrote-as}
+use Rattle.output.proofs.Writing.{wrote-as}
 use Rattle.compose.proofs.Carried.{entry-value, short}
 use borrow.Author.Needs.{needs}
 use Rattle.compose.proofs.put_value.Statement.{statement}

@@ -1,7 +1,7 @@
 -- `compose::put_values` meets its contract: the region's header, then the values.
 -- Assumes nothing.
 use borrow.Author.Needs.{needs}
-use Rattle.text.proofs.Writing.{wrote-append, wrote-as}
+use Rattle.output.proofs.Writing.{wrote-append, wrote-as}
 use Rattle.compose.proofs.put_values.Statement.{statement}
 use Rattle.compose.proofs.put_values.Tie as tie
 

@@ -17,8 +17,8 @@ cut-requires c κs = search needs
 look-at-requires : tie.Need-look-at-requires
 look-at-requires c κs = search needs
 
-is-closed-requires : tie.Need-is-closed-requires
-is-closed-requires c κs = search needs
+ends-in-fc-requires : tie.Need-ends-in-fc-requires
+ends-in-fc-requires c κs = search needs
 
 add-cut : tie.Need-add-cut
 add-cut c = search needs
@@ -33,14 +33,14 @@ returns : tie.Need-returns
 returns c =
     let s = c .before .before .before .before .before .before .before in
     let p = parted (now (s .args .image)) (s .args .b) (s .pre .0) (λ e. omega (arith, s .pre .1)) in
-    let closed = told-closed (c .before .before .before .before .before .cut .ensures ∙ p .its-work) (c .before .before .before .before .look-at .ensures) (c .before .before .before .is-closed .ensures) in
+    let closed = told-closed (c .before .before .before .before .before .cut .ensures ∙ p .its-work) (c .before .before .before .before .look-at .ensures) (c .before .before .before .ends-in-fc .ensures) in
     sym (pending-of (now (s .args .image)) (s .args .b) p (closed ∙ c .before .before .if1 .taken) ∙ told-clean (c .before .cut2 .ensures ∙ p .its-spare) (c .judge .ensures))
 
 returns-2 : tie.Need-returns-2
 returns-2 c =
     let s = c .before .before .before .before .before in
     let p = parted (now (s .args .image)) (s .args .b) (s .pre .0) (λ e. omega (arith, s .pre .1)) in
-    let closed = told-closed (c .before .before .before .cut .ensures ∙ p .its-work) (c .before .before .look-at .ensures) (c .before .is-closed .ensures) in
+    let closed = told-closed (c .before .before .before .cut .ensures ∙ p .its-work) (c .before .before .look-at .ensures) (c .before .ends-in-fc .ensures) in
     sym (not-pending (now (s .args .image)) (s .args .b) p (closed ∙ c .if1 .left))
 
 pub is-pending-spec : {M : Type 1} → statement M
@@ -50,7 +50,7 @@ is-pending-spec =
     mul-size
     cut-requires
     look-at-requires
-    is-closed-requires
+    ends-in-fc-requires
     add-cut
     cut-requires-2
     judge-requires

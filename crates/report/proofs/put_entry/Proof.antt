@@ -2,7 +2,7 @@
 -- Assumes nothing.
 use native.Mathlib.Omega.{arith}
 use denote.Ref.{now}
-use Rattle.text.proofs.Writing.{wrote-as}
+use Rattle.output.proofs.Writing.{wrote-as}
 use Rattle.report.proofs.Lines.{entry-line, short}
 use borrow.Author.Needs.{needs}
 use Rattle.report.proofs.put_entry.Statement.{statement}

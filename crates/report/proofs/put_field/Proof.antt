@@ -1,7 +1,7 @@
 -- `report::put_field` meets its contract: the word, then the number's digits.
 -- Assumes nothing.
 use native.Mathlib.Omega.{arith}
-use Rattle.text.proofs.Writing.{wrote-append}
+use Rattle.output.proofs.Writing.{wrote-append}
 use Rattle.report.specs.Varlist.{field}
 use borrow.Author.Needs.{needs}
 use Rattle.report.proofs.put_field.Statement.{statement}

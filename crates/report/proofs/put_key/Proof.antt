@@ -1,8 +1,8 @@
 -- `report::put_key` meets its contract: the digits of the GUID and of the name, a space behind each.
 -- Assumes nothing.
 use native.Mathlib.Omega.{arith}
-use Rattle.text.specs.Text.{ascii}
-use Rattle.text.proofs.Writing.{wrote-append}
+use Rattle.output.specs.Text.{ascii}
+use Rattle.output.proofs.Writing.{wrote-append}
 use Rattle.report.specs.Varlist.{keyText}
 use borrow.Author.Needs.{needs}
 use Rattle.report.proofs.put_key.Statement.{statement}

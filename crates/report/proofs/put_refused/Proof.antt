@@ -1,7 +1,7 @@
 -- `report::put_refused` meets its contract: the word and the number, then the end of the line.
 -- Assumes nothing.
-use Rattle.text.specs.Text.{ascii}
-use Rattle.text.proofs.Writing.{wrote-append}
+use Rattle.output.specs.Text.{ascii}
+use Rattle.output.proofs.Writing.{wrote-append}
 use Rattle.report.specs.Varlist.{refusedLine}
 use borrow.Author.Needs.{needs}
 use Rattle.report.proofs.put_refused.Statement.{statement}

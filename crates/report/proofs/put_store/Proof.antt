@@ -5,7 +5,7 @@ use native.Mathlib.Omega.{arith}
 use mathlib.Core.Path.{ap}
 use lib.ListN.{length}
 use denote.Ref.{now}
-use Rattle.text.proofs.Writing.{wrote-append, wrote-as}
+use Rattle.output.proofs.Writing.{wrote-append, wrote-as}
 use Rattle.report.specs.Varlist.{summaryLine}
 use Rattle.values.proofs.Next.{few-values}
 use borrow.Author.Needs.{needs}

@@ -1,8 +1,8 @@
 -- `report::put_summary` meets its contract: the three fields, then the end of the line.
 -- Assumes nothing.
 use native.Mathlib.Omega.{arith}
-use Rattle.text.specs.Text.{ascii}
-use Rattle.text.proofs.Writing.{wrote-append}
+use Rattle.output.specs.Text.{ascii}
+use Rattle.output.proofs.Writing.{wrote-append}
 use Rattle.report.specs.Varlist.{summaryLine}
 use borrow.Author.Needs.{needs}
 use Rattle.report.proofs.put_summary.Statement.{statement}

@@ -4,8 +4,8 @@ use native.Mathlib.Omega.{arith}
 use Prim.Native.Nat.{ℕ}
 use mathlib.Core.Path.{ap}
 use mathlib.Core.List.{[], _∷_}
-use Rattle.text.specs.Text.{ascii, hexOf}
-use Rattle.text.proofs.Writing.{wrote-append, wrote-as}
+use Rattle.output.specs.Text.{ascii, hexOf}
+use Rattle.output.proofs.Writing.{wrote-append, wrote-as}
 use Rattle.report.specs.Varlist.{entryLine}
 use borrow.Author.Needs.{needs}
 use Rattle.report.proofs.put_value.Statement.{statement}

@@ -7,7 +7,7 @@ use mathlib.Core.List.{List, _++_}
 use lib.ListN.{length}
 use denote.Ref.{now}
 use Rattle.model.specs.Region.{entries, values}
-use Rattle.text.proofs.Writing.{wrote-as}
+use Rattle.output.proofs.Writing.{wrote-as}
 use Rattle.report.specs.Varlist.{summaryLine, valueLines, refusedLine}
 use Rattle.report.proofs.Accepted.{accepted, refused-text}
 use borrow.Author.Needs.{needs}

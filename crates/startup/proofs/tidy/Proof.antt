@@ -16,8 +16,8 @@ spare-step-requires c κs =
     let s = c .before .before in
     sized (now (s .args .image)) (s .args .b) false (accepts (now (s .args .image)) (s .args .b) false (s .pre .0))
 
-work-step-requires : tie.Need-work-step-requires
-work-step-requires c κs =
+work-left-requires : tie.Need-work-left-requires
+work-left-requires c κs =
     let s = c .before .before .before in
     sized (now (s .args .image)) (s .args .b) false (accepts (now (s .args .image)) (s .args .b) false (s .pre .0))
 
@@ -37,7 +37,7 @@ returns c =
     let s = c .before .before .before .before .before .before .before .before in
     let i = now (s .args .image) in
     let f = accepts i (s .args .b) false (s .pre .0) in
-    rest-plans i (s .args .b) f _ _ (sym (c .before .before .before .tail-is-blank .ensures) ∙ c .before .before .if1 .taken) (rest-as (c .before .rest .ensures) (c .before .before .before .before .before .spare-step .ensures) (c .before .before .before .before .work-step .ensures)) (c .accept .ensures)
+    rest-plans i (s .args .b) f _ _ (sym (c .before .before .before .tail-is-blank .ensures) ∙ c .before .before .if1 .taken) (rest-as (c .before .rest .ensures) (c .before .before .before .before .before .spare-step .ensures) (c .before .before .before .before .work-left .ensures .0)) (c .accept .ensures)
 
 compose-all-requires : tie.Need-compose-all-requires
 compose-all-requires c κs =
@@ -45,14 +45,9 @@ compose-all-requires c κs =
     let f = accepts (now (s .args .image)) (s .args .b) false (s .pre .0) in
     (sized (now (s .args .image)) (s .args .b) false f, sounds (now (s .args .image)) (s .args .b) f, s .pre .1)
 
-used-left-requires : tie.Need-used-left-requires
-used-left-requires c κs =
-    let s = c .before .before .before .before .before .before .before .before .before .before in
-    sized (now (s .args .image)) (s .args .b) false (accepts (now (s .args .image)) (s .args .b) false (s .pre .0))
-
 compact-requires : tie.Need-compact-requires
 compact-requires c κs =
-    let s = c .before .before .before .before .before .before .before .before .before .before .before in
+    let s = c .before .before .before .before .before .before .before .before .before .before in
     sized (now (s .args .image)) (s .args .b) false (accepts (now (s .args .image)) (s .args .b) false (s .pre .0)) .1
 
 accept-requires-2 : tie.Need-accept-requires-2
@@ -63,26 +58,25 @@ same-length c = search needs
 
 returns-2 : tie.Need-returns-2
 returns-2 c =
-    let s = c .before .before .before .before .before .before .before .before .before .before .before .before .before in
+    let s = c .before .before .before .before .before .before .before .before .before .before .before .before in
     let i = now (s .args .image) in
     let f = accepts i (s .args .b) false (s .pre .0) in
-    let k = c .before .before .before .before .before .before .before .before .before .before .before .before .shared-slice-known .given in
-    tidy-plans i (s .args .b) f (bytes-of i (λ j. let x : getD i j 0 ≤ 0xFF = omega (arith, k j) in x)) _ _ (sym (c .before .before .before .before .before .before .before .before .tail-is-blank .ensures) ∙ c .before .before .before .before .before .before .before .if1 .left)
-    (c .before .before .before .before .before .compose-all .kept .1 .1 .0 ∙ s .pre .1) (c .before .before .before .before .before .compose-all .ensures)
-    (compact-as (s .args .b) (c .before .compact .ensures) (c .before .before .before .before .before .before .before .before .before .before .spare-step .ensures) (c .before .before .before .before .before .before .before .before .before .work-step .ensures) (c .before .before .used-left .ensures)) (c .accept2 .ensures)
+    let k = c .before .before .before .before .before .before .before .before .before .before .before .shared-slice-known .given in
+    tidy-plans i (s .args .b) f (bytes-of i (λ j. let x : getD i j 0 ≤ 0xFF = omega (arith, k j) in x)) _ _ (sym (c .before .before .before .before .before .before .before .tail-is-blank .ensures) ∙ c .before .before .before .before .before .before .if1 .left)
+    (c .before .before .before .before .compose-all .kept .1 .1 .0 ∙ s .pre .1) (c .before .before .before .before .compose-all .ensures)
+    (compact-as (s .args .b) (c .before .compact .ensures) (c .before .before .before .before .before .before .before .before .before .spare-step .ensures) (c .before .before .before .before .before .before .before .before .work-left .ensures .0) (c .before .before .before .before .before .before .before .before .work-left .ensures .1)) (c .accept2 .ensures)
 
 pub tidy-spec : {M : Type 1} → statement M
 tidy-spec =
     tie.close
     (tie.spec
     spare-step-requires
-    work-step-requires
+    work-left-requires
     tail-is-blank-requires
     rest-requires
     accept-requires
     returns
     compose-all-requires
-    used-left-requires
     compact-requires
     accept-requires-2
     same-length

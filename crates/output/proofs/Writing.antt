@@ -11,7 +11,7 @@ use lib.ListN.{length, take, drop, getD, set, length-append, take-append-drop}
 use lib.Seq.{sets, sets-eq, take-at, take-suc, take-all, length-take-le, length-sets, set-out}
 use lib.Dec.{leb}
 use borrow.Author.Tests.{leb-true, leb-false}
-use Rattle.text.specs.Text.{Wrote, hexOf}
+use Rattle.output.specs.Text.{Wrote, hexOf}
 
 pub sets-append : (l : List ℕ) (at : ℕ) (xs ys : List ℕ) → sets l at (xs ++ ys) ≡ sets (sets l at xs) (at + length xs) ys
 sets-append l at [] ys = rw add-zero

@@ -1,4 +1,4 @@
--- `text::put_decimal` meets its contract. It ends since a tenth is less than the number; the digits are those of the tenth and one more.
+-- `output::put_decimal` meets its contract. It ends since a tenth is less than the number; the digits are those of the tenth and one more.
 -- Assumes nothing.
 use Prim.Native.Nat.{ℕ, _<_}
 use native.Mathlib.Omega.{arith}
@@ -7,15 +7,15 @@ use mathlib.Core.List.{[], _∷_}
 use borrow.Author.Needs.{needs}
 use borrow.Fn.Kinds.{In}
 use borrow.Fn.PlainCycle.{Measures, is, falls, and}
-use Rattle.text.proofs.Writing.{wrote-append, wrote-as}
-use Rattle.text.proofs.Digits.{decimal-one, decimal-more, decimal-length}
-use Rattle.text.proofs.put_decimal.Reads as put-decimal
-use Rattle.text.proofs.put_decimal.Kinds as put-decimal-kinds
-use Rattle.text.proofs.+put_decimal.Lts-put_decimal as put-decimal-lts
-use Rattle.text.proofs.digit.Reads as digit-reads
-use Rattle.text.proofs.put_byte.Reads as put-byte-reads
-use Rattle.text.proofs.+put_decimal.{statement}
-use Rattle.text.proofs.+put_decimal.Tie.{close}
+use Rattle.output.proofs.Writing.{wrote-append, wrote-as}
+use Rattle.output.proofs.Digits.{decimal-one, decimal-more, decimal-length}
+use Rattle.output.proofs.put_decimal.Reads as put-decimal
+use Rattle.output.proofs.put_decimal.Kinds as put-decimal-kinds
+use Rattle.output.proofs.+put_decimal.Lts-put_decimal as put-decimal-lts
+use Rattle.output.proofs.digit.Reads as digit-reads
+use Rattle.output.proofs.put_byte.Reads as put-byte-reads
+use Rattle.output.proofs.+put_decimal.{statement}
+use Rattle.output.proofs.+put_decimal.Tie.{close}
 
 abbrev μ : Measures 1 put-decimal-kinds.ps ℕ
 μ κs a = a .1 .1 .0

@@ -1,9 +1,9 @@
--- `text::digit` meets its contract: the byte string is the definition's list.
+-- `output::digit` meets its contract: the byte string is the definition's list.
 -- Assumes nothing.
 use borrow.Author.Needs.{needs}
-use Rattle.text.specs.Text.{ascii, digit}
-use Rattle.text.proofs.digit.Statement.{statement}
-use Rattle.text.proofs.digit.Tie as tie
+use Rattle.output.specs.Text.{ascii, digit}
+use Rattle.output.proofs.digit.Statement.{statement}
+use Rattle.output.proofs.digit.Tie as tie
 
 element-copy-out-result : tie.Need-element-copy-out-result
 element-copy-out-result c = search needs

@@ -1,13 +1,13 @@
--- `text::put_hex_byte` meets its contract: the high digit, then the low one.
+-- `output::put_hex_byte` meets its contract: the high digit, then the low one.
 -- Assumes nothing.
 use Prim.Native.Nat.{ℕ}
 use mathlib.Core.Path.{ap}
 use mathlib.Core.List.{[], _∷_}
-use Rattle.text.specs.Text.{digit, hexOf}
-use Rattle.text.proofs.Writing.{wrote-append, wrote-as}
+use Rattle.output.specs.Text.{digit, hexOf}
+use Rattle.output.proofs.Writing.{wrote-append, wrote-as}
 use borrow.Author.Needs.{needs}
-use Rattle.text.proofs.put_hex_byte.Statement.{statement}
-use Rattle.text.proofs.put_hex_byte.Tie as tie
+use Rattle.output.proofs.put_hex_byte.Statement.{statement}
+use Rattle.output.proofs.put_hex_byte.Tie as tie
 
 digit-requires : tie.Need-digit-requires
 digit-requires c κs = search needs

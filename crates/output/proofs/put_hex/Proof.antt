@@ -1,15 +1,15 @@
--- `text::put_hex` meets its contract: after i turns the text of the first i bytes is written.
+-- `output::put_hex` meets its contract: after i turns the text of the first i bytes is written.
 -- Assumes nothing.
 use Prim.Native.Nat.{_+_, _*_, _-_, _≤_}
 use native.Mathlib.Omega.{arith}
 use mathlib.Core.Path.{_≡_, refl, ap, _∙_}
 use lib.ListN.{length, take}
 use lib.Seq.{take-all}
-use Rattle.text.specs.Text.{Wrote, hexOf}
-use Rattle.text.proofs.Writing.{wrote-none, wrote-as, wrote-hex}
+use Rattle.output.specs.Text.{Wrote, hexOf}
+use Rattle.output.proofs.Writing.{wrote-none, wrote-as, wrote-hex}
 use borrow.Author.Needs.{needs}
-use Rattle.text.proofs.put_hex.Statement.{statement}
-use Rattle.text.proofs.put_hex.Tie as tie
+use Rattle.output.proofs.put_hex.Statement.{statement}
+use Rattle.output.proofs.put_hex.Tie as tie
 
 abbrev Inv-loop : tie.InvT-loop
 Inv-loop out₀ at src next₀ i₀ out next i =

@@ -1,15 +1,15 @@
--- `text::put_bytes` meets its contract: after i turns the text of the first i bytes is written, and those left at the end have no place.
+-- `output::put_bytes` meets its contract: after i turns the text of the first i bytes is written, and those left at the end have no place.
 -- Assumes nothing.
 use Prim.Native.Nat.{ℕ, _+_, _-_, _≤_}
 use native.Mathlib.Omega.{arith}
 use mathlib.Core.Path.{_≡_, refl, ap, _∙_}
 use lib.ListN.{length, take, getD, length-set}
 use denote.Ref.{now}
-use Rattle.text.specs.Text.{Wrote}
-use Rattle.text.proofs.Writing.{wrote-as, wrote-byte, wrote-room}
+use Rattle.output.specs.Text.{Wrote}
+use Rattle.output.proofs.Writing.{wrote-as, wrote-byte, wrote-room}
 use borrow.Author.Needs.{needs}
-use Rattle.text.proofs.put_bytes.Statement.{statement}
-use Rattle.text.proofs.put_bytes.Tie as tie
+use Rattle.output.proofs.put_bytes.Statement.{statement}
+use Rattle.output.proofs.put_bytes.Tie as tie
 
 abbrev Inv-loop : tie.InvT-loop
 Inv-loop out₀ at src n i₀ out i = (i ≤ n) × (length out ≡ length out₀) × Wrote (take i src) at out₀ out (at + i)

@@ -9,7 +9,7 @@ use mathlib.Core.List.{List, [], _∷_, _++_}
 use lib.Dec.{ltb}
 use lib.ListN.{length, length-append}
 use borrow.Author.Tests.{ltb-true, ltb-false}
-use Rattle.text.specs.Text.{digit, leading, decimalOf}
+use Rattle.output.specs.Text.{digit, leading, decimalOf}
 
 leading-none : (count : ℕ) → leading count 0 ≡ []
 unfolding leading

@@ -1,10 +1,10 @@
--- `text::put_byte` meets its contract: past the end `set` does nothing, and neither does the code.
+-- `output::put_byte` meets its contract: past the end `set` does nothing, and neither does the code.
 -- Assumes nothing.
 use borrow.Author.Needs.{needs}
 use mathlib.Core.Path.{refl, sym}
 use lib.Seq.{set-out}
-use Rattle.text.proofs.put_byte.Statement.{statement}
-use Rattle.text.proofs.put_byte.Tie as tie
+use Rattle.output.proofs.put_byte.Statement.{statement}
+use Rattle.output.proofs.put_byte.Tie as tie
 
 add-next : tie.Need-add-next
 add-next c = search needs

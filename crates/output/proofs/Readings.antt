@@ -7,8 +7,8 @@ use mathlib.Core.Bool.{Bool, true, false}
 use mathlib.Core.List.{List, [], _∷_, _++_}
 use lib.Dec.{ltb}
 use borrow.Author.Tests.{ltb-true, ltb-false}
-use Rattle.text.specs.Text.{ascii, digit, leading, decimalOf, hexOf}
-use Rattle.text.proofs.Digits.{decimal-one, decimal-more}
+use Rattle.output.specs.Text.{ascii, digit, leading, decimalOf, hexOf}
+use Rattle.output.proofs.Digits.{decimal-one, decimal-more}
 
 hex-bytes : hexOf (0x00 ∷ 0x09 ∷ 0x0A ∷ 0x10 ∷ 0x9F ∷ 0xFF ∷ []) ≡ ascii "00090A109FFF"
 unfolding hexOf digit ascii
