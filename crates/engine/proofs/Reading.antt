@@ -17,8 +17,9 @@ use Rattle.model.specs.Entry.{Value}
 use Rattle.model.specs.Walk.{Entry, entryValue, placed}
 use Rattle.model.specs.Region.{entries, values, valuesOf}
 use Rattle.model.specs.Session.{countedPhase, atRuntime}
-use Rattle.model.specs.Rules.{firstBroken, rule3, rule3Next, rule11Read, rule14, seen, valueToGet, valueToName, gotBytes, getBroken, nextBroken}
+use Rattle.model.specs.Rules.{firstBroken, rule3, rule3Next, rule11Read, rule14, seen, valueToGet, valueToName, gotBytes, namedBytes, getBroken, nextBroken}
 use Rattle.model.specs.Answers.{ruleNumber, refusal, written, done, refused, outcome, getReply, nextReply, getPlan, nextPlan}
+use Rattle.model.specs.Beside.{Gives}
 use Rattle.model.specs.Book as book
 use Rattle.recovery.specs.Interface.{Returned}
 use Rattle.model.specs.Set.{refuse, make}
@@ -154,7 +155,7 @@ pub get-answered : (n : ℕ) (s : Session) (k : Key) (buffer img : List ℕ) {go
     × Gives (getReply s k buffer img) (got .size) (got .attributes) (got .needed) after
 unfolding getPlan getReply getBroken rule3 readBroken replyOf
 get-answered n s k buffer img h =
-    ((h .answer ∙ sym (no-stores n (getBroken s k buffer img)), refl), h .size, h .attributes, h .needed, h .buffer)
+    ((h .answer ∙ sym (no-stores n (getBroken s k buffer img)), refl), (h .size, h .attributes, h .needed, h .buffer))
 
 -- a name has no attributes
 no-attributes : (s : Session) (k : Key) (buffer img : List ℕ) → nextReply s k buffer img .attributes ≡ 0
@@ -173,4 +174,4 @@ pub next-answered : (n : ℕ) (s : Session) (k : Key) (buffer img : List ℕ) {g
     × Gives (nextReply s k buffer img) (got .size) 0 (got .needed) after
 unfolding nextPlan nextReply nextBroken rule3Next readBroken replyOf nameAt seenAt valueToName seen atRuntime
 next-answered n s k buffer img h =
-    ((h .answer ∙ sym (no-stores n (nextBroken s k buffer img)), refl), h .size, sym (no-attributes s k buffer img), h .needed, h .buffer)
+    ((h .answer ∙ sym (no-stores n (nextBroken s k buffer img)), refl), (h .size, sym (no-attributes s k buffer img), h .needed, h .buffer))

@@ -16,7 +16,7 @@ same-length : tie.Need-same-length
 same-length c = search needs
 
 returns : tie.Need-returns
-returns c = let e = c .before .before .before .get .ensures in (c .numbers .ensures ∙ ap numbersOf (e .0 .0), e .1, e .2, e .3, e .4)
+returns c = let e = c .before .before .before .get .ensures in (c .numbers .ensures ∙ ap numbersOf (e .0 .0), e .1)
 
 pub vs-get-spec : {M : Type 1} → statement M
 vs-get-spec = tie.close (tie.spec get-requires numbers-requires same-length returns)

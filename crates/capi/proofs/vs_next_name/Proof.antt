@@ -16,7 +16,7 @@ same-length : tie.Need-same-length
 same-length c = search needs
 
 returns : tie.Need-returns
-returns c = let e = c .before .before .before .next-name .ensures in (c .numbers .ensures ∙ ap numbersOf (e .0 .0), e .1, e .2, e .3, e .4)
+returns c = let e = c .before .before .before .next-name .ensures in (c .numbers .ensures ∙ ap numbersOf (e .0 .0), e .1)
 
 pub vs-next-name-spec : {M : Type 1} → statement M
 vs-next-name-spec = tie.close (tie.spec next-name-requires numbers-requires same-length returns)
