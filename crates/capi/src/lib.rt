@@ -191,7 +191,7 @@ pub extern "C" fn vs_set(
     bytes: &[u8],
     presence: u32,
     verdict: u32,
-    content: &mut [u8; 28672],
+    content: &mut [u8; layout::CONTENT],
 ) -> Answered
     ensures { λ r. ⌜ (r
         ≡ numbersOf (outcome (context .limit)
@@ -224,7 +224,7 @@ pub extern "C" fn vs_set(
 pub extern "C" fn vs_format(
     context: Context,
     image: &mut [u8],
-    content: &mut [u8; 28672],
+    content: &mut [u8; layout::CONTENT],
 ) -> Answered
     ensures { λ r. ⌜ (r ≡ numbersOf (outcome (context .limit) (formatPlan (now (image .entry)))))
         × (now (image .exit) ≡ imageAfter (context .limit) (formatPlan (now (image .entry))) (now (image .entry)))
@@ -239,7 +239,7 @@ pub extern "C" fn vs_start_up(
     context: Context,
     image: &mut [u8],
     setup: Setup,
-    content: &mut [u8; 28672],
+    content: &mut [u8; layout::CONTENT],
 ) -> Started
     ensures { λ r. ⌜ (r .answer ≡ numbersOf (outcome (context .limit) (startUpPlan (now (image .entry)))))
         × (r .session ≡ freshSession setup)
@@ -265,7 +265,7 @@ pub extern "C" fn vs_plan_set(
     bytes: &[u8],
     presence: u32,
     verdict: u32,
-    content: &mut [u8; 28672],
+    content: &mut [u8; layout::CONTENT],
 ) -> HostPlan
     ensures { λ r. ⌜ PlannedFor
         (book.set session (requestOf (now (name .entry)) (now (vendor .entry)) attributes (now (bytes .entry)) presence verdict))
@@ -298,7 +298,7 @@ pub extern "C" fn vs_plan_set(
 }
 
 #[no_mangle]
-pub extern "C" fn vs_plan_start_up(image: &[u8], content: &mut [u8; 28672]) -> HostPlan
+pub extern "C" fn vs_plan_start_up(image: &[u8], content: &mut [u8; layout::CONTENT]) -> HostPlan
     ensures { λ r. ⌜ StartUpPlanned (now (image .entry)) (now (content .exit)) r
         × Kept (startUpPlan (now (image .entry))) (now (content .entry)) (now (content .exit))
         × Numbered (startUpPlan (now (image .entry))) (now (image .entry)) (now (content .entry)) (now (content .exit)) r ⌝ }
@@ -308,7 +308,7 @@ pub extern "C" fn vs_plan_start_up(image: &[u8], content: &mut [u8; 28672]) -> H
 }
 
 #[no_mangle]
-pub extern "C" fn vs_plan_format(image: &[u8], content: &mut [u8; 28672]) -> HostPlan
+pub extern "C" fn vs_plan_format(image: &[u8], content: &mut [u8; layout::CONTENT]) -> HostPlan
     ensures { λ r. ⌜ Told (formatPlan (now (image .entry))) (now (content .exit)) r
         × Kept (formatPlan (now (image .entry))) (now (content .entry)) (now (content .exit))
         × Numbered (formatPlan (now (image .entry))) (now (image .entry)) (now (content .entry)) (now (content .exit)) r ⌝ }

@@ -41,8 +41,8 @@ fn print_answer(call: &[u8], a: Answer) {
 }
 
 // Room for what a call composes.
-fn content() -> [u8; 28672] {
-    [0; 28672]
+fn content() -> [u8; layout::CONTENT] {
+    [0; layout::CONTENT]
 }
 
 fn format(step: &[u8], image: &mut [u8]) {

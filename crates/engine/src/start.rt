@@ -13,7 +13,7 @@ use model::Started;
 use plan::Planned;
 
 // The plan of a start-up: rules 1 and 2, then "if pending, resume at the erase of the region. Then .." the rest.
-pub fn plan_start_up(image: &[u8], content: &mut [u8; 28672]) -> Planned
+pub fn plan_start_up(image: &[u8], content: &mut [u8; layout::CONTENT]) -> Planned
     ensures { λ r. ⌜ Plans (startUpPlan (now (image .entry))) (now (image .entry)) (now (content .entry)) (now (content .exit)) r ⌝ }
 {
     let found = image::check_start(image);
@@ -25,7 +25,12 @@ pub fn plan_start_up(image: &[u8], content: &mut [u8; 28672]) -> Planned
 }
 
 // A start-up, planned, then carried out up to n: it is given custom mode and R and makes a fresh session, also when it is refused or stopped.
-pub fn start_up(c: Context, image: &mut [u8], setup: Setup, content: &mut [u8; 28672]) -> Started
+pub fn start_up(
+    c: Context,
+    image: &mut [u8],
+    setup: Setup,
+    content: &mut [u8; layout::CONTENT],
+) -> Started
     ensures { λ r. ⌜ Returned (book.startUp setup) (c .limit) (now (image .entry)) (now (image .exit)) (r .answer)
         × (r .session ≡ freshSession setup)
         × Kept (startUpPlan (now (image .entry))) (now (content .entry)) (now (content .exit)) ⌝ }

@@ -108,7 +108,7 @@ pub fn plan_set(
     bytes: &[u8],
     presence: u32,
     verdict: u32,
-    content: &mut [u8; 28672],
+    content: &mut [u8; layout::CONTENT],
 ) -> Planned
     ensures { λ r. ⌜ Plans
         (setPlan s (requestOf (now (name .entry)) (now (vendor .entry)) attributes (now (bytes .entry)) presence verdict) (now (image .entry)))
@@ -147,7 +147,7 @@ pub fn set(
     bytes: &[u8],
     presence: u32,
     verdict: u32,
-    content: &mut [u8; 28672],
+    content: &mut [u8; layout::CONTENT],
 ) -> Answer
     ensures { λ r. ⌜ Returned
         (book.set s (requestOf (now (name .entry)) (now (vendor .entry)) attributes (now (bytes .entry)) presence verdict))
@@ -199,7 +199,7 @@ fn wipe(b: usize) -> Plan
 }
 
 // The plan of a format: "Formatting meets 1 only".
-pub fn plan_format(image: &[u8], content: &mut [u8; 28672]) -> Planned
+pub fn plan_format(image: &[u8], content: &mut [u8; layout::CONTENT]) -> Planned
     ensures { λ r. ⌜ Plans (formatPlan (now (image .entry))) (now (image .entry)) (now (content .entry)) (now (content .exit)) r ⌝ }
 {
     let b = image::blocks(image);
@@ -212,7 +212,7 @@ pub fn plan_format(image: &[u8], content: &mut [u8; 28672]) -> Planned
 }
 
 // An empty region: planned, then carried out up to n.
-pub fn format(c: Context, image: &mut [u8], content: &mut [u8; 28672]) -> Answer
+pub fn format(c: Context, image: &mut [u8], content: &mut [u8; layout::CONTENT]) -> Answer
     ensures { λ r. ⌜ (answerOf r ≡ outcome (c .limit) (formatPlan (now (image .entry))))
         × (now (image .exit) ≡ imageAfter (c .limit) (formatPlan (now (image .entry))) (now (image .entry)))
         × Kept (formatPlan (now (image .entry))) (now (content .entry)) (now (content .exit)) ⌝ }

@@ -11,6 +11,9 @@ pub mod fixed;
 // The bytes of a block.
 pub const BLOCK: usize = 4096;
 
+// The bytes of the longest region, seven blocks: as many has the content in which calls compose.
+pub const CONTENT: usize = 28672;
+
 // The bytes of the region's header, behind which the walk starts.
 pub const REGION_HEADER: usize = 28;
 
