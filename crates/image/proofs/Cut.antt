@@ -15,6 +15,7 @@ use Rattle.model.specs.Work.{wellFormed, endsInFC, idle, pending, readyForCall,
 use Rattle.model.specs.Rules.{firstBroken, rule1, rule2, rule2StartUp, imageRules, startUpBroken}
 use Rattle.model.specs.declared.Rule.the-variants.{Length, Unready}
 use Rattle.model.proofs.Tests.{and-split, true-and}
+use Rattle.records.specs.Look.{lookAt}
 use Rattle.image.specs.Check.{blocksOf, callOf, startUpOf}
 use Rattle.image.specs.declared.Check.the-variants as call
 use Rattle.image.specs.declared.Start.the-variants as start
@@ -123,11 +124,11 @@ module _ (img : List ℕ) (b : ℕ) (p : Parted img b) where
   unfolding pending
   not-pending w = rw w
 
-  pub start-pending : pending img ≡ true → startUpOf img ≡ start.Pending b
+  pub start-pending : pending img ≡ true → startUpOf img ≡ start.Pending b (lookAt (work img))
   unfolding startUpOf startUpBroken firstBroken rule1 rule2StartUp readyForStartUp
   start-pending q = rw (p .right-length, q, p .same)
 
-  pub start-sound : pending img ≡ false → sound (region img) ≡ true → startUpOf img ≡ start.Sound b
+  pub start-sound : pending img ≡ false → sound (region img) ≡ true → startUpOf img ≡ start.Sound b (lookAt (work img))
   unfolding startUpOf startUpBroken firstBroken rule1 rule2StartUp readyForStartUp
   start-sound q s = rw (p .right-length, q, s, p .same)
 

@@ -6,10 +6,11 @@ use mathlib.Core.List.{List}
 use mathlib.Core.Option.{none}
 use lib.ListN.{length}
 use Rattle.model.specs.Lists.{part, onSome}
-use Rattle.model.specs.Image.{blocks, rightLength, region}
+use Rattle.model.specs.Image.{blocks, rightLength, region, work}
 use Rattle.model.specs.Region.{tailAt, sound}
 use Rattle.model.specs.Work.{readyForCall, pending}
 use Rattle.model.specs.Rules.{firstBroken, imageRules, startUpBroken}
+use Rattle.records.specs.Look.{lookAt}
 use Rattle.image.specs.declared.Check.{Check}
 use Rattle.image.specs.declared.Check.the-variants as call
 use Rattle.image.specs.declared.Start.{Start}
@@ -23,10 +24,11 @@ blocksOf img = cond (rightLength img) (blocks img) 0
 unfoldable pub callOf : List ℕ → Check
 callOf img = onSome (firstBroken (imageRules img)) call.Refused (call.Ready (blocks img) (tailAt (region img)))
 
--- of a start-up: the first broken, or b of what is pending, else of the sound region
+-- of a start-up: the first broken, or b of what is pending, else of the sound region, and what a look at the work block tells
 unfoldable pub startUpOf : List ℕ → Start
 startUpOf img =
-    onSome (startUpBroken img) start.Refused (cond (pending img) (start.Pending (blocks img)) (start.Sound (blocks img)))
+    onSome (startUpBroken img) start.Refused
+    (cond (pending img) (start.Pending (blocks img) (lookAt (work img))) (start.Sound (blocks img) (lookAt (work img))))
 
 -- an image that is ready for a call, of b blocks and with the tail at t
 pub record IsReady (img : List ℕ) (b t : ℕ) : Type 0 where

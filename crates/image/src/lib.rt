@@ -1,9 +1,12 @@
 // A whole image: its length, and whether a call or a start-up may begin on it.
 ghost use mathlib.Core.Path.{_≡_};
 ghost use Prim.Native.Nat.{_≤_};
+ghost use Rattle.model.specs.Image.{work};
 ghost use Rattle.model.specs.Work.{pending};
+ghost use Rattle.records.specs.Look.{lookAt};
 ghost use Rattle.image.specs.Check.{blocksOf, callOf, startUpOf};
 use model::Rule;
+use records::Look;
 
 // The bytes of a block of the region and of its block of the spare.
 const PAIR: usize = 8192;
@@ -14,10 +17,10 @@ pub enum Check {
     Refused(Rule),
 }
 
-// What they leave to a start-up: the number of blocks of a pending compaction or of a sound region, or the rule broken.
+// What they leave to a start-up: the number of blocks of a pending compaction or of a sound region, with the look at the work block, or the rule broken.
 pub enum Start {
-    Pending(usize),
-    Sound(usize),
+    Pending(usize, Look),
+    Sound(usize, Look),
     Refused(Rule),
 }
 
@@ -59,13 +62,13 @@ pub fn check_call(image: &[u8]) -> Check
     Check::Refused(Rule::Unready)
 }
 
-// Whether a compaction of b blocks is pending.
-fn is_pending(image: &[u8], b: usize) -> bool
-    requires { ⌜ (b ≡ blocksOf (now image)) × (1 ≤ b) × (b ≤ 7) ⌝ }
+// Whether a compaction of b blocks is pending, by a look at the work block.
+fn is_pending(image: &[u8], b: usize, looked: Look) -> bool
+    requires { ⌜ (b ≡ blocksOf (now image)) × (1 ≤ b) × (b ≤ 7) × (looked ≡ lookAt (work (now image))) ⌝ }
     ensures { λ r. ⌜ r ≡ pending (now (image .entry)) ⌝ }
 {
-    let size = layout::BLOCK * b;
-    if records::ends_in_fc(records::look_at(slices::cut(image, size, layout::BLOCK))) {
+    if records::ends_in_fc(looked) {
+        let size = layout::BLOCK * b;
         let s = region::judge::judge(slices::cut(image, size + layout::BLOCK, size));
         return s.clean;
     }
@@ -80,12 +83,14 @@ pub fn check_start(image: &[u8]) -> Start
     if b == 0 {
         return Start::Refused(Rule::Length);
     }
-    if is_pending(image, b) {
-        return Start::Pending(b);
+    let size = layout::BLOCK * b;
+    let looked = records::look_at(slices::cut(image, size, layout::BLOCK));
+    if is_pending(image, b, looked) {
+        return Start::Pending(b, looked);
     }
-    let j = region::judge::judge(slices::cut(image, 0, layout::BLOCK * b));
+    let j = region::judge::judge(slices::cut(image, 0, size));
     if j.sound {
-        return Start::Sound(b);
+        return Start::Sound(b, looked);
     }
     Start::Refused(Rule::Unready)
 }

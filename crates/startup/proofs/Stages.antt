@@ -3,8 +3,8 @@
 -- Assumes nothing.
 use Prim.Native.Nat.{ℕ, _+_, _*_, _-_, _≤_, _<_}
 use native.Mathlib.Omega.{arith}
-use mathlib.Core.Path.{_≡_, sym, ap, _∙_}
-use mathlib.Core.Bool.{Bool, true, _&&_}
+use mathlib.Core.Path.{_≡_, refl, sym, ap, _∙_}
+use mathlib.Core.Bool.{Bool, true, cond, _&&_}
 use mathlib.Core.List.{List}
 use lib.ListN.{length, drop, length-drop}
 use lib.Seq.{length-take-le, take-all}
@@ -20,6 +20,9 @@ use Rattle.records.specs.Look.{lookAt, idleAt}
 use Rattle.records.specs.declared.Look.{Look}
 use Rattle.image.proofs.Cut.{Parted, blocks-right, parted}
 use Rattle.image.proofs.Look.{told-idle}
+use Rattle.plan.specs.declared.Step.{Step}
+use Rattle.orders.specs.Compactions.{workStep, tidied}
+use Rattle.orders.proofs.StartUps.{tidied-used}
 
 module _ (img : List ℕ) (b : ℕ) (low : 1 ≤ b) (high : b ≤ 7) (long : length img ≡ block * (2 * b + 1)) where
   -- the parts that the code cuts
@@ -58,13 +61,20 @@ module _ (img : List ℕ) (b : ℕ) (low : 1 ≤ b) (high : b ≤ 7) (long : len
 
   -- ---- what a look at the work block tells
 
-  module _ {l : Look} (looked : l ≡ lookAt (part (block * b) block img)) where
-    pub used-told : l .used ≡ usedRecords (work img)
+  module _ {l : Look} (looked : l ≡ lookAt (work img)) where
+    used-told : l .used ≡ usedRecords (work img)
     unfolding lookAt
-    used-told = ap (λ (x : Look). x .used) (looked ∙ ap lookAt its-work)
+    used-told = ap (λ (x : Look). x .used) looked
 
-    pub idle-told : {t : Bool} → t ≡ idleAt l → idle (work img) ≡ t
-    idle-told e = told-idle its-work looked e
+    idle-told : idle (work img) ≡ idleAt l
+    idle-told = told-idle refl looked refl
+
+    -- erased where it is not idle, and then no record is used
+    pub left-step : {x : Step} → x ≡ workStep b (idleAt l) → x ≡ workStep b (idle (work img))
+    left-step e = e ∙ ap (workStep b) (sym idle-told)
+
+    pub left-used : {n : ℕ} → n ≡ cond (idleAt l) (l .used) 0 → n ≡ usedRecords (tidied (work img))
+    left-used e = e ∙ ap (λ (k : ℕ). cond (idleAt l) k 0) used-told ∙ tidied-used (work img) (idleAt l) idle-told
 
     -- a compaction is pending: the last used record
     module _ (waits : pending img ≡ true) where

@@ -49,8 +49,8 @@ use Rattle.startup.proofs.Stages.{its-size, last-within, resume-list}
 
 -- ---- what was found
 
-abbrev startOf : Option Rule → Bool → ℕ → Start
-startOf o t b = onSome o Refused (cond t (Pending b) (Sound b))
+abbrev startOf : Option Rule → Bool → ℕ → Look → Start
+startOf o t b l = onSome o Refused (cond t (Pending b l) (Sound b l))
 
 -- accepted, with or without a compaction pending
 pub record Accepted (img : List ℕ) (b : ℕ) (t : Bool) : Type 0 where
@@ -58,25 +58,32 @@ pub record Accepted (img : List ℕ) (b : ℕ) (t : Bool) : Type 0 where
   pub waits : pending img ≡ t
   pub same : blocks img ≡ b
 
-pub accepts : (img : List ℕ) (b : ℕ) (t : Bool) → startUpOf img ≡ cond t (Pending b) (Sound b) → Accepted img b t
-unfolding startUpOf
-accepts img b t h =
-    let k = go (startUpBroken img) (pending img) t h in
-    record { unbroken = k .0; waits = k .1; same = k .2 }
-  where
-    go : (o : Option Rule) (u t : Bool) → startOf o u (blocks img) ≡ cond t (Pending b) (Sound b) → (o ≡ none) × (u ≡ t) × (blocks img ≡ b)
-    go (some rule) u true h = let z : _≡_ {A = ℕ} 0 1 = cc in absurd (omega arith)
-    go (some rule) u false h = let z : _≡_ {A = ℕ} 0 1 = cc in absurd (omega arith)
-    go none true true h = (refl, refl, cc)
-    go none true false h = let z : _≡_ {A = ℕ} 0 1 = cc in absurd (omega arith)
-    go none false true h = let z : _≡_ {A = ℕ} 0 1 = cc in absurd (omega arith)
-    go none false false h = (refl, refl, cc)
+module _ (img : List ℕ) (b : ℕ) (l : Look) (t : Bool) (found : startUpOf img ≡ cond t (Pending b l) (Sound b l)) where
+  both : (startUpBroken img ≡ none) × (pending img ≡ t) × (blocks img ≡ b) × (l ≡ lookAt (work img))
+  unfolding startUpOf
+  both = go (startUpBroken img) (pending img) t found
+    where
+      go : (o : Option Rule) (u t : Bool) → startOf o u (blocks img) (lookAt (work img)) ≡ cond t (Pending b l) (Sound b l)
+          → (o ≡ none) × (u ≡ t) × (blocks img ≡ b) × (l ≡ lookAt (work img))
+      go (some rule) u true h = let z : _≡_ {A = ℕ} 0 1 = cc in absurd (omega arith)
+      go (some rule) u false h = let z : _≡_ {A = ℕ} 0 1 = cc in absurd (omega arith)
+      go none true true h = (refl, refl, cc, cc)
+      go none true false h = let z : _≡_ {A = ℕ} 0 1 = cc in absurd (omega arith)
+      go none false true h = let z : _≡_ {A = ℕ} 0 1 = cc in absurd (omega arith)
+      go none false false h = (refl, refl, cc, cc)
+
+  pub accepts : Accepted img b t
+  accepts = let k = both in record { unbroken = k .0; waits = k .1; same = k .2 }
+
+  -- the look at the work block
+  pub looks : l ≡ lookAt (work img)
+  looks = both .3
 
 pub refused-plan : (img : List ℕ) (rule : Rule) → startUpOf img ≡ Refused rule → startUpPlan img ≡ refuse rule
 unfolding startUpOf startUpPlan
 refused-plan img rule h = go (startUpBroken img) (pending img) h
   where
-    go : (o : Option Rule) (u : Bool) → startOf o u (blocks img) ≡ Refused rule → onSome o refuse (make [] (startUpStores img)) ≡ refuse rule
+    go : (o : Option Rule) (u : Bool) → startOf o u (blocks img) (lookAt (work img)) ≡ Refused rule → onSome o refuse (make [] (startUpStores img)) ≡ refuse rule
     go (some r) u h = let same : r ≡ rule = cc in ap refuse same
     go none true h = let z : _≡_ {A = ℕ} 0 1 = cc in absurd (omega arith)
     go none false h = let z : _≡_ {A = ℕ} 0 1 = cc in absurd (omega arith)
@@ -122,7 +129,7 @@ module _ (img : List ℕ) (b : ℕ) (f : Accepted img b true) (bytes : Bytes img
   long : length img ≡ block * (2 * b + 1)
   long = sized img b true f .2
 
-  module _ {l : Look} (looked : l ≡ lookAt (part (block * b) block img)) where
+  module _ {l : Look} (looked : l ≡ lookAt (work img)) where
     abbrev place : ℕ
     place = l .used - 1
 

@@ -2,44 +2,34 @@
 // formed or ends in FC, and compact with no change if the tail is not all FF." The erases leave alone what is looked at later, so all of it is planned from
 // the image found.
 ghost use mathlib.Core.Path.{_≡_};
-ghost use mathlib.Core.Bool.{true};
+ghost use mathlib.Core.Bool.{true, cond};
 ghost use Prim.Native.Nat.{_+_, _*_, _≤_};
 ghost use lib.ListN.{length};
 ghost use Rattle.model.specs.Lists.{allFF, part};
-ghost use Rattle.model.specs.Image.{block, region, work, spare};
+ghost use Rattle.model.specs.Image.{block, region, spare};
 ghost use Rattle.model.specs.Region.{sound, tail, entries, values};
-ghost use Rattle.model.specs.Work.{idle, usedRecords};
 ghost use Rattle.model.specs.Compact.{encode};
 ghost use Rattle.model.specs.StartUp.{startUpPlan};
-ghost use Rattle.records.specs.Look.{lookAt};
+ghost use Rattle.records.specs.Look.{idleAt};
 ghost use Rattle.image.specs.Check.{startUpOf};
 ghost use Rattle.image.specs.declared.Start.the-variants.{Pending, Sound};
 ghost use Rattle.plan.specs.Planned.{Plans};
-ghost use Rattle.orders.specs.Compactions.{spareStep, workStep, tidied};
+ghost use Rattle.orders.specs.Compactions.{spareStep, workStep};
 use plan::Planned;
 use plan::Step;
 use records::Look;
 
-// A look at the work block.
-fn look(image: &[u8], b: usize) -> Look
-    requires { ⌜ b ≤ 7 ⌝ }
-    ensures { λ r. ⌜ r ≡ lookAt (part (block * b) block (now (image .entry))) ⌝ }
-{
-    records::look_at(slices::cut(image, layout::BLOCK * b, layout::BLOCK))
-}
-
 // "if pending, resume at the erase of the region": the record is the last used one. What the spare holds is copied to the content, and stored from there.
-pub fn resume(image: &[u8], b: usize, content: &mut [u8]) -> Planned
-    requires { ⌜ (startUpOf (now image) ≡ Pending b) × (length (now content) ≡ 28672) ⌝ }
+pub fn resume(image: &[u8], b: usize, looked: Look, content: &mut [u8]) -> Planned
+    requires { ⌜ (startUpOf (now image) ≡ Pending b looked) × (length (now content) ≡ 28672) ⌝ }
     ensures { λ r. ⌜ Plans (startUpPlan (now (image .entry))) (now (image .entry)) (now (content .entry)) (now (content .exit)) r ⌝ }
 {
-    let l = look(image, b);
     output::put_bytes(
         content,
         0,
         slices::cut(image, layout::BLOCK * b + layout::BLOCK, layout::BLOCK * b),
     );
-    plan::accept(orders::compaction::resume(b, l.used - 1), 12)
+    plan::accept(orders::compaction::resume(b, looked.used - 1), 12)
 }
 
 // "erase the spare's blocks if it is not all FF": all of them, in rising order.
@@ -60,16 +50,13 @@ struct WorkLeft {
     used: usize,
 }
 
-fn work_left(image: &[u8], b: usize) -> WorkLeft
-    requires { ⌜ (1 ≤ b) × (b ≤ 7) × (length (now image) ≡ block * (2 * b + 1)) ⌝ }
-    ensures { λ r. ⌜ (r .step ≡ workStep b (idle (work (now (image .entry)))))
-        × (r .used ≡ usedRecords (tidied (work (now (image .entry))))) ⌝ }
+fn work_left(b: usize, looked: Look) -> WorkLeft
+    ensures { λ r. ⌜ (r .step ≡ workStep b (idleAt looked)) × (r .used ≡ cond (idleAt looked) (looked .used) 0) ⌝ }
 {
-    let l = look(image, b);
-    if records::is_idle(l) {
+    if records::is_idle(looked) {
         return WorkLeft {
             step: Step::Nothing,
-            used: l.used,
+            used: looked.used,
         };
     }
     WorkLeft {
@@ -102,12 +89,12 @@ fn compose_all(image: &[u8], b: usize, content: &mut [u8])
 }
 
 // "Then erase the spare's blocks .., the work block .., and compact with no change if the tail is not all FF."
-pub fn tidy(image: &[u8], b: usize, content: &mut [u8]) -> Planned
-    requires { ⌜ (startUpOf (now image) ≡ Sound b) × (length (now content) ≡ 28672) ⌝ }
+pub fn tidy(image: &[u8], b: usize, looked: Look, content: &mut [u8]) -> Planned
+    requires { ⌜ (startUpOf (now image) ≡ Sound b looked) × (length (now content) ≡ 28672) ⌝ }
     ensures { λ r. ⌜ Plans (startUpPlan (now (image .entry))) (now (image .entry)) (now (content .entry)) (now (content .exit)) r ⌝ }
 {
     let spare = spare_step(image, b);
-    let left = work_left(image, b);
+    let left = work_left(b, looked);
     let work = left.step;
     if tail_is_blank(image, b) {
         return plan::accept(orders::compaction::rest(spare, work), 12);

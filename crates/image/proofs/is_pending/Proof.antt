@@ -1,6 +1,6 @@
 -- `image::is_pending` meets its contract: the work block is closed and the spare is a clean region. Assumes nothing.
 use native.Mathlib.Omega.{arith}
-use mathlib.Core.Path.{sym, _∙_}
+use mathlib.Core.Path.{refl, sym, _∙_}
 use denote.Ref.{now}
 use Rattle.image.proofs.Cut.{parted, pending-of, not-pending}
 use Rattle.image.proofs.Look.{told-closed, told-clean}
@@ -8,51 +8,33 @@ use borrow.Author.Needs.{needs}
 use Rattle.image.proofs.is_pending.Statement.{statement}
 use Rattle.image.proofs.is_pending.Tie as tie
 
-mul-size : tie.Need-mul-size
-mul-size c = search needs
-
-cut-requires : tie.Need-cut-requires
-cut-requires c κs = search needs
-
-look-at-requires : tie.Need-look-at-requires
-look-at-requires c κs = search needs
-
 ends-in-fc-requires : tie.Need-ends-in-fc-requires
 ends-in-fc-requires c κs = search needs
+
+mul-size : tie.Need-mul-size
+mul-size c = search needs
 
 add-cut : tie.Need-add-cut
 add-cut c = search needs
 
-cut-requires-2 : tie.Need-cut-requires-2
-cut-requires-2 c κs = search needs
+cut-requires : tie.Need-cut-requires
+cut-requires c κs = search needs
 
 judge-requires : tie.Need-judge-requires
 judge-requires c κs = search needs
 
 returns : tie.Need-returns
 returns c =
-    let s = c .before .before .before .before .before .before .before in
+    let s = c .before .before .before .before .before in
     let p = parted (now (s .args .image)) (s .args .b) (s .pre .0) (λ e. omega (arith, s .pre .1)) in
-    let closed = told-closed (c .before .before .before .before .before .cut .ensures ∙ p .its-work) (c .before .before .before .before .look-at .ensures) (c .before .before .before .ends-in-fc .ensures) in
-    sym (pending-of (now (s .args .image)) (s .args .b) p (closed ∙ c .before .before .if1 .taken) ∙ told-clean (c .before .cut2 .ensures ∙ p .its-spare) (c .judge .ensures))
+    let closed = told-closed refl (s .pre .3) (c .before .before .before .ends-in-fc .ensures) in
+    sym (pending-of (now (s .args .image)) (s .args .b) p (closed ∙ c .before .before .if1 .taken) ∙ told-clean (c .before .cut .ensures ∙ p .its-spare) (c .judge .ensures))
 
 returns-2 : tie.Need-returns-2
 returns-2 c =
-    let s = c .before .before .before .before .before in
+    let s = c .before .before .before in
     let p = parted (now (s .args .image)) (s .args .b) (s .pre .0) (λ e. omega (arith, s .pre .1)) in
-    let closed = told-closed (c .before .before .before .cut .ensures ∙ p .its-work) (c .before .before .look-at .ensures) (c .before .ends-in-fc .ensures) in
-    sym (not-pending (now (s .args .image)) (s .args .b) p (closed ∙ c .if1 .left))
+    sym (not-pending (now (s .args .image)) (s .args .b) p (told-closed refl (s .pre .3) (c .before .ends-in-fc .ensures) ∙ c .if1 .left))
 
 pub is-pending-spec : {M : Type 1} → statement M
-is-pending-spec =
-    tie.close
-    (tie.spec
-    mul-size
-    cut-requires
-    look-at-requires
-    ends-in-fc-requires
-    add-cut
-    cut-requires-2
-    judge-requires
-    returns
-    returns-2)
+is-pending-spec = tie.close (tie.spec ends-in-fc-requires mul-size add-cut cut-requires judge-requires returns returns-2)

@@ -6,32 +6,27 @@ use lib.ListN.{getD}
 use denote.Ref.{now}
 use Rattle.plan.proofs.Bits.{bytes-of}
 use Rattle.startup.proofs.Stages.{some-used, last-within}
-use Rattle.startup.proofs.Starting.{accepts, sized, resume-plans}
+use Rattle.startup.proofs.Starting.{accepts, looks, sized, resume-plans}
 use borrow.Author.Needs.{needs}
 use Rattle.startup.proofs.resume.Statement.{statement}
 use Rattle.startup.proofs.resume.Tie as tie
 
-look-requires : tie.Need-look-requires
-look-requires c κs =
-    let s = c .before .before in
-    sized (now (s .args .image)) (s .args .b) true (accepts (now (s .args .image)) (s .args .b) true (s .pre .0)) .1
-
 mul-cut : tie.Need-mul-cut
 mul-cut c =
-    let s = c .before .before .before .before in
-    let h = sized (now (s .args .image)) (s .args .b) true (accepts (now (s .args .image)) (s .args .b) true (s .pre .0)) .1 in
+    let s = c .before .before .before in
+    let h = sized (now (s .args .image)) (s .args .b) true (accepts (now (s .args .image)) (s .args .b) (s .args .looked) true (s .pre .0)) .1 in
     omega arith
 
 add-cut : tie.Need-add-cut
 add-cut c =
-    let s = c .before .before .before .before in
-    let h = sized (now (s .args .image)) (s .args .b) true (accepts (now (s .args .image)) (s .args .b) true (s .pre .0)) .1 in
+    let s = c .before .before .before in
+    let h = sized (now (s .args .image)) (s .args .b) true (accepts (now (s .args .image)) (s .args .b) (s .args .looked) true (s .pre .0)) .1 in
     omega arith
 
 mul-cut-2 : tie.Need-mul-cut-2
 mul-cut-2 c =
-    let s = c .before .before .before .before in
-    let h = sized (now (s .args .image)) (s .args .b) true (accepts (now (s .args .image)) (s .args .b) true (s .pre .0)) .1 in
+    let s = c .before .before .before in
+    let h = sized (now (s .args .image)) (s .args .b) true (accepts (now (s .args .image)) (s .args .b) (s .args .looked) true (s .pre .0)) .1 in
     omega arith
 
 cut-requires : tie.Need-cut-requires
@@ -42,17 +37,19 @@ put-bytes-requires c κs = search needs
 
 sub-resume : tie.Need-sub-resume
 sub-resume c =
-    let s = c .before .before .before .before .before .before .before .before .before in
-    let f = accepts (now (s .args .image)) (s .args .b) true (s .pre .0) in
-    let z = sized (now (s .args .image)) (s .args .b) true f in
-    some-used (now (s .args .image)) (s .args .b) (z .0) (z .1) (z .2) (c .before .before .before .before .before .before .look .ensures) (f .waits)
+    let s = c .before .before .before .before .before .before .before .before in
+    let i = now (s .args .image) in
+    let f = accepts i (s .args .b) (s .args .looked) true (s .pre .0) in
+    let z = sized i (s .args .b) true f in
+    some-used i (s .args .b) (z .0) (z .1) (z .2) (looks i (s .args .b) (s .args .looked) true (s .pre .0)) (f .waits)
 
 resume-requires : tie.Need-resume-requires
 resume-requires c κs =
-    let s = c .before .before .before .before .before .before .before .before .before in
-    let f = accepts (now (s .args .image)) (s .args .b) true (s .pre .0) in
-    let z = sized (now (s .args .image)) (s .args .b) true f in
-    (z .1, last-within (now (s .args .image)) (s .args .b) (z .0) (z .1) (z .2) (c .before .before .before .before .before .before .look .ensures) (f .waits))
+    let s = c .before .before .before .before .before .before .before .before in
+    let i = now (s .args .image) in
+    let f = accepts i (s .args .b) (s .args .looked) true (s .pre .0) in
+    let z = sized i (s .args .b) true f in
+    (z .1, last-within i (s .args .b) (z .0) (z .1) (z .2) (looks i (s .args .b) (s .args .looked) true (s .pre .0)) (f .waits))
 
 accept-requires : tie.Need-accept-requires
 accept-requires c κs = search needs
@@ -62,17 +59,17 @@ same-length c = search needs
 
 returns : tie.Need-returns
 returns c =
-    let s = c .before .before .before .before .before .before .before .before .before .before .before in
+    let s = c .before .before .before .before .before .before .before .before .before .before in
     let i = now (s .args .image) in
-    let f = accepts i (s .args .b) true (s .pre .0) in
-    let k = c .before .before .before .before .before .before .before .before .before .before .shared-slice-known .given in
-    resume-plans i (s .args .b) f (bytes-of i (λ j. let x : getD i j 0 ≤ 0xFF = omega (arith, k j) in x)) (c .before .before .before .before .before .before .before .before .look .ensures) (c .before .before .before .before .before .before .cut .ensures) (c .before .before .before .before .before .put-bytes .ensures) (s .pre .1) (c .before .resume .ensures) (c .accept .ensures)
+    let f = accepts i (s .args .b) (s .args .looked) true (s .pre .0) in
+    let k = c .before .before .before .before .before .before .before .before .before .shared-slice-known .given in
+    resume-plans i (s .args .b) f (bytes-of i (λ j. let x : getD i j 0 ≤ 0xFF = omega (arith, k j) in x)) (looks i (s .args .b) (s .args .looked) true (s .pre .0))
+    (c .before .before .before .before .before .before .cut .ensures) (c .before .before .before .before .before .put-bytes .ensures) (s .pre .1) (c .before .resume .ensures) (c .accept .ensures)
 
 pub resume-spec : {M : Type 1} → statement M
 resume-spec =
     tie.close
     (tie.spec
-    look-requires
     mul-cut
     add-cut
     mul-cut-2
