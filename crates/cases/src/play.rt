@@ -246,7 +246,7 @@ fn step_size(step: &[u8]) -> usize
 fn asked_size(step: &[u8], size: usize) -> usize {
     if fields::byte(step, 0) == b'F' {
         let b = fields::byte(step, 5) as usize;
-        return 4096 * (2 * b + 1);
+        return layout::BLOCK * (2 * b + 1);
     }
     size
 }

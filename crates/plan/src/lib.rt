@@ -5,6 +5,9 @@ ghost use Rattle.plan.specs.Told.{noOperations};
 ghost use Rattle.plan.specs.Numbers.{operationOf, operationAt, operationsOf, inNumbers};
 use model::Rule;
 
+// The bytes of an entry's header, its state among them.
+const HEADER: u64 = 60;
+
 // One operation: none; a byte marked (offset, new value); blocks erased (the first, how many); bytes of the content stored (offset in the image, offset in
 // the content, how many); an entry's header stored around its state (offset in the image, offset in the content), so that a part programmed in pages can take
 // it as one piece.
@@ -134,7 +137,7 @@ fn operation(step: Step) -> HostOp
             kind: 4,
             at: at as u64,
             from: from as u64,
-            len: 60,
+            len: HEADER,
         },
     }
 }

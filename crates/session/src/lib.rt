@@ -12,9 +12,6 @@ use model::Listed;
 use model::Rule;
 use model::Session;
 
-// The most bytes that are kept back.
-const LARGEST_RESERVE: u32 = 4096;
-
 // Whether the phase is boot.
 pub fn in_boot(phase: u32) -> bool
     ensures { λ r. ⌜ r ≡ eqb (countedPhase phase) 0 ⌝ }
@@ -36,8 +33,8 @@ pub fn reserved(phase: u32, reserve: u32) -> u32
     if phase < 2 {
         return 0;
     }
-    if LARGEST_RESERVE < reserve {
-        return LARGEST_RESERVE;
+    if model::LARGEST_RESERVE < reserve {
+        return model::LARGEST_RESERVE;
     }
     reserve
 }
