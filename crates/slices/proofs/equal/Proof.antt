@@ -1,57 +1,65 @@
--- `slices::equal` meets its contract. The loop's invariant: the lists agree just if they agree from `i` on. Assumes nothing.
-use Prim.Native.Nat.{_-_, _≤_}
+-- `slices::equal` meets its contract. The loop's invariant: the lists agree from `i` on. Assumes nothing.
+use Prim.Native.Nat.{ℕ, _-_, _≤_, _<_}
 use native.Mathlib.Omega.{arith}
 use mathlib.Core.Path.{_≡_, sym, _∙_}
-use lib.ListN.{length, drop}
+use lib.ListN.{length, getD}
 use denote.Ref.{now}
+use Rattle.slices.specs.Agree.{Agree, u64At}
+use Rattle.slices.proofs.Agreed.{differ, agree-end, agree-eight}
 use borrow.Author.Needs.{needs}
-use Rattle.model.specs.Lists.{same}
-use Rattle.slices.proofs.Same.{same-lengths, same-next, same-differ, same-end}
 use Rattle.slices.proofs.equal.Statement.{statement}
 use Rattle.slices.proofs.equal.Tie as tie
 
 abbrev Inv-loop : tie.InvT-loop
-Inv-loop a b i₀ i = (i ≤ length a) × (same a b ≡ same (drop i a) (drop i b))
+Inv-loop a b i₀ i = (i ≤ length a) × Agree a b i
 
 abbrev μ-loop : tie.MeasureT-loop
-μ-loop a b i₀ i = length a - i
+μ-loop a b i₀ i = i
 
 returns : tie.Need-returns Inv-loop μ-loop
-returns c = sym (same-lengths _ _ (c .if1 .taken))
+returns c =
+    let a = c .before .before .before .args in
+    sym (differ (now (a .a)) (now (a .b)) length (c .if1 .taken))
 
 loop-holds : tie.Need-loop-holds Inv-loop μ-loop
-loop-holds c = search needs
+loop-holds c =
+    let a = c .before .before .before .args in
+    (omega arith, agree-end (now (a .a)) (now (a .b)) (c .if1 .left))
 
-shared-slice-read-if2 : tie.Need-shared-slice-read-if2 Inv-loop μ-loop
-shared-slice-read-if2 c = omega arith
+standing-eight-requires : tie.Need-standing-eight-requires Inv-loop μ-loop
+standing-eight-requires c κs = search needs
 
-shared-slice-read-if2-2 : tie.Need-shared-slice-read-if2-2 Inv-loop μ-loop
-shared-slice-read-if2-2 c = omega arith
+standing-eight-requires-2 : tie.Need-standing-eight-requires-2 Inv-loop μ-loop
+standing-eight-requires-2 c κs =
+    let l = c .before .before in
+    let long = l .loop .inv .1 .long in
+    omega arith
 
 returns-2 : tie.Need-returns-2 Inv-loop μ-loop
 returns-2 c =
     let l = c .before .before .before .before in
-    let a = l .before .before .args in
-    sym (l .loop .inv .1 ∙ same-differ (now (a .a)) (now (a .b)) (l .loop .i) (omega arith) (omega arith) (c .if2 .taken))
-
-add-i : tie.Need-add-i Inv-loop μ-loop
-add-i c = omega arith
+    let a = l .before .before .before .before .args in
+    let i = l .loop .i - 8 in
+    sym (differ (now (a .a)) (now (a .b)) (λ s. u64At s i) (λ e. c .if2 .taken (c .before .before .standing-eight .ensures ∙ e ∙ sym (c .before .standing-eight2 .ensures))))
 
 loop-less : tie.Need-loop-less Inv-loop μ-loop
-loop-less c = omega arith
+loop-less c = search needs
 
 loop-again : tie.Need-loop-again Inv-loop μ-loop
 loop-again c =
     let l = c .before .before .before .before in
-    let a = l .before .before .args in
-    (omega arith, l .loop .inv .1 ∙ same-next (now (a .a)) (now (a .b)) (l .loop .i) (omega arith) (omega arith) (c .if2 .left))
+    let k = l .before .before in
+    let a = k .before .before .args in
+    let hx : (j : ℕ) → getD (now (a .a)) j 0 < 256 = λ j. omega (arith, k .before .shared-slice-known .given j) in
+    let hy : (j : ℕ) → getD (now (a .b)) j 0 < 256 = λ j. omega (arith, k .shared-slice-known2 .given j) in
+    let e = sym (c .before .before .standing-eight .ensures) ∙ c .if2 .left ∙ c .before .standing-eight2 .ensures in
+    (omega arith, agree-eight (now (a .a)) (now (a .b)) hx hy (l .loop .i - 8) (l .loop .i) (omega arith) (l .loop .inv .1) e)
+
+equal-front-requires : tie.Need-equal-front-requires Inv-loop μ-loop
+equal-front-requires c κs = search needs
 
 returns-3 : tie.Need-returns-3 Inv-loop μ-loop
-returns-3 c =
-    let l = c .before in
-    let a = l .before .before .args in
-    let done : l .loop .i ≡ length (now (l .before .before .args .a)) = omega arith in
-    sym (l .loop .inv .1 ∙ rw done (same-end (now (a .a)) (now (a .b)) (omega arith)))
+returns-3 c = search needs
 
 pub equal-spec : {M : Type 1} → statement M
 equal-spec =
@@ -61,10 +69,10 @@ equal-spec =
     μ-loop
     returns
     loop-holds
-    shared-slice-read-if2
-    shared-slice-read-if2-2
+    standing-eight-requires
+    standing-eight-requires-2
     returns-2
-    add-i
     loop-less
     loop-again
+    equal-front-requires
     returns-3)

@@ -1,0 +1,2 @@
+-- Where two lists agree, and numbers of several bytes.
+pub mod Agree
