@@ -3,3 +3,5 @@
 pub mod Keys
 -- The bytes of a number
 pub mod Bytes
+-- The name of an entry as a part of the bytes
+pub mod Named

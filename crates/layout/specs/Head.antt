@@ -1,7 +1,9 @@
 -- What the reader of an entry finds at the front of a part of the region.
 use Prim.Native.Nat.{ℕ}
+use mathlib.Core.Path.{_≡_}
+use mathlib.Core.Bool.{false}
 use mathlib.Core.List.{List}
-use Rattle.model.specs.Lists.{onSome}
+use Rattle.model.specs.Lists.{onSome, same}
 use Rattle.model.specs.Entry.{Header, headerSize, headerFields, readHeader}
 use Rattle.model.specs.Walk.{placed}
 use Rattle.layout.specs.declared.Entry.{Entry}
@@ -32,3 +34,7 @@ nameIn s e = placed headerSize readHeader 0 (headerOf e s) s .name
 
 unfoldable pub dataIn : List ℕ → Entry → List ℕ
 dataIn s e = placed headerSize readHeader 0 (headerOf e s) s .bytes
+
+-- the entry there has another name, whatever its numbers
+abbrev pub Unlike : List ℕ → List ℕ → Type 0
+Unlike s name = (e : Entry) → same (nameIn s e) name ≡ false

@@ -1,10 +1,12 @@
 // The layout of an entry; the fixed byte strings of the format stand in `fixed`.
 ghost use mathlib.Core.Path.{_≡_};
+ghost use mathlib.Core.Bool.{false};
+ghost use mathlib.Core.List.{_++_};
 ghost use Prim.Native.Nat.{_+_, _<_, _^_};
 ghost use lib.ListN.{getD};
 ghost use Rattle.model.specs.Lists.{u16At, u32At};
 ghost use Rattle.model.specs.Entry.{headerSize, headerFields, rounded};
-ghost use Rattle.layout.specs.Head.{headOf, nameIn, dataIn};
+ghost use Rattle.layout.specs.Head.{headOf, nameIn, dataIn, Unlike};
 
 pub mod fixed;
 
@@ -123,6 +125,16 @@ pub fn vendor_of(s: &[u8]) -> &[u8]
     slices::cut(s, 44, 16)
 }
 
+// Its GUID and its name, which stand one behind the other.
+pub fn key_of(s: &[u8], e: Entry) -> &[u8]
+    ensures { λ r. ⌜ now r ≡ headerFields (now (s .entry)) .vendor ++ nameIn (now (s .entry)) e ⌝ }
+{
+    if e.state == 0xFF {
+        return slices::cut(s, 44, 16);
+    }
+    slices::cut(s, 44, 16 + e.name as usize)
+}
+
 // Its name by its numbers, as much of it as is there; an unfinished entry has none.
 pub fn name_of(s: &[u8], e: Entry) -> &[u8]
     ensures { λ r. ⌜ now r ≡ nameIn (now (s .entry)) e ⌝ }
@@ -141,4 +153,18 @@ pub fn data_of(s: &[u8], e: Entry) -> &[u8]
         return &s[..0];
     }
     slices::cut(s, HEADER + e.name as usize, e.size as usize)
+}
+
+// Whether the entry at the front of `s`, whatever its numbers, may have this name: the words at the end and at the front of the name, which are cheap to see.
+pub fn may_be(s: &[u8], name: &[u8]) -> bool
+    ensures { λ r. ⌜ (r ≡ false → Unlike (now (s .entry)) (now (name .entry))) ⌝ }
+{
+    let n = name.len();
+    if n < 4 {
+        return true;
+    }
+    if slices::four(s, HEADER + (n - 4)) == slices::four(name, n - 4) {
+        return slices::four(s, HEADER) == slices::four(name, 0);
+    }
+    false
 }

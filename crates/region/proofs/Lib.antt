@@ -9,3 +9,5 @@ pub mod Judging
 pub mod Scanning
 -- The judgement of a whole region
 pub mod Whole
+-- Names judged against those before them, and marks
+pub mod Marked

@@ -1,3 +1,4 @@
 -- What a turn of the walk finds, and what is judged of a region.
 pub mod Walk
 pub mod Judge
+pub mod Marks

@@ -1,16 +1,18 @@
 // When a region is sound and clean.
 ghost use mathlib.Core.Path.{_≡_};
+ghost use mathlib.Core.Bool.{_&&_};
 ghost use lib.ListN.{length};
 ghost use Rattle.model.specs.Lists.{any, among};
 ghost use Rattle.model.specs.Name.{keyed};
 ghost use Rattle.model.specs.Entry.{states};
 ghost use Rattle.model.specs.Region.{entries, storedAttributes, rightLive, isEntry, undoubled};
-ghost use Rattle.model.specs.Beside.{from};
 ghost use Rattle.region.specs.Walk.{entryAt};
 ghost use Rattle.region.specs.Judge.{liveState, entrySound, doubledIn, scanOf, judgedOf};
+ghost use Rattle.region.specs.Marks.{isNoted, upTo};
 use crate::Judged;
 use crate::Scan;
 use crate::Turn;
+use crate::marks;
 use crate::walk;
 use layout::Entry;
 
@@ -114,12 +116,12 @@ fn scan(region: &[u8]) -> Scan
     }
 }
 
-// Whether an entry from an offset on has this state, name and GUID.
-fn comes_again(region: &[u8], start: usize, state: u8, name: &[u8], vendor: &[u8]) -> bool
-    ensures { λ r. ⌜ r ≡ any (isEntry state (keyed (now (name .entry)) (now (vendor .entry)))) (from (now (region .entry)) start) ⌝ }
+// Whether an entry before an offset has this state, name and GUID.
+fn came_before(region: &[u8], end: usize, state: u8, name: &[u8], vendor: &[u8]) -> bool
+    ensures { λ r. ⌜ r ≡ any (isEntry state (keyed (now (name .entry)) (now (vendor .entry)))) (upTo end (entries (now (region .entry)))) ⌝ }
 {
-    let mut at = start;
-    loop {
+    let mut at: usize = layout::REGION_HEADER;
+    while at < end {
         let t = walk::turn(region, at);
         let Turn::Entry(e, next) = t else {
             return false;
@@ -129,34 +131,43 @@ fn comes_again(region: &[u8], start: usize, state: u8, name: &[u8], vendor: &[u8
         }
         at = next;
     }
+    false
 }
 
-// Whether a live entry's state, name and GUID come again from an offset on.
-fn is_doubled(region: &[u8], at: usize, e: Entry, next: usize) -> bool
-    ensures { λ r. ⌜ r ≡ doubledIn (entryAt (now (region .entry)) at e) (from (now (region .entry)) next) ⌝ }
+// Whether an entry is live and its state, name and GUID came before. They are looked for only where its sign is noted.
+fn is_doubled(region: &[u8], at: usize, e: Entry, noted: u8, sign: u8) -> bool
+    ensures { λ r. ⌜ r ≡ (isNoted noted sign && doubledIn (entryAt (now (region .entry)) at e) (upTo at (entries (now (region .entry))))) ⌝ }
 {
-    if is_live(e.state) {
-        let name = walk::name_of(region, at, e);
-        let vendor = walk::vendor_of(region, at);
-        comes_again(region, next, e.state, name, vendor)
+    if marks::is_noted(noted, sign) {
+        if is_live(e.state) {
+            let name = walk::name_of(region, at, e);
+            let vendor = walk::vendor_of(region, at);
+            came_before(region, at, e.state, name, vendor)
+        } else {
+            false
+        }
     } else {
         false
     }
 }
 
-// Whether no name with its GUID has two 3F or two 3E entries.
+// Whether no name with its GUID has two 3F or two 3E entries. An entry whose mark is not noted is the first of its name.
 fn undoubled(region: &[u8]) -> bool
     ensures { λ r. ⌜ r ≡ undoubled (entries (now (region .entry))) ⌝ }
 {
+    let mut noted = marks::no_marks();
     let mut at: usize = layout::REGION_HEADER;
     loop {
         let t = walk::turn(region, at);
         let Turn::Entry(e, next) = t else {
             return true;
         };
-        if is_doubled(region, at, e, next) {
+        let m = marks::mark_of(&region[at..], e);
+        let i = m.place;
+        if is_doubled(region, at, e, noted[i], m.sign) {
             return false;
         }
+        noted[i] = marks::note(noted[i], m.sign);
         at = next;
     }
 }

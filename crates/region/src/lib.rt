@@ -2,6 +2,7 @@
 use layout::Entry;
 
 pub mod judge;
+mod marks;
 pub mod walk;
 
 // What a turn of the walk finds at an offset: an entry's numbers and the offset of the next entry, or the end.
@@ -21,4 +22,10 @@ pub struct Judged {
     pub sound: bool,
     pub clean: bool,
     pub tail: usize,
+}
+
+// The mark of a name: its place in a table, and its sign there.
+pub struct Mark {
+    pub place: usize,
+    pub sign: u8,
 }

@@ -74,8 +74,8 @@ pub fn vendor_of(region: &[u8], at: usize) -> &[u8]
     layout::vendor_of(slices::from(region, at))
 }
 
-// Whether an entry has this state, name and GUID. What is cheap to compare comes first, and the name before the GUID: variables of one vendor differ early in
-// their names.
+// Whether an entry has this state, name and GUID. What is cheap to compare comes first, and the name before the GUID: variables of one vendor differ in their
+// names, and most of them in the eight bytes at the end, with which their comparison begins.
 pub fn is_entry(region: &[u8], at: usize, e: Entry, state: u8, name: &[u8], vendor: &[u8]) -> bool
     ensures { λ r. ⌜ r ≡ isEntry state (keyed (now (name .entry)) (now (vendor .entry))) (entryAt (now (region .entry)) at e) ⌝ }
 {

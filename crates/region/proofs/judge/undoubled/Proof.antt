@@ -1,28 +1,30 @@
--- `region::judge::undoubled` meets its contract. The loop's invariant: no name is doubled in the whole walk just if none is from here on. What is left of
--- the region falls.
+-- `region::judge::undoubled` meets its contract. The loop's invariant: of every entry passed the mark is noted, and no name is doubled in the whole walk
+-- just if none from here on is, neither among themselves nor with those passed. What is left of the region falls.
 -- Assumes nothing.
 use Prim.Native.Nat.{_-_}
 use native.Mathlib.Omega.{arith}
-use mathlib.Core.Path.{_≡_, sym, ap, _∙_}
-use lib.ListN.{length}
+use mathlib.Core.Path.{sym, _∙_}
+use lib.ListN.{length, getD}
 use denote.Ref.{now}
+use Rattle.region.proofs.Turns.{turned}
+use Rattle.region.proofs.Marked.{Passed, here-mark, begin, ended, doubled, next}
 use borrow.Author.Needs.{needs}
-use Rattle.model.specs.Region.{entries, undoubled}
-use Rattle.model.proofs.Walking.{entries-from}
-use Rattle.model.specs.Beside.{from}
-use Rattle.region.proofs.Scanning.{undoubled-next, undoubled-stop}
-use Rattle.region.proofs.Turns.{turned, stopped}
 use Rattle.region.proofs.judge.undoubled.Statement.{statement}
 use Rattle.region.proofs.judge.undoubled.Tie as tie
 
 abbrev Inv-loop : tie.InvT-loop
-Inv-loop region at₀ at = undoubled (entries region) ≡ undoubled (from region at)
+Inv-loop region noted₀ at₀ noted at = Passed region noted at
 
 abbrev μ-loop : tie.MeasureT-loop
-μ-loop region at₀ at = length region - at
+μ-loop region noted₀ at₀ noted at = length region - at
+
+no-marks-requires : tie.Need-no-marks-requires Inv-loop μ-loop
+no-marks-requires c κs = search needs
 
 loop-holds : tie.Need-loop-holds Inv-loop μ-loop
-loop-holds c = ap undoubled (entries-from (now (c .before .args .region)))
+loop-holds c =
+    let r = now (c .before .before .args .region) in
+    rw (c .no-marks .ensures) (begin r)
 
 turn-requires : tie.Need-turn-requires Inv-loop μ-loop
 turn-requires c κs = search needs
@@ -34,38 +36,92 @@ enum-told : tie.Need-enum-told Inv-loop μ-loop
 enum-told c = search needs
 
 returns : tie.Need-returns Inv-loop μ-loop
-unfolding undoubled
 returns c =
     let l = c .before .before .before in
-    let r = now (l .before .before .args .region) in
-    sym (l .loop .inv ∙ ap undoubled (stopped r (l .loop .at) (sym (c .before .before .turn .ensures) ∙ c .enum-told .given .1)))
+    let r = now (l .before .before .before .args .region) in
+    sym (ended r (l .loop .noted) (l .loop .at) (l .loop .inv) (sym (c .before .before .turn .ensures) ∙ c .enum-told .given .1))
+
+sub-mark-of : tie.Need-sub-mark-of Inv-loop μ-loop
+sub-mark-of c =
+    let b = c .before in
+    let l = b .before .before .before in
+    let r = now (l .before .before .before .args .region) in
+    let t = b .t .given in
+    let found = sym (b .before .before .turn .ensures) ∙ t .1 in
+    let w = turned r (l .loop .at) (t .0 .0) (t .0 .1 .0) found in
+    omega arith
+
+part-mark-of-start : tie.Need-part-mark-of-start Inv-loop μ-loop
+part-mark-of-start c =
+    let b = c .before in
+    let l = b .before .before .before in
+    let r = now (l .before .before .before .args .region) in
+    let t = b .t .given in
+    let found = sym (b .before .before .turn .ensures) ∙ t .1 in
+    let w = turned r (l .loop .at) (t .0 .0) (t .0 .1 .0) found in
+    omega arith
+
+part-mark-of-end : tie.Need-part-mark-of-end Inv-loop μ-loop
+part-mark-of-end c =
+    let b = c .before in
+    let l = b .before .before .before in
+    let r = now (l .before .before .before .args .region) in
+    let t = b .t .given in
+    let found = sym (b .before .before .turn .ensures) ∙ t .1 in
+    let w = turned r (l .loop .at) (t .0 .0) (t .0 .1 .0) found in
+    omega arith
+
+mark-of-requires : tie.Need-mark-of-requires Inv-loop μ-loop
+mark-of-requires c κs = search needs
+
+array-read-is-doubled : tie.Need-array-read-is-doubled Inv-loop μ-loop
+array-read-is-doubled c = search needs
 
 is-doubled-requires : tie.Need-is-doubled-requires Inv-loop μ-loop
 is-doubled-requires c κs = search needs
 
 returns-2 : tie.Need-returns-2 Inv-loop μ-loop
 returns-2 c =
-    let b = c .before .before .before in
+    let b = c .before .before .before .before .before in
     let l = b .before .before .before in
+    let r = now (l .before .before .before .args .region) in
     let t = b .t .given in
-    let w = turned (now (l .before .before .args .region)) (l .loop .at) (t .0 .0) (t .0 .1 .0) (sym (b .before .before .turn .ensures) ∙ t .1) in
-    sym (l .loop .inv ∙ undoubled-stop (w .walk) (sym (c .before .is-doubled .ensures) ∙ c .if1 .taken))
+    let found = sym (b .before .before .turn .ensures) ∙ t .1 in
+    let m = c .before .before .mark-of .result in
+    let h = sym (c .before .is-doubled .ensures) ∙ c .if1 .taken in
+    sym (doubled r (l .loop .noted) (l .loop .at) (l .loop .inv) (t .0 .0) (t .0 .1 .0) found (getD (l .loop .noted) (m .place) 0) (m .sign) h)
+
+array-read-note : tie.Need-array-read-note Inv-loop μ-loop
+array-read-note c = search needs
+
+note-requires : tie.Need-note-requires Inv-loop μ-loop
+note-requires c κs = search needs
+
+array-write-noted : tie.Need-array-write-noted Inv-loop μ-loop
+array-write-noted c = search needs
 
 loop-less : tie.Need-loop-less Inv-loop μ-loop
 loop-less c =
-    let b = c .before .before .before in
+    let b = c .before .before .before .before .before .before in
     let l = b .before .before .before in
+    let r = now (l .before .before .before .args .region) in
     let t = b .t .given in
-    let w = turned (now (l .before .before .args .region)) (l .loop .at) (t .0 .0) (t .0 .1 .0) (sym (b .before .before .turn .ensures) ∙ t .1) in
+    let found = sym (b .before .before .turn .ensures) ∙ t .1 in
+    let w = turned r (l .loop .at) (t .0 .0) (t .0 .1 .0) found in
     omega arith
 
 loop-again : tie.Need-loop-again Inv-loop μ-loop
 loop-again c =
-    let b = c .before .before .before in
+    let b = c .before .before .before .before .before .before in
     let l = b .before .before .before in
+    let r = now (l .before .before .before .args .region) in
     let t = b .t .given in
-    let w = turned (now (l .before .before .args .region)) (l .loop .at) (t .0 .0) (t .0 .1 .0) (sym (b .before .before .turn .ensures) ∙ t .1) in
-    l .loop .inv ∙ undoubled-next (w .walk) (sym (c .before .is-doubled .ensures) ∙ c .if1 .left)
+    let found = sym (b .before .before .turn .ensures) ∙ t .1 in
+    let m = c .before .before .before .mark-of .result in
+    let e = c .before .before .before .mark-of .ensures in
+    let q = e .0 ∙ here-mark r (l .loop .at) (t .0 .0) in
+    let h = sym (c .before .before .is-doubled .ensures) ∙ c .before .if1 .left in
+    rw (c .note .ensures) (next r (l .loop .noted) (l .loop .at) (l .loop .inv) (t .0 .0) (t .0 .1 .0) found m q (e .1) h)
 
 pub undoubled-spec : {M : Type 1} → statement M
 undoubled-spec =
@@ -73,12 +129,21 @@ undoubled-spec =
     (tie.spec
     Inv-loop
     μ-loop
+    no-marks-requires
     loop-holds
     turn-requires
     enum-known-t
     enum-told
     returns
+    sub-mark-of
+    part-mark-of-start
+    part-mark-of-end
+    mark-of-requires
+    array-read-is-doubled
     is-doubled-requires
     returns-2
+    array-read-note
+    note-requires
+    array-write-noted
     loop-less
     loop-again)

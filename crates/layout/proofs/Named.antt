@@ -1,0 +1,84 @@
+-- The name of an entry is a part of the bytes, which stands behind the GUID. So GUID and name are one part, and a word of the name stands among the bytes.
+-- Assumes nothing.
+use Prim.Native.Nat.{ℕ, zero, suc, _+_, _≤_, _<_}
+use native.Mathlib.Nat.{zero-add, suc-add}
+use native.Mathlib.Omega.{arith}
+use mathlib.Core.Path.{_≡_, refl, sym, ap, ap₂, _∙_}
+use mathlib.Core.Logic.{_≢_}
+use mathlib.Core.Bool.{Bool, true, false}
+use mathlib.Core.List.{List, [], _∷_, _++_, append-nil}
+use lib.ListN.{length, getD, take, drop, length-take, length-drop}
+use lib.Dec.{eqb}
+use lib.Seq.{drop-drop, take-nil, getD-take, getD-drop}
+use borrow.Author.Tests.{eq-eqb, ne-eqb, eqb-true, eqb-false, le-leb}
+use Rattle.model.specs.Lists.{part, same, u32At}
+use Rattle.model.specs.Entry.{headerFields}
+use Rattle.model.specs.Walk.{placed}
+use Rattle.model.proofs.Tests.{same-eq}
+use Rattle.slices.specs.Agree.{fourAt}
+use Rattle.layout.specs.Head.{nameIn, Unlike}
+use Rattle.layout.specs.declared.Entry.{Entry}
+
+module _ (s : List ℕ) (e : Entry) where
+  pub unnamed : e .state ≡ 0xFF → nameIn s e ≡ []
+  unfolding nameIn placed
+  unnamed h = rw (eq-eqb (e .state) 0xFF h)
+
+  pub named : e .state ≢ 0xFF → nameIn s e ≡ part 60 (e .name) s
+  unfolding nameIn placed
+  named h = rw (ne-eqb (e .state) 0xFF h)
+
+-- ---- GUID and name
+
+take-plus : (a b : ℕ) (l : List ℕ) → take (a + b) l ≡ take a l ++ take b (drop a l)
+take-plus zero b l = ap (λ k. take k l) (zero-add b)
+take-plus (suc a) b [] = take-nil (suc a + b) ∙ sym (take-nil b)
+take-plus (suc a) b (x ∷ l) = ap (λ k. take k (x ∷ l)) (suc-add a b) ∙ ap (λ r. x ∷ r) (take-plus a b l)
+
+module _ (s : List ℕ) (e : Entry) where
+  pub unnamed-key : e .state ≡ 0xFF → part 44 16 s ≡ headerFields s .vendor ++ nameIn s e
+  unfolding headerFields
+  unnamed-key h = rw (unnamed s e h) (sym (append-nil (part 44 16 s)))
+
+  pub named-key : e .state ≢ 0xFF → part 44 (16 + e .name) s ≡ headerFields s .vendor ++ nameIn s e
+  unfolding headerFields
+  named-key h =
+      take-plus 16 (e .name) (drop 44 s)
+      ∙ ap (λ r. part 44 16 s ++ r) (ap (take (e .name)) (drop-drop 16 44 s) ∙ sym (named s e h))
+
+-- ---- a word of the name
+
+module _ (s : List ℕ) (a m : ℕ) where
+  part-byte : (i k : ℕ) → i < length (part a m s) → k ≡ a + i → getD (part a m s) i 0 ≡ getD s k 0
+  part-byte i k h e =
+      let l = simp length-take at h in
+      getD-take m (drop a s) i 0 (omega arith) ∙ getD-drop a s i 0 ∙ ap (λ x. getD s x 0) (sym e)
+
+  part-four : (i k : ℕ) → i + 4 ≤ length (part a m s) → k ≡ a + i → fourAt (part a m s) i ≡ fourAt s k
+  unfolding fourAt
+  part-four i k h e =
+      let l = simp (length-take, length-drop) at h in
+      let long : k + 4 ≤ length s = omega arith in
+      rw (
+        le-leb (i + 4) (length (part a m s)) h,
+        le-leb (k + 4) (length s) long,
+        part-byte i k (omega arith) e,
+        part-byte (i + 1) (k + 1) (omega arith) (omega arith),
+        part-byte (i + 2) (k + 2) (omega arith) (omega arith),
+        part-byte (i + 2 + 1) (k + 2 + 1) (omega arith) (omega arith),
+      )
+
+-- where a word of a name does not stand, the entry has another
+pub unlike : (s name : List ℕ) (i k : ℕ) → k ≡ 60 + i → i + 4 ≤ length name → (fourAt s k ≡ fourAt name i → ⊥) → Unlike s name
+unlike s name i k place h d e = go (same (nameIn s e) name) refl (eqb (e .state) 0xFF) refl
+  where
+    go : (t : Bool) → same (nameIn s e) name ≡ t → (u : Bool) → eqb (e .state) 0xFF ≡ u → same (nameIn s e) name ≡ false
+    go false q u f = q
+    go true q true f =
+        let own = sym (unnamed s e (eqb-true (e .state) 0xFF f)) ∙ same-eq (nameIn s e) name q in
+        let long = ap length own in
+        absurd (omega arith)
+    go true q false f =
+        let own = sym (named s e (eqb-false (e .state) 0xFF f)) ∙ same-eq (nameIn s e) name q in
+        let long : i + 4 ≤ length (part 60 (e .name) s) = rw own h in
+        absurd (d (sym (part-four s 60 (e .name) i k long place) ∙ ap (λ l. fourAt l i) own))

@@ -1,0 +1,70 @@
+-- Marks of names, by which a name that came before is found. What is proved with them asks of a mark only that it is a function of state, name and GUID, and that
+-- its sign is not 0.
+use Prim.Native.Nat.{ℕ, _+_, _-_, _/_, _%_, _^_}
+use mathlib.Core.Bool.{Bool, cond, not, _&&_, _||_}
+use mathlib.Core.List.{List, [], _∷_, _++_}
+use lib.ListN.{length, replicate}
+use lib.Dec.{eqb, leb}
+use Rattle.model.specs.Name.{Key, keyed}
+use Rattle.model.specs.Entry.{headerFields}
+use Rattle.model.specs.Walk.{Entry, stateOf, entryKey}
+use Rattle.slices.specs.Agree.{eightAt}
+use Rattle.layout.specs.Head.{nameIn}
+use Rattle.layout.specs.declared.Entry as numbers
+use Rattle.region.specs.Judge.{liveState}
+use Rattle.region.specs.declared.Mark.{Mark}
+
+-- no mark is noted
+unfoldable pub noMarks : List ℕ
+noMarks = replicate 2048 0
+
+-- a sum that goes round at 2^64
+unfoldable pub plus : ℕ → ℕ → ℕ
+plus a b = (a + b) % 2 ^ 64
+
+-- the words of a GUID, and the last of the name behind it
+unfoldable pub outerWords : List ℕ → ℕ
+outerWords key = plus (plus (eightAt key 0) (eightAt key 8)) (eightAt key (length key - 8))
+
+-- other words of the name, if it is long enough to have them
+unfoldable pub innerWords : List ℕ → ℕ
+innerWords key =
+    cond (leb 24 (length key))
+    (plus (plus (eightAt key 16) (eightAt key (length key / 2))) (plus (eightAt key (length key - 22)) (eightAt key (length key - 15))))
+    0
+
+unfoldable pub weighed : List ℕ → ℕ
+weighed key = plus (outerWords key) (innerWords key)
+
+-- the mark of a GUID with the name behind it
+unfoldable pub keyMark : List ℕ → Mark
+keyMark key = record { place = weighed key % 1987; sign = weighed key / 1987 % 128 + 1 }
+
+-- the mark of what is not live
+unfoldable pub deadMark : Mark
+deadMark = record { place = 2047; sign = 1 }
+
+-- the mark of a state, name and GUID
+unfoldable pub markOf : ℕ → Key → Mark
+markOf state k = cond (liveState state) (keyMark (k .vendor ++ k .name)) deadMark
+
+-- the mark of an entry
+unfoldable pub markAt : Entry → Mark
+markAt e = markOf (stateOf e) (entryKey e)
+
+-- the mark of the entry of these numbers at the front of a part of the region
+unfoldable pub markIn : List ℕ → numbers.Entry → Mark
+markIn s e = markOf (e .state) (keyed (nameIn s e) (headerFields s .vendor))
+
+-- by what is noted at its place, a name of a sign may have been met
+unfoldable pub isNoted : ℕ → ℕ → Bool
+isNoted noted sign = not (eqb noted 0) && (eqb noted sign || eqb noted 255)
+
+-- what is noted once it is met: its sign, or 255 if there was another
+unfoldable pub note : ℕ → ℕ → ℕ
+note noted sign = cond (eqb noted 0) sign (cond (eqb noted sign) sign 255)
+
+-- the entries of a list that begin before an offset, up to the first that does not
+unfoldable pub upTo : ℕ → List Entry → List Entry
+upTo end [] = []
+upTo end (e ∷ es) = cond (leb end (e .at)) [] (e ∷ upTo end es)
