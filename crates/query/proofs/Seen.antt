@@ -1,24 +1,26 @@
 -- The entries that are seen from an offset on: at an entry they are that entry, if it is seen, and those from the next offset on. So the entry to get,
 -- and the one to name, is found there or among the rest.
 -- Assumes nothing.
-use Prim.Native.Nat.{ℕ}
+use Prim.Native.Nat.{ℕ, _-_}
 use mathlib.Core.Path.{_≡_, refl, sym, ap, _∙_}
 use mathlib.Core.Bool.{Bool, true, false, _&&_, and-true, and-false}
 use mathlib.Core.List.{List, [], _∷_}
 use mathlib.Core.Option.{none, some}
+use lib.ListN.{length, take, drop}
 use lib.Dec.{eqb}
 use borrow.Author.Tests.{eq-eqb, eqb-false}
 use Rattle.model.specs.Lists.{same, keep, first, head}
-use Rattle.model.specs.Name.{Key, sameKey, emptyName}
+use Rattle.model.specs.Name.{Key, keyed, sameKey, emptyName}
 use Rattle.model.specs.Walk as walk
 use Rattle.model.specs.Region.{entries, isEntry, isValue}
 use Rattle.model.specs.Beside.{from}
 use Rattle.model.proofs.Tests.{and-split, or-split}
 use Rattle.model.proofs.Walking.{entries-from}
+use Rattle.layout.specs.Head.{nameIn, Unlike}
 use Rattle.layout.specs.declared.Entry as numbers
 use Rattle.region.specs.Walk.{entryAt}
 use Rattle.region.specs.Judge.{liveState}
-use Rattle.region.proofs.Turns.{Turned}
+use Rattle.region.proofs.Turns.{rest, Turned}
 use Rattle.values.proofs.Listed.{value-other}
 use Rattle.query.specs.Query.{visible, isSeen, isSought, entryToGet, entryFollowing, goingOn, entryToName}
 
@@ -54,6 +56,15 @@ module _ (runtime : Bool) (r : List ℕ) (at : ℕ) (e : numbers.Entry) where
       → isSought runtime k (entries r) (entryAt r at e) ≡ false
   unfolding isSought
   sought-other k h = rw (sym (own-state k) ∙ h)
+
+  other-name : (name : List ℕ) → Unlike (take (length r - at) (drop at r)) name → same (entryAt r at e .name) name ≡ false
+  unfolding entryAt nameIn walk.placed
+  other-name name u = ap (λ s. same (nameIn s e) name) (sym (rest r at)) ∙ u e
+
+  pub sought-unlike : (name vendor : List ℕ) → Unlike (take (length r - at) (drop at r)) name
+      → isSought runtime (keyed name vendor) (entries r) (entryAt r at e) ≡ false
+  unfolding isSought
+  sought-unlike name vendor u = rw (other-name name u)
 
   pub sought-named : (k : Key) → isEntry (e .state) k (entryAt r at e) ≡ true
       → isSought runtime k (entries r) (entryAt r at e) ≡ isSeen runtime (entries r) (entryAt r at e)

@@ -45,7 +45,7 @@ fn is_sought(region: &[u8], at: usize, e: Entry, runtime: bool, name: &[u8], ven
     false
 }
 
-// The value to get: the one of this name and GUID, if it is seen.
+// The value to get: the one of this name and GUID, if it is seen. Nearly every other name is told by two words of it.
 pub fn to_get(region: &[u8], runtime: bool, name: &[u8], vendor: &[u8; 16]) -> Found
     ensures { λ r. ⌜ entryIn (now (region .entry)) r ≡ entryToGet runtime (keyed (now (name .entry)) (now (vendor .entry))) (entries (now (region .entry))) ⌝ }
 {
@@ -55,8 +55,10 @@ pub fn to_get(region: &[u8], runtime: bool, name: &[u8], vendor: &[u8; 16]) -> F
         let Turn::Entry(e, next) = t else {
             return Found::Nothing;
         };
-        if is_sought(region, at, e, runtime, name, vendor) {
-            return Found::At(at, e);
+        if layout::may_be(&region[at..], name) {
+            if is_sought(region, at, e, runtime, name, vendor) {
+                return Found::At(at, e);
+            }
         }
         at = next;
     }
@@ -85,7 +87,9 @@ pub fn to_name(region: &[u8], runtime: bool, name: &[u8], vendor: &[u8; 16]) -> 
                 return Found::At(here, e);
             }
         } else {
-            passed = is_sought(region, here, e, runtime, name, vendor);
+            if layout::may_be(&region[here..], name) {
+                passed = is_sought(region, here, e, runtime, name, vendor);
+            }
         }
         here = next;
     }

@@ -12,7 +12,7 @@ use Rattle.model.specs.Walk.{entryKey}
 use Rattle.model.specs.Region.{entries}
 use Rattle.region.proofs.Turns.{turned, stopped}
 use Rattle.query.specs.Query.{entryToGet}
-use Rattle.query.proofs.Seen.{seenFrom, get-from, seen-none, get-here, get-next}
+use Rattle.query.proofs.Seen.{seenFrom, get-from, seen-none, sought-unlike, get-here, get-next}
 use borrow.Author.Needs.{needs}
 use Rattle.query.proofs.to_get.Statement.{statement}
 use Rattle.query.proofs.to_get.Tie as tie
@@ -46,36 +46,100 @@ returns c =
     let k = keyed (now (a .name)) (now (a .vendor)) in
     sym (l .loop .inv ∙ ap (first (λ e. sameKey (entryKey e) k)) (seen-none (a .runtime) r (l .loop .at) (stopped r (l .loop .at) (sym (c .before .before .turn .ensures) ∙ c .enum-told .given .1))))
 
+sub-may-be : tie.Need-sub-may-be Inv-loop μ-loop
+sub-may-be c =
+    let b = c .before in
+    let l = b .before .before .before in
+    let a = l .before .before .before .args in
+    let r = now (a .region) in
+    let k = keyed (now (a .name)) (now (a .vendor)) in
+    let t = b .t .given in
+    let w = turned r (l .loop .at) (t .0 .0) (t .0 .1 .0) (sym (b .before .before .turn .ensures) ∙ t .1) in
+    omega arith
+
+part-may-be-start : tie.Need-part-may-be-start Inv-loop μ-loop
+part-may-be-start c =
+    let b = c .before in
+    let l = b .before .before .before in
+    let a = l .before .before .before .args in
+    let r = now (a .region) in
+    let k = keyed (now (a .name)) (now (a .vendor)) in
+    let t = b .t .given in
+    let w = turned r (l .loop .at) (t .0 .0) (t .0 .1 .0) (sym (b .before .before .turn .ensures) ∙ t .1) in
+    omega arith
+
+part-may-be-end : tie.Need-part-may-be-end Inv-loop μ-loop
+part-may-be-end c =
+    let b = c .before in
+    let l = b .before .before .before in
+    let a = l .before .before .before .args in
+    let r = now (a .region) in
+    let k = keyed (now (a .name)) (now (a .vendor)) in
+    let t = b .t .given in
+    let w = turned r (l .loop .at) (t .0 .0) (t .0 .1 .0) (sym (b .before .before .turn .ensures) ∙ t .1) in
+    omega arith
+
+may-be-requires : tie.Need-may-be-requires Inv-loop μ-loop
+may-be-requires c κs = search needs
+
 is-sought-requires : tie.Need-is-sought-requires Inv-loop μ-loop
 is-sought-requires c κs = search needs
 
 returns-2 : tie.Need-returns-2 Inv-loop μ-loop
 returns-2 c =
-    let l = c .before .before .before .before .before .before .before in
+    let b = c .before .before .before .before .before .before .before in
+    let l = b .before .before .before in
     let a = l .before .before .before .args in
     let r = now (a .region) in
     let k = keyed (now (a .name)) (now (a .vendor)) in
-    let t = c .before .before .before .before .t .given in
-    let w = turned r (l .loop .at) (t .0 .0) (t .0 .1 .0) (sym (c .before .before .before .before .before .before .turn .ensures) ∙ t .1) in
-    sym (l .loop .inv ∙ get-here (a .runtime) r (l .loop .at) (t .0 .0) (t .0 .1 .0) w k (sym (c .before .is-sought .ensures) ∙ c .if1 .taken))
+    let t = b .t .given in
+    let w = turned r (l .loop .at) (t .0 .0) (t .0 .1 .0) (sym (b .before .before .turn .ensures) ∙ t .1) in
+    sym (l .loop .inv ∙ get-here (a .runtime) r (l .loop .at) (t .0 .0) (t .0 .1 .0) w k (sym (c .before .is-sought .ensures) ∙ c .if2 .taken))
 
 loop-less : tie.Need-loop-less Inv-loop μ-loop
 loop-less c =
-    let l = c .before .before .before .before .before .before .before in
-    let r = now (l .before .before .before .args .region) in
-    let t = c .before .before .before .before .t .given in
-    let w = turned r (l .loop .at) (t .0 .0) (t .0 .1 .0) (sym (c .before .before .before .before .before .before .turn .ensures) ∙ t .1) in
+    let b = c .before .before .before .before .before .before .before in
+    let l = b .before .before .before in
+    let a = l .before .before .before .args in
+    let r = now (a .region) in
+    let k = keyed (now (a .name)) (now (a .vendor)) in
+    let t = b .t .given in
+    let w = turned r (l .loop .at) (t .0 .0) (t .0 .1 .0) (sym (b .before .before .turn .ensures) ∙ t .1) in
     omega arith
 
 loop-again : tie.Need-loop-again Inv-loop μ-loop
 loop-again c =
-    let l = c .before .before .before .before .before .before .before in
+    let b = c .before .before .before .before .before .before .before in
+    let l = b .before .before .before in
     let a = l .before .before .before .args in
     let r = now (a .region) in
     let k = keyed (now (a .name)) (now (a .vendor)) in
-    let t = c .before .before .before .before .t .given in
-    let w = turned r (l .loop .at) (t .0 .0) (t .0 .1 .0) (sym (c .before .before .before .before .before .before .turn .ensures) ∙ t .1) in
-    l .loop .inv ∙ get-next (a .runtime) r (l .loop .at) (t .0 .0) (t .0 .1 .0) w k (sym (c .before .is-sought .ensures) ∙ c .if1 .left)
+    let t = b .t .given in
+    let w = turned r (l .loop .at) (t .0 .0) (t .0 .1 .0) (sym (b .before .before .turn .ensures) ∙ t .1) in
+    l .loop .inv ∙ get-next (a .runtime) r (l .loop .at) (t .0 .0) (t .0 .1 .0) w k (sym (c .before .is-sought .ensures) ∙ c .if2 .left)
+
+loop-less-2 : tie.Need-loop-less-2 Inv-loop μ-loop
+loop-less-2 c =
+    let b = c .before .before .before .before in
+    let l = b .before .before .before in
+    let a = l .before .before .before .args in
+    let r = now (a .region) in
+    let k = keyed (now (a .name)) (now (a .vendor)) in
+    let t = b .t .given in
+    let w = turned r (l .loop .at) (t .0 .0) (t .0 .1 .0) (sym (b .before .before .turn .ensures) ∙ t .1) in
+    omega arith
+
+loop-again-2 : tie.Need-loop-again-2 Inv-loop μ-loop
+loop-again-2 c =
+    let b = c .before .before .before .before in
+    let l = b .before .before .before in
+    let a = l .before .before .before .args in
+    let r = now (a .region) in
+    let k = keyed (now (a .name)) (now (a .vendor)) in
+    let t = b .t .given in
+    let w = turned r (l .loop .at) (t .0 .0) (t .0 .1 .0) (sym (b .before .before .turn .ensures) ∙ t .1) in
+    let other = sought-unlike (a .runtime) r (l .loop .at) (t .0 .0) (now (a .name)) (now (a .vendor)) (c .before .may-be .ensures (c .if1 .left)) in
+    l .loop .inv ∙ get-next (a .runtime) r (l .loop .at) (t .0 .0) (t .0 .1 .0) w k other
 
 pub to-get-spec : {M : Type 1} → statement M
 to-get-spec =
@@ -88,7 +152,13 @@ to-get-spec =
     enum-known-t
     enum-told
     returns
+    sub-may-be
+    part-may-be-start
+    part-may-be-end
+    may-be-requires
     is-sought-requires
     returns-2
     loop-less
-    loop-again)
+    loop-again
+    loop-less-2
+    loop-again-2)

@@ -11,7 +11,7 @@ use Rattle.model.specs.Name.{keyed}
 use Rattle.model.specs.Region.{entries}
 use Rattle.region.proofs.Turns.{turned, stopped}
 use Rattle.query.specs.Query.{goingOn, entryToName}
-use Rattle.query.proofs.Seen.{seenFrom, name-from, seen-none, going-none, name-here, name-next, name-before}
+use Rattle.query.proofs.Seen.{seenFrom, name-from, seen-none, going-none, sought-unlike, name-here, name-next, name-before}
 use borrow.Author.Needs.{needs}
 use Rattle.query.proofs.to_name.Statement.{statement}
 use Rattle.query.proofs.to_name.Tie as tie
@@ -63,6 +63,42 @@ returns-2 c =
     let here = name-here (a .runtime) r (l .loop .here) (t .0 .0) (t .0 .1 .0) w k (sym (c .before .is-seen .ensures) ∙ c .if2 .taken) in
     sym (l .loop .inv ∙ ap (λ (p : Bool). goingOn p k (seenFrom (a .runtime) r (l .loop .here))) (c .before .before .if1 .taken) ∙ here)
 
+sub-may-be : tie.Need-sub-may-be Inv-loop μ-loop
+sub-may-be c =
+    let b = c .before .before in
+    let l = b .before .before .before in
+    let a = l .before .before .before .before .args in
+    let r = now (a .region) in
+    let k = keyed (now (a .name)) (now (a .vendor)) in
+    let t = b .t .given in
+    let w = turned r (l .loop .here) (t .0 .0) (t .0 .1 .0) (sym (b .before .before .turn .ensures) ∙ t .1) in
+    omega arith
+
+part-may-be-start : tie.Need-part-may-be-start Inv-loop μ-loop
+part-may-be-start c =
+    let b = c .before .before in
+    let l = b .before .before .before in
+    let a = l .before .before .before .before .args in
+    let r = now (a .region) in
+    let k = keyed (now (a .name)) (now (a .vendor)) in
+    let t = b .t .given in
+    let w = turned r (l .loop .here) (t .0 .0) (t .0 .1 .0) (sym (b .before .before .turn .ensures) ∙ t .1) in
+    omega arith
+
+part-may-be-end : tie.Need-part-may-be-end Inv-loop μ-loop
+part-may-be-end c =
+    let b = c .before .before in
+    let l = b .before .before .before in
+    let a = l .before .before .before .before .args in
+    let r = now (a .region) in
+    let k = keyed (now (a .name)) (now (a .vendor)) in
+    let t = b .t .given in
+    let w = turned r (l .loop .here) (t .0 .0) (t .0 .1 .0) (sym (b .before .before .turn .ensures) ∙ t .1) in
+    omega arith
+
+may-be-requires : tie.Need-may-be-requires Inv-loop μ-loop
+may-be-requires c κs = search needs
+
 is-sought-requires : tie.Need-is-sought-requires Inv-loop μ-loop
 is-sought-requires c κs = search needs
 
@@ -92,26 +128,54 @@ loop-again c =
 
 loop-less-2 : tie.Need-loop-less-2 Inv-loop μ-loop
 loop-less-2 c =
-    let l = c .before .before .before .before .before .before .before in
+    let b = c .before .before .before .before .before .before .before in
+    let l = b .before .before .before in
     let a = l .before .before .before .before .args in
     let r = now (a .region) in
     let k = keyed (now (a .name)) (now (a .vendor)) in
-    let t = c .before .before .before .before .t .given in
-    let w = turned r (l .loop .here) (t .0 .0) (t .0 .1 .0) (sym (c .before .before .before .before .before .before .turn .ensures) ∙ t .1) in
+    let t = b .t .given in
+    let w = turned r (l .loop .here) (t .0 .0) (t .0 .1 .0) (sym (b .before .before .turn .ensures) ∙ t .1) in
     omega arith
 
 loop-again-2 : tie.Need-loop-again-2 Inv-loop μ-loop
 loop-again-2 c =
-    let l = c .before .before .before .before .before .before .before in
+    let b = c .before .before .before .before .before .before .before in
+    let l = b .before .before .before in
     let a = l .before .before .before .before .args in
     let r = now (a .region) in
     let k = keyed (now (a .name)) (now (a .vendor)) in
-    let t = c .before .before .before .before .t .given in
-    let w = turned r (l .loop .here) (t .0 .0) (t .0 .1 .0) (sym (c .before .before .before .before .before .before .turn .ensures) ∙ t .1) in
+    let t = b .t .given in
+    let w = turned r (l .loop .here) (t .0 .0) (t .0 .1 .0) (sym (b .before .before .turn .ensures) ∙ t .1) in
     l .loop .inv
-    ∙ ap (λ (p : Bool). goingOn p k (seenFrom (a .runtime) r (l .loop .here))) (c .before .before .if1 .left)
+    ∙ ap (λ (p : Bool). goingOn p k (seenFrom (a .runtime) r (l .loop .here))) (c .before .before .before .before .before .if1 .left)
     ∙ name-before (a .runtime) r (l .loop .here) (t .0 .0) (t .0 .1 .0) w k
     ∙ ap (λ (p : Bool). goingOn p k (seenFrom (a .runtime) r (t .0 .1 .0))) (sym (c .is-sought .ensures))
+
+loop-less-3 : tie.Need-loop-less-3 Inv-loop μ-loop
+loop-less-3 c =
+    let b = c .before .before .before .before .before in
+    let l = b .before .before .before in
+    let a = l .before .before .before .before .args in
+    let r = now (a .region) in
+    let k = keyed (now (a .name)) (now (a .vendor)) in
+    let t = b .t .given in
+    let w = turned r (l .loop .here) (t .0 .0) (t .0 .1 .0) (sym (b .before .before .turn .ensures) ∙ t .1) in
+    omega arith
+
+loop-again-3 : tie.Need-loop-again-3 Inv-loop μ-loop
+loop-again-3 c =
+    let b = c .before .before .before .before .before in
+    let l = b .before .before .before in
+    let a = l .before .before .before .before .args in
+    let r = now (a .region) in
+    let k = keyed (now (a .name)) (now (a .vendor)) in
+    let t = b .t .given in
+    let w = turned r (l .loop .here) (t .0 .0) (t .0 .1 .0) (sym (b .before .before .turn .ensures) ∙ t .1) in
+    let other = sought-unlike (a .runtime) r (l .loop .here) (t .0 .0) (now (a .name)) (now (a .vendor)) (c .before .may-be .ensures (c .if3 .left)) in
+    l .loop .inv
+    ∙ ap (λ (p : Bool). goingOn p k (seenFrom (a .runtime) r (l .loop .here))) (c .before .before .before .if1 .left)
+    ∙ name-before (a .runtime) r (l .loop .here) (t .0 .0) (t .0 .1 .0) w k
+    ∙ ap (λ (p : Bool). goingOn p k (seenFrom (a .runtime) r (t .0 .1 .0))) (other ∙ sym (c .before .before .before .if1 .left))
 
 pub to-name-spec : {M : Type 1} → statement M
 to-name-spec =
@@ -127,8 +191,14 @@ to-name-spec =
     returns
     is-seen-requires
     returns-2
+    sub-may-be
+    part-may-be-start
+    part-may-be-end
+    may-be-requires
     is-sought-requires
     loop-less
     loop-again
     loop-less-2
-    loop-again-2)
+    loop-again-2
+    loop-less-3
+    loop-again-3)
