@@ -1,21 +1,25 @@
 -- What the tests of one entry decide of it. Each test that fails makes its conjunction false, whatever the others say, and where all but one hold the
 -- conjunction is that one.
 -- Assumes nothing.
-use Prim.Native.Nat.{ℕ, _+_, _≤_, _<_}
-use mathlib.Core.Path.{_≡_}
+use Prim.Native.Nat.{ℕ, _+_, _-_, _≤_, _<_}
+use native.Mathlib.Omega.{arith}
+use mathlib.Core.Path.{_≡_, refl, sym, ap, ap₂, _∙_}
 use mathlib.Core.Logic.{_≢_}
-use mathlib.Core.Bool.{Bool, true, false, _&&_, and-true, and-false}
+use mathlib.Core.Bool.{Bool, true, false, cond, _&&_, _||_, and-true, and-false}
 use mathlib.Core.List.{List}
-use lib.Dec.{leb}
-use borrow.Author.Tests.{ne-eqb, le-leb, lt-leb}
+use lib.ListN.{length, take, drop, length-drop}
+use lib.Dec.{eqb, leb}
+use borrow.Author.Tests.{ne-eqb, le-leb, lt-leb, leb-true, leb-false}
 use Rattle.model.specs.Lists.{among}
 use Rattle.model.specs.Name.{wellNamed}
 use Rattle.model.specs.Entry.{states}
 use Rattle.model.specs.Walk as walk
 use Rattle.model.specs.Region.{storedAttributes, rightLive}
+use Rattle.layout.specs.Head.{nameIn}
 use Rattle.layout.specs.declared.Entry as numbers
 use Rattle.region.specs.Walk.{entryAt}
 use Rattle.region.specs.Judge.{liveState, entrySound}
+use Rattle.region.proofs.Turns.{rest}
 
 module _ (r : List ℕ) (at : ℕ) (e : numbers.Entry) where
   -- ---- right if it is live
@@ -60,3 +64,41 @@ module _ (r : List ℕ) (at : ℕ) (e : numbers.Entry) where
         → entrySound size (entryAt r at e) ≡ rightLive (entryAt r at e)
     unfolding entrySound entryAt walk.placed
     sound-within k h l = rw (k, ne-eqb (e .state) 0xFF h, le-leb (at + (60 + e .name + e .size)) size l)
+
+-- ---- an entry at the front of the part that `&r[at..]` lends
+
+pub front-name : (s : List ℕ) (e : numbers.Entry) → nameIn s e ≡ entryAt s 0 e .name
+unfolding nameIn entryAt walk.placed
+front-name s e = refl
+
+shifted : (at k n : ℕ) → at ≤ n → leb (0 + k) (n - at) ≡ leb (at + k) n
+shifted at k n h = go (leb (at + k) n) refl
+  where
+    go : (t : Bool) → leb (at + k) n ≡ t → leb (0 + k) (n - at) ≡ leb (at + k) n
+    go true q = let l = leb-true (at + k) n q in le-leb (0 + k) (n - at) (omega arith) ∙ sym q
+    go false q = let l = leb-false (at + k) n q in lt-leb (0 + k) (n - at) (omega arith) ∙ sym q
+
+-- the bytes of an entry that are stored
+abbrev filled : numbers.Entry → ℕ
+filled e = cond (eqb (e .state) 0xFF) 60 (60 + e .name + e .size)
+
+sound-parts : (r : List ℕ) (at : ℕ) (e : numbers.Entry) (size : ℕ)
+    → entrySound size (entryAt r at e)
+    ≡ (among states (e .state) && (eqb (e .state) 0xFF || leb (at + filled e) size) && rightLive (entryAt r at e))
+unfolding entrySound entryAt walk.placed
+sound-parts r at e size = refl
+
+front-right : (r : List ℕ) (at : ℕ) (e : numbers.Entry) → rightLive (entryAt (drop at r) 0 e) ≡ rightLive (entryAt r at e)
+unfolding rightLive entryAt walk.placed
+front-right r at e = refl
+
+-- it is sound by itself just if it is so in the region
+pub front-sound : (r : List ℕ) (at : ℕ) (e : numbers.Entry) → at ≤ length r
+    → entrySound (length (take (length r - at) (drop at r))) (entryAt (take (length r - at) (drop at r)) 0 e) ≡ entrySound (length r) (entryAt r at e)
+front-sound r at e h =
+    ap (λ s. entrySound (length s) (entryAt s 0 e)) (rest r at)
+    ∙ sound-parts (drop at r) 0 e (length (drop at r))
+    ∙ ap₂ (λ (b c : Bool). among states (e .state) && (eqb (e .state) 0xFF || b) && c)
+    (ap (leb (0 + filled e)) (length-drop at r) ∙ shifted at (filled e) (length r) h)
+    (front-right r at e)
+    ∙ sym (sound-parts r at e (length r))

@@ -10,7 +10,7 @@ use Rattle.model.specs.Lists.{all, any}
 use Rattle.model.specs.Name.{keyed}
 use Rattle.model.specs.Image.{regionHeaderSize}
 use Rattle.model.specs.Walk as walk
-use Rattle.model.specs.Region.{tailAt, knownState, within, rightLive, isEntry, undoubled}
+use Rattle.model.specs.Region.{tailAt, knownState, within, rightLive, isEntry}
 use Rattle.model.proofs.Walking.{entries-from}
 use Rattle.model.specs.Beside.{from}
 use Rattle.layout.specs.declared.Entry as numbers
@@ -70,15 +70,7 @@ module _ {l es : List walk.Entry} {x : walk.Entry} (first : l ≡ x ∷ es) wher
   pub any-here : (f : walk.Entry → Bool) → f x ≡ true → any f l ≡ true
   any-here f h = ap (any f) first ∙ rw h
 
-  -- ---- doubled names
-
-  pub undoubled-next : doubledIn x es ≡ false → undoubled l ≡ undoubled es
-  unfolding undoubled doubledIn
-  undoubled-next h = ap undoubled first ∙ rw h
-
-  pub undoubled-stop : doubledIn x es ≡ true → undoubled l ≡ false
-  unfolding undoubled doubledIn
-  undoubled-stop h = ap undoubled first ∙ rw h
+-- ---- doubled names
 
 module _ (r : List ℕ) (at : ℕ) (e : numbers.Entry) (es : List walk.Entry) where
   pub doubled-live : liveState (e .state) ≡ true

@@ -51,9 +51,9 @@ pub fn is_live(state: u8) -> bool
     if state == 0x3F { true } else { state == 0x3E }
 }
 
-// Whether an entry, if it is live, has a well-formed name, data of a right size, and attributes that are stored.
-fn right_live(region: &[u8], at: usize, e: Entry) -> bool
-    ensures { λ r. ⌜ r ≡ rightLive (entryAt (now (region .entry)) at e) ⌝ }
+// Whether the entry at the front of `s`, if it is live, has a well-formed name, data of a right size, and attributes that are stored.
+fn right_live(s: &[u8], e: Entry) -> bool
+    ensures { λ r. ⌜ r ≡ rightLive (entryAt (now (s .entry)) 0 e) ⌝ }
 {
     if is_live(e.state) {
         if e.size < 1 {
@@ -63,7 +63,7 @@ fn right_live(region: &[u8], at: usize, e: Entry) -> bool
             return false;
         }
         if stored_attributes(e.attributes) {
-            slices::is_named(walk::name_of(region, at, e))
+            slices::is_named(layout::name_of(s, e))
         } else {
             false
         }
@@ -72,21 +72,18 @@ fn right_live(region: &[u8], at: usize, e: Entry) -> bool
     }
 }
 
-// Whether an entry is sound by itself: a known state, an end within the region, and right if it is live.
-fn entry_sound(region: &[u8], at: usize, e: Entry) -> bool
-    ensures { λ r. ⌜ r ≡ entrySound (length (now (region .entry))) (entryAt (now (region .entry)) at e) ⌝ }
+// Whether the entry at the front of `s` is sound by itself: a known state, an end within the region, and right if it is live.
+fn entry_sound(s: &[u8], e: Entry) -> bool
+    ensures { λ r. ⌜ r ≡ entrySound (length (now (s .entry))) (entryAt (now (s .entry)) 0 e) ⌝ }
 {
     if e.state == 0xFF {
         return true;
     }
     if known_state(e.state) {
-        if region.len() < at {
+        if s.len() < layout::HEADER + e.name as usize + e.size as usize {
             return false;
         }
-        if region.len() - at < layout::HEADER + e.name as usize + e.size as usize {
-            return false;
-        }
-        right_live(region, at, e)
+        right_live(s, e)
     } else {
         false
     }
@@ -105,7 +102,7 @@ fn scan(region: &[u8]) -> Scan
                 tail: at,
             };
         };
-        if entry_sound(region, at, e) {
+        if entry_sound(&region[at..], e) {
             at = next;
         } else {
             return Scan {

@@ -12,54 +12,45 @@ use Rattle.region.proofs.judge.entry_sound.Tie as tie
 returns : tie.Need-returns
 returns c =
     let a = c .before .before .before .args in
-    let r = now (a .region) in
-    sym (sound-unfinished r (a .at) (a .e) (length r) (c .if1 .taken))
+    let s = now (a .s) in
+    sym (sound-unfinished s 0 (a .e) (length s) (c .if1 .taken))
 
 known-state-requires : tie.Need-known-state-requires
 known-state-requires c κs = search needs
 
+cast-if3 : tie.Need-cast-if3
+cast-if3 c = search needs
+
+add-if3 : tie.Need-add-if3
+add-if3 c = search needs
+
+cast-if3-2 : tie.Need-cast-if3-2
+cast-if3-2 c = search needs
+
+add-if3-2 : tie.Need-add-if3-2
+add-if3-2 c = search needs
+
 returns-2 : tie.Need-returns-2
 returns-2 c =
-    let a = c .before .before .before .before .before .before .args in
-    let r = now (a .region) in
-    sym (sound-over r (a .at) (a .e) (length r) (c .before .before .before .if1 .left) (omega arith))
-
-sub-if4 : tie.Need-sub-if4
-sub-if4 c = search needs
-
-cast-if4 : tie.Need-cast-if4
-cast-if4 c = search needs
-
-add-if4 : tie.Need-add-if4
-add-if4 c = search needs
-
-cast-if4-2 : tie.Need-cast-if4-2
-cast-if4-2 c = search needs
-
-add-if4-2 : tie.Need-add-if4-2
-add-if4-2 c = search needs
-
-returns-3 : tie.Need-returns-3
-returns-3 c =
-    let a = c .before .before .before .before .before .before .before .before .before .args in
-    let r = now (a .region) in
-    sym (sound-over r (a .at) (a .e) (length r) (c .before .before .before .before .before .before .if1 .left) (omega arith))
+    let a = c .before .before .before .before .before .before .before .before .args in
+    let s = now (a .s) in
+    sym (sound-over s 0 (a .e) (length s) (c .before .before .before .before .before .if1 .left) (omega arith))
 
 right-live-requires : tie.Need-right-live-requires
 right-live-requires c κs = search needs
 
+returns-3 : tie.Need-returns-3
+returns-3 c =
+    let a = c .before .before .before .before .before .before .before .before .before .args in
+    let s = now (a .s) in
+    let known = sym (c .before .before .before .before .before .known-state .ensures) ∙ c .before .before .before .before .if2 .taken in
+    c .right-live .ensures ∙ sym (sound-within s 0 (a .e) (length s) known (c .before .before .before .before .before .before .if1 .left) (omega arith))
+
 returns-4 : tie.Need-returns-4
 returns-4 c =
-    let a = c .before .before .before .before .before .before .before .before .before .before .args in
-    let r = now (a .region) in
-    let known = sym (c .before .before .before .before .before .before .known-state .ensures) ∙ c .before .before .before .before .before .if2 .taken in
-    c .right-live .ensures ∙ sym (sound-within r (a .at) (a .e) (length r) known (c .before .before .before .before .before .before .before .if1 .left) (omega arith))
-
-returns-5 : tie.Need-returns-5
-returns-5 c =
     let a = c .before .before .before .before .before .args in
-    let r = now (a .region) in
-    sym (sound-unknown r (a .at) (a .e) (length r) (sym (c .before .known-state .ensures) ∙ c .if2 .left))
+    let s = now (a .s) in
+    sym (sound-unknown s 0 (a .e) (length s) (sym (c .before .known-state .ensures) ∙ c .if2 .left))
 
 pub entry-sound-spec : {M : Type 1} → statement M
 entry-sound-spec =
@@ -67,13 +58,11 @@ entry-sound-spec =
     (tie.spec
     returns
     known-state-requires
+    cast-if3
+    add-if3
+    cast-if3-2
+    add-if3-2
     returns-2
-    sub-if4
-    cast-if4
-    add-if4
-    cast-if4-2
-    add-if4-2
-    returns-3
     right-live-requires
-    returns-4
-    returns-5)
+    returns-3
+    returns-4)

@@ -10,6 +10,7 @@ use borrow.Author.Needs.{needs}
 use Rattle.model.specs.Walk.{walkEnd}
 use Rattle.model.specs.Beside.{from}
 use Rattle.region.specs.Judge.{scanOf}
+use Rattle.region.proofs.Judging.{front-sound}
 use Rattle.region.proofs.Scanning.{scanned, scan-begin, scan-next, scan-stop}
 use Rattle.region.proofs.Turns.{turned, stopped}
 use Rattle.region.proofs.judge.scan.Statement.{statement}
@@ -40,35 +41,64 @@ returns c =
     let r = now (l .before .before .args .region) in
     sym (l .loop .inv ∙ ap (scanned (length r) (l .loop .at)) (stopped r (l .loop .at) (sym (c .before .before .turn .ensures) ∙ c .enum-told .given .1)))
 
+sub-entry-sound : tie.Need-sub-entry-sound Inv-loop μ-loop
+sub-entry-sound c =
+    let b = c .before in
+    let l = b .before .before .before in
+    let r = now (l .before .before .args .region) in
+    let t = b .t .given in
+    let w = turned r (l .loop .at) (t .0 .0) (t .0 .1 .0) (sym (b .before .before .turn .ensures) ∙ t .1) in
+    omega arith
+
+part-entry-sound-start : tie.Need-part-entry-sound-start Inv-loop μ-loop
+part-entry-sound-start c =
+    let b = c .before in
+    let l = b .before .before .before in
+    let r = now (l .before .before .args .region) in
+    let t = b .t .given in
+    let w = turned r (l .loop .at) (t .0 .0) (t .0 .1 .0) (sym (b .before .before .turn .ensures) ∙ t .1) in
+    omega arith
+
+part-entry-sound-end : tie.Need-part-entry-sound-end Inv-loop μ-loop
+part-entry-sound-end c =
+    let b = c .before in
+    let l = b .before .before .before in
+    let r = now (l .before .before .args .region) in
+    let t = b .t .given in
+    let w = turned r (l .loop .at) (t .0 .0) (t .0 .1 .0) (sym (b .before .before .turn .ensures) ∙ t .1) in
+    omega arith
+
 entry-sound-requires : tie.Need-entry-sound-requires Inv-loop μ-loop
 entry-sound-requires c κs = search needs
 
 loop-less : tie.Need-loop-less Inv-loop μ-loop
 loop-less c =
-    let b = c .before .before .before in
+    let b = c .before .before .before .before in
     let l = b .before .before .before in
+    let r = now (l .before .before .args .region) in
     let t = b .t .given in
-    let w = turned (now (l .before .before .args .region)) (l .loop .at) (t .0 .0) (t .0 .1 .0) (sym (b .before .before .turn .ensures) ∙ t .1) in
+    let w = turned r (l .loop .at) (t .0 .0) (t .0 .1 .0) (sym (b .before .before .turn .ensures) ∙ t .1) in
     omega arith
 
 loop-again : tie.Need-loop-again Inv-loop μ-loop
 loop-again c =
-    let b = c .before .before .before in
+    let b = c .before .before .before .before in
     let l = b .before .before .before in
     let r = now (l .before .before .args .region) in
     let t = b .t .given in
     let w = turned r (l .loop .at) (t .0 .0) (t .0 .1 .0) (sym (b .before .before .turn .ensures) ∙ t .1) in
-    l .loop .inv
-    ∙ scan-next (w .walk) (length r) (l .loop .at) (t .0 .1 .0) (sym (c .before .entry-sound .ensures) ∙ c .if1 .taken) (w .next)
+    let own = sym (front-sound r (l .loop .at) (t .0 .0) (omega arith)) ∙ sym (c .before .entry-sound .ensures) in
+    l .loop .inv ∙ scan-next (w .walk) (length r) (l .loop .at) (t .0 .1 .0) (own ∙ c .if1 .taken) (w .next)
 
 returns-2 : tie.Need-returns-2 Inv-loop μ-loop
 returns-2 c =
-    let b = c .before .before .before in
+    let b = c .before .before .before .before in
     let l = b .before .before .before in
     let r = now (l .before .before .args .region) in
     let t = b .t .given in
     let w = turned r (l .loop .at) (t .0 .0) (t .0 .1 .0) (sym (b .before .before .turn .ensures) ∙ t .1) in
-    sym (l .loop .inv ∙ scan-stop (w .walk) (length r) (l .loop .at) (sym (c .before .entry-sound .ensures) ∙ c .if1 .left))
+    let own = sym (front-sound r (l .loop .at) (t .0 .0) (omega arith)) ∙ sym (c .before .entry-sound .ensures) in
+    sym (l .loop .inv ∙ scan-stop (w .walk) (length r) (l .loop .at) (own ∙ c .if1 .left))
 
 pub scan-spec : {M : Type 1} → statement M
 scan-spec =
@@ -81,6 +111,9 @@ scan-spec =
     enum-known-t
     enum-told
     returns
+    sub-entry-sound
+    part-entry-sound-start
+    part-entry-sound-end
     entry-sound-requires
     loop-less
     loop-again
