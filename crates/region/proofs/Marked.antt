@@ -136,7 +136,9 @@ any-last f (y ∷ p) x = rw (any-last f p x) (swap (f y) (f x) (any f p))
 
 doubled-last : (y x : walk.Entry) (p : List walk.Entry) → doubledIn y (p ++ (x ∷ [])) ≡ (doubles y x || doubledIn y p)
 unfolding doubledIn doubles
-doubled-last y x p = rw (any-last (isEntry (stateOf y) (entryKey y)) p x) (share (live y) (isEntry (stateOf y) (entryKey y) x) (any (isEntry (stateOf y) (entryKey y)) p))
+doubled-last y x p =
+    rw (any-last (isEntry (stateOf y) (entryKey y)) p x)
+    (share (live y) (isEntry (stateOf y) (entryKey y) x) (any (isEntry (stateOf y) (entryKey y)) p))
   where
     share : (a b c : Bool) → (a && (b || c)) ≡ ((a && b) || (a && c))
     share true b c = refl
@@ -307,7 +309,8 @@ module _ (r noted : List ℕ) (at : ℕ) (c : Passed r noted at) where
         record {
           passed = c .passed ++ (x ∷ []);
           whole = c .whole ∙ ap (λ l. c .passed ++ l) (w .walk) ∙ sym (append-assoc (c .passed) (x ∷ []) (from r k));
-          each = each-last (Noted noted at) (Noted (noting noted m) k) (λ y n. (omega arith, noting-keeps noted m (markAt y) room (n .1))) (c .passed) x (c .each)
+          each = each-last (Noted noted at) (Noted (noting noted m) k)
+              (λ y n. (omega arith, noting-keeps noted m (markAt y) room (n .1))) (c .passed) x (c .each)
               (rw (at-place r at e) more, rw (← q) (noting-own noted m room sign));
           judge = c .judge ∙ ap (judged (c .passed)) (w .walk) ∙ judged-next (c .passed) x (from r k) (fresh m q h);
           size = length-set noted (m .place) (note (getD noted (m .place) 0) (m .sign)) ∙ c .size;

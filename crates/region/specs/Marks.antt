@@ -1,5 +1,5 @@
--- Marks of names, by which a name that came before is found. What is proved with them asks of a mark only that it is a function of state, name and GUID, and that
--- its sign is not 0.
+-- Marks of names, by which a name that came before is found. The proofs ask of a mark only that it is a function of state, name and GUID, and that its
+-- sign is not 0.
 use Prim.Native.Nat.{ℕ, _+_, _-_, _/_, _%_, _^_}
 use mathlib.Core.Bool.{Bool, cond, not, _&&_, _||_}
 use mathlib.Core.List.{List, [], _∷_, _++_}

@@ -1,5 +1,5 @@
-// Marks, by which a name that came before is found without a look at every entry before it. A mark is a place, which is a number below a prime, and a sign, and both are
-// made of words of GUID and name. Equal keys have equal marks, so a name whose mark is not noted is a new one.
+// Marks, by which a name that came before is found without a look at every entry before it. A mark is a place, which is a number below a prime, and a
+// sign, both made from words of GUID and name. Equal names with equal GUIDs have equal marks, so a name whose mark is not noted is a new one.
 ghost use mathlib.Core.Path.{_≡_};
 ghost use Prim.Native.Nat.{_-_, _<_};
 ghost use Rattle.region.specs.Marks.{noMarks, plus, outerWords, innerWords, weighed, markIn, isNoted, note};
@@ -7,7 +7,7 @@ use crate::Mark;
 use crate::judge;
 use layout::Entry;
 
-// The numbers of places; 1,987 is a prime, and the division by it takes no instruction more than a product.
+// How many places names have: a prime, so that a character tells wherever it stands in its word. The compiler divides by this one without a correction.
 const PLACES: u64 = 1987;
 
 // A sign is a number from 1 to 128.
@@ -45,7 +45,7 @@ fn outer_words(key: &[u8]) -> u64
     plus(vendor, slices::eight(key, last_eight(key.len())))
 }
 
-// Words at the front of the name, in the middle, and before the last one. Two begin at odd distances from it, so that equal characters count differently in each.
+// Words at the front of the name, in its middle and before its last one. Those before it overlap at an odd byte, so that no two hold a character alike.
 fn inner_words(key: &[u8]) -> u64
     ensures { λ r. ⌜ r ≡ innerWords (now (key .entry)) ⌝ }
 {

@@ -40,7 +40,8 @@ returns-2 c =
     let l = c .before .before .before .before in
     let a = l .before .before .before .before .args in
     let i = l .loop .i - 8 in
-    sym (differ (now (a .a)) (now (a .b)) (λ s. u64At s i) (λ e. c .if2 .taken (c .before .before .standing-eight .ensures ∙ e ∙ sym (c .before .standing-eight2 .ensures))))
+    sym (differ (now (a .a)) (now (a .b)) (λ s. u64At s i)
+    (λ e. c .if2 .taken (c .before .before .standing-eight .ensures ∙ e ∙ sym (c .before .standing-eight2 .ensures))))
 
 loop-less : tie.Need-loop-less Inv-loop μ-loop
 loop-less c = search needs
