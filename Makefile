@@ -1,6 +1,6 @@
 # make test: the gate. Every step's output is printed; the last line is rt ci's own tally, and the exit status is non-zero if any step failed.
 .SILENT:
-.PHONY: demo test check fmt lib host host-test stack rust-test soak bench efi interop volume-test
+.PHONY: demo test check fmt lib host host-test stack rust-test soak bench check-time efi interop volume-test
 
 CC = cc
 CFLAGS = -std=c11 -O2 -Wall -Wextra -Werror
@@ -53,6 +53,10 @@ soak: $(LIB)
 # the engine against the second implementation: time and instruction counts, as ratios
 bench: $(LIB)
 	tools/bench
+
+# the check of a full image of smallest entries, on the library of a revision (BEFORE=REVISION) and on this one: it may take no longer
+check-time: $(LIB)
+	tools/check-time $(or $(BEFORE),HEAD)
 
 # the library inside a firmware, under its timer interrupts: EDK II's OVMF in qemu; first it says which packages are missing
 efi:

@@ -258,7 +258,7 @@ pub record Passed (r noted : List ℕ) (at : ℕ) : Type 0 where
   pub whole : entries r ≡ passed ++ from r at
   pub each : Each (Noted noted at) passed
   pub judge : undoubled (entries r) ≡ judged passed (from r at)
-  pub size : length noted ≡ 2048
+  pub size : length noted ≡ 1280
 
 pub begin : (r : List ℕ) → Passed r noMarks regionHeaderSize
 unfolding noMarks
@@ -296,7 +296,7 @@ module _ (r noted : List ℕ) (at : ℕ) (c : Passed r noted at) where
             unseen noted at (entryAt r at e) (ap (λ (n : Mark). isNoted (getD noted (n .place) 0) (n .sign)) (sym q) ∙ z) (c .passed) (c .each)
         go true z = ap (doubledIn (entryAt r at e)) (sym before) ∙ (rw z at h)
 
-    pub next : (m : Mark) → m ≡ markAt (entryAt r at e) → m .place < 2048
+    pub next : (m : Mark) → m ≡ markAt (entryAt r at e) → m .place < 1280
         → (isNoted (getD noted (m .place) 0) (m .sign) && doubledIn (entryAt r at e) (upTo at (entries r))) ≡ false
         → Passed r (noting noted m) k
     unfolding markAt

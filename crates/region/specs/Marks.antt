@@ -16,7 +16,7 @@ use Rattle.region.specs.declared.Mark.{Mark}
 
 -- no mark is noted
 unfoldable pub noMarks : List ℕ
-noMarks = replicate 2048 0
+noMarks = replicate 1280 0
 
 -- a sum that goes round at 2^64
 unfoldable pub plus : ℕ → ℕ → ℕ
@@ -38,11 +38,11 @@ weighed key = plus (outerWords key) (innerWords key)
 
 -- the mark of a GUID with the name behind it
 unfoldable pub keyMark : List ℕ → Mark
-keyMark key = record { place = weighed key % 1987; sign = weighed key / 1987 % 128 + 1 }
+keyMark key = record { place = weighed key % 1279; sign = weighed key / 1279 % 128 + 1 }
 
 -- the mark of what is not live
 unfoldable pub deadMark : Mark
-deadMark = record { place = 2047; sign = 1 }
+deadMark = record { place = 1279; sign = 1 }
 
 -- the mark of a state, name and GUID
 unfoldable pub markOf : ℕ → Key → Mark

@@ -8,7 +8,7 @@ use crate::judge;
 use layout::Entry;
 
 // How many places names have: a prime, so that a character tells wherever it stands in its word. The compiler divides by this one without a correction.
-const PLACES: u64 = 1987;
+const PLACES: u64 = 1279;
 
 // A sign is a number from 1 to 128.
 const SIGNS: u64 = 128;
@@ -17,10 +17,10 @@ const SIGNS: u64 = 128;
 const SEVERAL: u8 = 255;
 
 // A table in which no mark is noted: 0 at every place.
-pub(crate) fn no_marks() -> [u8; 2048]
+pub(crate) fn no_marks() -> [u8; 1280]
     ensures { λ r. ⌜ r ≡ noMarks ⌝ }
 {
-    [0; 2048]
+    [0; 1280]
 }
 
 // A sum that goes round at 2^64.
@@ -45,7 +45,7 @@ fn outer_words(key: &[u8]) -> u64
     plus(vendor, slices::eight(key, last_eight(key.len())))
 }
 
-// Words at the front of the name, in its middle and before its last one. Those before it overlap at an odd byte, so that no two hold a character alike.
+// Words at the front of the name, in its middle and before its last one. Those before it begin seven bytes apart, so that a character counts otherwise in each.
 fn inner_words(key: &[u8]) -> u64
     ensures { λ r. ⌜ r ≡ innerWords (now (key .entry)) ⌝ }
 {
@@ -69,7 +69,7 @@ fn weighed(key: &[u8]) -> u64
 
 // The mark of the entry at the front of `s`: that of its GUID and name if it is live, else one at a place that no name has.
 pub(crate) fn mark_of(s: &[u8], e: Entry) -> Mark
-    ensures { λ r. ⌜ (r ≡ markIn (now (s .entry)) e) × (r .place < 2048) ⌝ }
+    ensures { λ r. ⌜ (r ≡ markIn (now (s .entry)) e) × (r .place < 1280) ⌝ }
 {
     if judge::is_live(e.state) {
         let w = weighed(layout::key_of(s, e));
@@ -79,7 +79,7 @@ pub(crate) fn mark_of(s: &[u8], e: Entry) -> Mark
         };
     }
     Mark {
-        place: 2047,
+        place: 1279,
         sign: 1,
     }
 }

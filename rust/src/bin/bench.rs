@@ -18,15 +18,17 @@ const BLOCK: usize = 4096;
 const VENDOR: Guid = [1, 2, 3, 4, 5, 6, 7, 8, 9, 10, 11, 12, 13, 14, 15, 16];
 const BEGIN: Key = Key { name: &[0, 0], vendor: &VENDOR };
 
-/// What a turn works on.
+/// What a turn works on: the variable is the one that it gets or sets.
 struct Desk {
     session: Session,
+    variable: Vec<u8>,
     image: Vec<u8>,
     buffer: [u8; 2048],
 }
 
 struct Case {
     name: &'static str,
+    variable: Vec<u8>,
     image: Vec<u8>,
     turns: usize,
     turn: fn(&Calls, &mut Desk) -> Answer,
@@ -35,7 +37,7 @@ struct Case {
 
 impl Case {
     fn desk(&self) -> Desk {
-        Desk { session: (PAPER.session_new)(Setup::PLAIN), image: self.image.clone(), buffer: [0; 2048] }
+        Desk { session: (PAPER.session_new)(Setup::PLAIN), variable: self.variable.clone(), image: self.image.clone(), buffer: [0; 2048] }
     }
 
     fn prepare(&self, desk: &mut Desk) {
@@ -82,8 +84,20 @@ fn name(text: &str) -> Vec<u8> {
     text.encode_utf16().chain([0]).flat_map(u16::to_le_bytes).collect()
 }
 
+/// Names of one front that differ late, as the settings of a device do.
 fn numbered(index: usize) -> Vec<u8> {
-    name(&format!("V{index:03}"))
+    name(&format!("SET{index:04}"))
+}
+
+/// The smallest name of a number.
+fn single(index: usize) -> Vec<u8> {
+    name(char::from_u32(1 + index as u32).expect("a small number").encode_utf8(&mut [0; 4]))
+}
+
+/// Names of so many characters that differ only in the fifth, and so in no word that the engine's check makes its marks from: every mark is the same.
+fn alike(index: usize, characters: usize) -> Vec<u8> {
+    let fifth = char::from_u32(0x100 + index as u32).expect("a small number");
+    name(&format!("Same{fifth}{:x<1$}", "", characters - 5))
 }
 
 fn put(region: &mut Vec<u8>, name: &[u8], data: &[u8]) {
@@ -97,29 +111,30 @@ fn image(mut region: Vec<u8>, blocks: usize) -> Vec<u8> {
     region
 }
 
-/// A region of b blocks with values of 50 bytes, 120 bytes an entry.
+/// A region of b blocks with values of 50 bytes, 128 bytes an entry.
 fn region_of(blocks: usize, count: usize) -> Vec<u8> {
     let mut region = region::header(BLOCK * blocks).to_vec();
     (0..count).for_each(|index| put(&mut region, &numbered(index), &[index as u8; 50]));
     region
 }
 
-/// Seven blocks full of the smallest entries, 68 bytes each.
-fn smallest() -> Vec<u8> {
-    let mut region = region_of(7, 0);
-    for character in 1.. {
-        if region.len() + 68 > 7 * BLOCK {
+/// Seven blocks full of values of one byte under these names, and the last name.
+fn full_of(names: impl Fn(usize) -> Vec<u8>) -> (Vec<u8>, Vec<u8>) {
+    let (mut region, mut last) = (region_of(7, 0), Vec::new());
+    for name in (0..).map(names) {
+        if region.len() + (60 + name.len() + 1).next_multiple_of(4) > 7 * BLOCK {
             break;
         }
-        put(&mut region, &name(char::from_u32(character).expect("a small number").encode_utf8(&mut [0; 4])), &[1]);
+        put(&mut region, &name, &[1]);
+        last = name;
     }
-    region
+    (region, last)
 }
 
-/// Seven blocks of 200 values, filled up with deleted entries.
-fn crowded() -> Vec<u8> {
-    let mut region = region_of(7, 200);
-    while region.len() + 120 <= 7 * BLOCK {
+/// Seven blocks of values, filled up with deleted entries.
+fn crowded(count: usize) -> Vec<u8> {
+    let mut region = region_of(7, count);
+    while region.len() + 128 <= 7 * BLOCK {
         let at = region.len();
         put(&mut region, &numbered(0), &[0; 50]);
         region[at + STATE] = GONE;
@@ -127,26 +142,26 @@ fn crowded() -> Vec<u8> {
     region
 }
 
-fn get_last(calls: &Calls, desk: &mut Desk) -> Answer {
-    let last = Key { name: b"V\x001\x009\x009\0\0\0", vendor: &VENDOR };
-    (calls.get)(Context::NO_LIMIT, &desk.session, &desk.image, last, &mut desk.buffer).answer
+fn get(calls: &Calls, desk: &mut Desk) -> Answer {
+    let key = Key { name: &desk.variable, vendor: &VENDOR };
+    (calls.get)(Context::NO_LIMIT, &desk.session, &desk.image, key, &mut desk.buffer).answer
 }
 
 fn check(calls: &Calls, desk: &mut Desk) -> Answer {
     (calls.check)(&desk.image).answer
 }
 
-/// Replaces the first value by others of the same length.
+/// Replaces a value by another of the same length.
 fn replace(calls: &Calls, desk: &mut Desk) -> Answer {
-    let first = Key { name: b"V\x000\x000\x000\0\0\0", vendor: &VENDOR };
-    let request = Request { key: first, attributes: 0x07, data: &[0x5A; 50], presence: 0, verdict: 0 };
+    let key = Key { name: &desk.variable, vendor: &VENDOR };
+    let request = Request { key, attributes: 0x07, data: &[0x5A; 50], presence: 0, verdict: 0 };
     (calls.set)(Context::NO_LIMIT, &desk.session, &mut desk.image, &request)
 }
 
 /// Next-name from the first to the end.
 fn names(calls: &Calls, desk: &mut Desk) -> Answer {
     let (mut last, mut size) = ([0; 144], 0);
-    let Desk { session, image, buffer } = desk;
+    let Desk { session, image, buffer, .. } = desk;
     loop {
         let key = if size == 0 { BEGIN } else { Key { name: &last[16..size], vendor: &VENDOR } };
         let reply = (calls.next_name)(Context::NO_LIMIT, session, image, key, &mut buffer[..144]);
@@ -158,15 +173,23 @@ fn names(calls: &Calls, desk: &mut Desk) -> Answer {
     }
 }
 
-fn cases() -> [Case; 5] {
+fn cases() -> Vec<Case> {
     let done = Answer::Done;
     let end = Answer::Refused(Rule::Absent);
-    [
-        Case { name: "get the last of 200 values", image: image(region_of(7, 200), 7), turns: 20, turn: get_last, expected: done(0) },
-        Case { name: "check 421 smallest entries", image: image(smallest(), 7), turns: 5, turn: check, expected: done(0) },
-        Case { name: "replace in the tail", image: image(region_of(1, 20), 1), turns: 50, turn: replace, expected: done(123) },
-        Case { name: "compact seven blocks", image: image(crowded(), 7), turns: 5, turn: replace, expected: done(57361) },
-        Case { name: "next-name over 200 values", image: image(region_of(7, 200), 7), turns: 2, turn: names, expected: end },
+    let case = |name, variable, region, blocks, turns, turn, expected| Case { name, variable, image: image(region, blocks), turns, turn, expected };
+    let (smallest, last) = full_of(single);
+    let (alike63, last63) = full_of(|index| alike(index, 63));
+    let (alike17, last17) = full_of(|index| alike(index, 17));
+    vec![
+        case("get the last of 200 values", numbered(199), region_of(7, 200), 7, 20, get, done(0)),
+        case("get the last of 421 smallest", last, smallest.clone(), 7, 5, get, done(0)),
+        case("check 421 smallest entries", Vec::new(), smallest, 7, 5, check, done(0)),
+        case("replace in the tail, b = 1", numbered(0), region_of(1, 20), 1, 50, replace, done(129)),
+        case("set in the tail, 200 values", numbered(0), region_of(7, 200), 7, 20, replace, done(129)),
+        case("compact seven blocks, 204", numbered(0), crowded(204), 7, 5, replace, done(57361)),
+        case("next-name over 200 values", Vec::new(), region_of(7, 200), 7, 2, names, end),
+        case("get, all marks equal, 149", last63, alike63, 7, 2, get, done(0)),
+        case("get, all marks equal, 286", last17, alike17, 7, 2, get, done(0)),
     ]
 }
 
