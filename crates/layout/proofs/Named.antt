@@ -1,6 +1,6 @@
 -- The name of an entry is a part of the bytes, which stands behind the GUID. So GUID and name are one part, and a word of the name stands among the bytes.
 -- Assumes nothing.
-use Prim.Native.Nat.{ℕ, zero, suc, _+_, _≤_, _<_}
+use Prim.Native.Nat.{ℕ, zero, suc, _+_, _-_, _≤_, _<_}
 use native.Mathlib.Nat.{zero-add, suc-add}
 use native.Mathlib.Omega.{arith}
 use mathlib.Core.Path.{_≡_, refl, sym, ap, ap₂, _∙_}
@@ -10,13 +10,13 @@ use mathlib.Core.List.{List, [], _∷_, _++_, append-nil}
 use lib.ListN.{length, getD, take, drop, length-take, length-drop}
 use lib.Dec.{eqb}
 use lib.Seq.{drop-drop, take-nil, getD-take, getD-drop}
-use borrow.Author.Tests.{eq-eqb, ne-eqb, eqb-true, eqb-false, le-leb}
+use borrow.Author.Tests.{eq-eqb, ne-eqb, eqb-true, eqb-false, le-leb, lt-leb}
 use Rattle.model.specs.Lists.{part, same, u32At}
 use Rattle.model.specs.Entry.{headerFields}
 use Rattle.model.specs.Walk.{placed}
 use Rattle.model.proofs.Tests.{same-eq}
 use Rattle.slices.specs.Agree.{fourAt}
-use Rattle.layout.specs.Head.{nameIn, Unlike}
+use Rattle.layout.specs.Head.{nameIn, mayBe, Unlike}
 use Rattle.layout.specs.declared.Entry.{Entry}
 
 module _ (s : List ℕ) (e : Entry) where
@@ -82,3 +82,19 @@ unlike s name i k place h d e = go (same (nameIn s e) name) refl (eqb (e .state)
         let own = sym (named s e (eqb-false (e .state) 0xFF f)) ∙ same-eq (nameIn s e) name q in
         let long : i + 4 ≤ length (part 60 (e .name) s) = rw own h in
         absurd (d (sym (part-four s 60 (e .name) i k long place) ∙ ap (λ l. fourAt l i) own))
+
+-- ---- the words at the end and at the front of a name
+
+module _ (s name : List ℕ) where
+  pub may-short : length name < 4 → true ≡ mayBe s name
+  unfolding mayBe
+  may-short h = rw (lt-leb 4 (length name) h)
+
+  module _ (h : 4 ≤ length name) where
+    pub may-front : fourAt s (60 + (length name - 4)) ≡ fourAt name (length name - 4) → eqb (fourAt s 60) (fourAt name 0) ≡ mayBe s name
+    unfolding mayBe
+    may-front e = rw (le-leb 4 (length name) h, eq-eqb (fourAt s (60 + (length name - 4))) (fourAt name (length name - 4)) e)
+
+    pub may-not : fourAt s (60 + (length name - 4)) ≢ fourAt name (length name - 4) → false ≡ mayBe s name
+    unfolding mayBe
+    may-not d = rw (le-leb 4 (length name) h, ne-eqb (fourAt s (60 + (length name - 4))) (fourAt name (length name - 4)) d)

@@ -1,11 +1,14 @@
 -- What the reader of an entry finds at the front of a part of the region.
-use Prim.Native.Nat.{ℕ}
+use Prim.Native.Nat.{ℕ, _+_, _-_}
 use mathlib.Core.Path.{_≡_}
-use mathlib.Core.Bool.{false}
+use mathlib.Core.Bool.{Bool, true, false, cond, _&&_}
 use mathlib.Core.List.{List}
+use lib.ListN.{length}
+use lib.Dec.{eqb, leb}
 use Rattle.model.specs.Lists.{onSome, same}
 use Rattle.model.specs.Entry.{Header, headerSize, headerFields, readHeader}
 use Rattle.model.specs.Walk.{placed}
+use Rattle.slices.specs.Agree.{fourAt}
 use Rattle.layout.specs.declared.Entry.{Entry}
 use Rattle.layout.specs.declared.Head.{Head}
 use Rattle.layout.specs.declared.Head.the-variants.{Present, End}
@@ -34,6 +37,14 @@ nameIn s e = placed headerSize readHeader 0 (headerOf e s) s .name
 
 unfoldable pub dataIn : List ℕ → Entry → List ℕ
 dataIn s e = placed headerSize readHeader 0 (headerOf e s) s .bytes
+
+-- the words at the end and at the front of a name stand where they would in an entry there; a name shorter than a word has none
+unfoldable pub mayBe : List ℕ → List ℕ → Bool
+mayBe s name =
+    cond
+    (leb 4 (length name))
+    (eqb (fourAt s (headerSize + (length name - 4))) (fourAt name (length name - 4)) && eqb (fourAt s headerSize) (fourAt name 0))
+    true
 
 -- the entry there has another name, whatever its numbers
 abbrev pub Unlike : List ℕ → List ℕ → Type 0

@@ -6,7 +6,7 @@ ghost use Prim.Native.Nat.{_+_, _<_, _^_};
 ghost use lib.ListN.{getD};
 ghost use Rattle.model.specs.Lists.{u16At, u32At};
 ghost use Rattle.model.specs.Entry.{headerSize, headerFields, rounded};
-ghost use Rattle.layout.specs.Head.{headOf, nameIn, dataIn, Unlike};
+ghost use Rattle.layout.specs.Head.{headOf, nameIn, dataIn, mayBe, Unlike};
 
 pub mod fixed;
 
@@ -157,7 +157,7 @@ pub fn data_of(s: &[u8], e: Entry) -> &[u8]
 
 // Whether the entry at the front of `s`, whatever its numbers, may have this name: the words at the end and at the front of the name, which are cheap to see.
 pub fn may_be(s: &[u8], name: &[u8]) -> bool
-    ensures { λ r. ⌜ (r ≡ false → Unlike (now (s .entry)) (now (name .entry))) ⌝ }
+    ensures { λ r. ⌜ (r ≡ mayBe (now (s .entry)) (now (name .entry))) × (r ≡ false → Unlike (now (s .entry)) (now (name .entry))) ⌝ }
 {
     let n = name.len();
     if n < 4 {

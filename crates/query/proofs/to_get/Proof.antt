@@ -138,7 +138,7 @@ loop-again-2 c =
     let k = keyed (now (a .name)) (now (a .vendor)) in
     let t = b .t .given in
     let w = turned r (l .loop .at) (t .0 .0) (t .0 .1 .0) (sym (b .before .before .turn .ensures) ∙ t .1) in
-    let other = sought-unlike (a .runtime) r (l .loop .at) (t .0 .0) (now (a .name)) (now (a .vendor)) (c .before .may-be .ensures (c .if1 .left)) in
+    let other = sought-unlike (a .runtime) r (l .loop .at) (t .0 .0) (now (a .name)) (now (a .vendor)) (c .before .may-be .ensures .1 (c .if1 .left)) in
     l .loop .inv ∙ get-next (a .runtime) r (l .loop .at) (t .0 .0) (t .0 .1 .0) w k other
 
 pub to-get-spec : {M : Type 1} → statement M

@@ -171,7 +171,7 @@ loop-again-3 c =
     let k = keyed (now (a .name)) (now (a .vendor)) in
     let t = b .t .given in
     let w = turned r (l .loop .here) (t .0 .0) (t .0 .1 .0) (sym (b .before .before .turn .ensures) ∙ t .1) in
-    let other = sought-unlike (a .runtime) r (l .loop .here) (t .0 .0) (now (a .name)) (now (a .vendor)) (c .before .may-be .ensures (c .if3 .left)) in
+    let other = sought-unlike (a .runtime) r (l .loop .here) (t .0 .0) (now (a .name)) (now (a .vendor)) (c .before .may-be .ensures .1 (c .if3 .left)) in
     l .loop .inv
     ∙ ap (λ (p : Bool). goingOn p k (seenFrom (a .runtime) r (l .loop .here))) (c .before .before .before .if1 .left)
     ∙ name-before (a .runtime) r (l .loop .here) (t .0 .0) (t .0 .1 .0) w k
