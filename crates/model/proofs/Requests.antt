@@ -4,7 +4,7 @@
 -- Assumes nothing.
 use Prim.Native.Nat.{ℕ, _+_, _-_, _/_, _%_, _≤_}
 use native.Mathlib.Omega.{arith}
-use mathlib.Core.Path.{_≡_, refl, ap}
+use mathlib.Core.Path.{_≡_, refl, ap, _∙_}
 use mathlib.Core.Bool.{Bool, true, false, cond, not, _&&_, _||_, and-false, true≢false, false≢true}
 use mathlib.Core.List.{List, [], _∷_, _++_}
 use mathlib.Core.Option.{Option, none, some}
@@ -13,19 +13,23 @@ use lib.Dec.{eqb, leb, ltb}
 use borrow.Author.Tests.{ltb-false, leb-true, eqb-true, eqb-false, ne-eqb, not-false}
 use Rattle.model.specs.declared.Session.{Session}
 use Rattle.model.specs.declared.Rule.{Rule}
-use Rattle.model.specs.Lists.{among, isEmpty, isSome, onSome, orElse}
+use Rattle.model.specs.Lists.{allFF, among, isEmpty, isSome, onSome, orElse}
 use Rattle.model.specs.Name.{Key, wellNamed}
-use Rattle.model.specs.Image.{rightLength, regionSize}
+use Rattle.model.specs.Image.{rightLength, regionSize, region, work, spare}
 use Rattle.model.specs.Entry.{Value, keyOf}
-use Rattle.model.specs.Region.{maxData, storedAttributes, valuesOf, find}
-use Rattle.model.specs.Work.{readyForCall, readyForStartUp}
+use Rattle.model.specs.Region.{maxData, storedAttributes, tail, sound, clean, valuesOf, find}
+use Rattle.model.specs.Work.{idle, readyForCall, readyForStartUp}
 use Rattle.model.specs.Session.{reserved}
-use Rattle.model.specs.Request.{Request, requestKey, stampSize, timeBased, appends, withoutAppend, dataProper, stampToStore, properAt, rightDescriptor}
-use Rattle.model.specs.Change.{nothing, remove, put, deletes, emptyAppend, equalTo, newData, newValue, changeOf, changeIn, step, spaceOf}
+use Rattle.model.specs.Request.{Request, requestKey, stampSize, timeBased, appends, withoutAppend, dataProper, stampToStore, later, properAt, rightDescriptor}
+use Rattle.model.specs.Change.{nothing, remove, put, deletes, emptyAppend, equalTo, newData, laterOf, newStamp, newValue, changeOf, changeIn, step, spaceOf}
 use Rattle.model.specs.Rules.{firstBroken, rule1, rule2, rule2StartUp, rule3, rule4, rule8, rule11, rule12, rule13, imageRules, requestRules, standingRules, resultRules, roomRules, removesAbsent, setBroken, getBroken, nextBroken, startUpBroken}
 use Rattle.model.specs.Answers.{ruleNumber}
 use Rattle.model.specs.Beside.{Valid}
-use Rattle.model.proofs.Tests.{or-split}
+use Rattle.model.proofs.Encode.{AllValid, sound-valid}
+use Rattle.model.proofs.Chunks.{region-chunked}
+use Rattle.model.proofs.Parts.{right-parts, parts-region}
+use Rattle.model.proofs.Values.{find-holds}
+use Rattle.model.proofs.Tests.{or-split, and-split}
 
 -- ---- rules of which none is broken
 
@@ -134,6 +138,31 @@ descriptor-length bytes h = go (leb (properAt bytes) (length bytes)) refl
     go true e = omega (arith, leb-true)
     go false e = absurd (false≢true (simp (e, and-false) at h))
 
+-- the stamp of a new value is the one given or the old value's: what holds of both holds of it
+pub new-stamp : (P : List ℕ → Type 0) (r : Request) (old : Option Value) → P (stampToStore r) → ((v : Value) → old ≡ some v → P (v .stamp)) → P (newStamp r old)
+unfolding newStamp laterOf
+new-stamp P r old p f = go (appends (r .attributes) && timeBased (r .attributes)) old f
+  where
+    pick : (t : Bool) {a b : List ℕ} → P a → P b → P (cond t a b)
+    pick true p q = p
+    pick false p q = q
+
+    go : (t : Bool) (o : Option Value) → ((v : Value) → o ≡ some v → P (v .stamp))
+        → P (cond t (onSome o (λ v. cond (later (stampToStore r) (v .stamp)) (stampToStore r) (v .stamp)) (stampToStore r)) (stampToStore r))
+    go false o f = p
+    go true none f = p
+    go true (some v) f = pick (later (stampToStore r) (v .stamp)) p (f v refl)
+
+-- the values of an image that is ready are valid
+image-valid : (img : List ℕ) → rightLength img ≡ true → readyForCall img ≡ true → AllValid (valuesOf img)
+unfolding valuesOf readyForCall clean
+image-valid img l h =
+    let i = right-parts img l in
+    let a = and-split (clean (region img) && allFF (spare img)) (idle (work img)) h .0 in
+    let c = and-split (clean (region img)) (allFF (spare img)) a .0 in
+    let s = and-split (sound (region img)) (allFF (tail (region img))) c .0 in
+    sound-valid (region img) (region-chunked (i .b) (ap length (ap region (i .whole) ∙ parts-region (i .parts)) ∙ i .parts .region-long) s)
+
 stamp-length : (r : Request) → rule8 r ≡ false → length (stampToStore r) ≡ 16
 unfolding rule8 stampToStore
 stamp-length r h = go (timeBased (r .attributes)) (rightDescriptor (r .bytes)) refl h
@@ -159,6 +188,11 @@ module _ (s : Session) (r : Request) (img : List ℕ) (accepted : setBroken s r 
   unfolding changeIn newValue
   put-key v c = ap keyOf (puts r (find (requestKey r) (valuesOf img)) v c .made)
 
+  -- the old stamp is 16 bytes, since the region is sound
+  old-stamp : (v : Value) → find (requestKey r) (valuesOf img) ≡ some v → length (v .stamp) ≡ 16
+  old-stamp v e =
+      find-holds Valid AllValid (λ w ws h. h) (requestKey r) (valuesOf img) (image-valid img set-length set-ready) v e .stamp
+
   pub put-is-valid : (v : Value) → changeIn r (valuesOf img) ≡ put v → length (r .vendor) ≡ 16 → Valid v
   unfolding setBroken imageRules requestRules standingRules resultRules rule3 rule12 changeIn newValue
   put-is-valid v c g =
@@ -172,7 +206,7 @@ module _ (s : Session) (r : Request) (img : List ℕ) (accepted : setBroken s r 
       (record {
         named = not-false (wellNamed (r .name)) n;
         vendor = g;
-        stamp = stamp-length r d;
+        stamp = new-stamp (λ (x : List ℕ). length x ≡ 16) r (find (requestKey r) (valuesOf img)) (stamp-length r d) old-stamp;
         attributes = put-attributes s r q (p .kept);
         some-data = some-new r (find (requestKey r) (valuesOf img)) (some-proper r (p .kept) (p .adds));
         few-data = rw (p .made) at few;

@@ -1,4 +1,4 @@
--- 01, "What a set does": the change that a call makes of the list of values, for the book, for rule 13 and for a compaction alike.
+-- 01, "What a set does": the change that a call makes of the list of values, for the book, for rule 13 and for a compaction alike. 02 (b): the stamp of an append.
 use Prim.Native.Nat.{ℕ, _+_}
 use mathlib.Core.Bool.{Bool, false, not, cond, _&&_, _||_}
 use mathlib.Core.List.{List, [], _∷_, _++_}
@@ -9,7 +9,7 @@ use Rattle.model.specs.Image.{regionHeaderSize}
 use Rattle.model.specs.Name.{Key, sameKey}
 use Rattle.model.specs.Entry.{Value, keyOf, entrySize}
 use Rattle.model.specs.Region.{find}
-use Rattle.model.specs.Request.{Request, requestKey, timeBased, appends, withoutAppend, dataProper, stampToStore}
+use Rattle.model.specs.Request.{Request, requestKey, timeBased, appends, withoutAppend, dataProper, stampToStore, later}
 
 pub data Change : Type 0 where
   nothing : Change
@@ -20,7 +20,7 @@ pub data Change : Type 0 where
 unfoldable pub deletes : Request → Bool
 deletes r = eqb (r .attributes) 0 || (isEmpty (dataProper r) && not (appends (r .attributes)))
 
--- "An empty append changes nothing."
+-- "An empty append changes nothing."; 02 (b): it "still changes nothing", whatever its stamp
 unfoldable pub emptyAppend : Request → Bool
 emptyAppend r = isEmpty (dataProper r) && appends (r .attributes)
 
@@ -36,13 +36,25 @@ equalTo r v =
 unfoldable pub newData : Request → Option Value → List ℕ
 newData r old = cond (appends (r .attributes)) (onSome old (λ v. v .bytes) [] ++ dataProper r) (dataProper r)
 
+-- 02 (b): "with 0x20 the stored stamp becomes the later of the two, the old one if neither is later"
+unfoldable pub laterOf : List ℕ → List ℕ → List ℕ
+laterOf given old = cond (later given old) given old
+
+-- the stamp to be stored: of an append with 0x20 over a value the later of the two, of any other set the one given
+unfoldable pub newStamp : Request → Option Value → List ℕ
+newStamp r old =
+    cond
+    (appends (r .attributes) && timeBased (r .attributes))
+    (onSome old (λ v. laterOf (stampToStore r) (v .stamp)) (stampToStore r))
+    (stampToStore r)
+
 -- "name, GUID, attributes without 0x40, stamp to be stored, data proper, an append's behind the old data"
 unfoldable pub newValue : Request → Option Value → Value
 newValue r old = record {
   name = r .name;
   vendor = r .vendor;
   attributes = withoutAppend (r .attributes);
-  stamp = stampToStore r;
+  stamp = newStamp r old;
   bytes = newData r old;
 }
 

@@ -15,7 +15,7 @@ use Rattle.model.specs.Entry.{Value, keyOf}
 use Rattle.model.specs.Region.{maxData, storedAttributes, valuesOf, find}
 use Rattle.model.specs.Work.{readyForCall, readyForStartUp}
 use Rattle.model.specs.Session.{inBoot, atRuntime, reserved, countedLocks, lockSpace, locked}
-use Rattle.model.specs.Request.{Request, requestKey, runtimeAccess, timeBased, withoutAppend, isKeyName, wantedVerdicts, rightDescriptor, stampToStore, later}
+use Rattle.model.specs.Request.{Request, requestKey, runtimeAccess, timeBased, appends, withoutAppend, isKeyName, wantedVerdicts, rightDescriptor, stampToStore, later}
 use Rattle.model.specs.Change.{Change, nothing, remove, put, changeIn, step, spaceOf}
 
 -- "The first broken is the answer": of rules in checking order, each with whether it is broken
@@ -78,10 +78,10 @@ verdictWanted s r vs = not (isEmpty (wantedVerdicts s r vs))
 unfoldable pub rule9 : Session → Request → List Value → Bool
 rule9 s r vs = verdictWanted s r vs && not (among (wantedVerdicts s r vs) (r .verdict))
 
--- 10. "A verdict was wanted, a value stands, and the stamp is not later than its own."
+-- 10. "A verdict was wanted, a value stands, and the stamp is not later than its own."; 02 (b): "Rule 10 no longer concerns appends"
 unfoldable pub rule10 : Session → Request → List Value → Bool
 rule10 s r vs =
-    verdictWanted s r vs && onSome (find (requestKey r) vs) (λ v. not (later (stampToStore r) (v .stamp))) false
+    not (appends (r .attributes)) && verdictWanted s r vs && onSome (find (requestKey r) vs) (λ v. not (later (stampToStore r) (v .stamp))) false
 
 -- 11. "The value to get, delete or go on from is absent (..), or next-name has reached the end.": of a set, and of a get or next-name
 unfoldable pub removesAbsent : Change → List Value → Bool

@@ -13,7 +13,7 @@ use Rattle.model.specs.Region.{entries, tailAt, tail, rightHeader, rightLive, u
 use Rattle.model.specs.Work.{records, usedFirst, spareLast, wellFormed, lastUsed, endsInFC, idle, readyForCall}
 use Rattle.model.specs.Session.{inBoot, atRuntime, customMode, reserved, lockAt, locked, noLocks, noSizes, kept, freshSession}
 use Rattle.model.specs.Request.{Request, globalVendor, databaseVendor, keyPK, keyKEK, keydb, keydbx, keydbt, isDatabase, isKeyName, userMode, keyVerdicts, otherVerdicts, wantedVerdicts, rightDescriptor, dataProper, stampToStore, later}
-use Rattle.model.specs.Change.{deletes, emptyAppend, equalTo, newData, newValue, changeOf, without, step, changeIn, entrySizes, spaceOf}
+use Rattle.model.specs.Change.{deletes, emptyAppend, equalTo, newData, laterOf, newStamp, newValue, changeOf, without, step, changeIn, entrySizes, spaceOf}
 use Rattle.model.specs.Rules.{firstBroken, rule1, rule2, rule3, rule4, rule5, rule6, rule7Over, rule7, rule8, verdictWanted, rule9, rule10, removesAbsent, rule11, rule12, rule13, imageRules, requestRules, standingRules, resultRules, roomRules, setBroken}
 use Rattle.model.specs.Stores.{apply, applyAll, after, run}
 use Rattle.model.specs.Set.{leftover, entryStores, tailTo, tailOn, fitsTail, putPlan, changePlan, setPlan}
@@ -45,7 +45,7 @@ unfolding same allFF block blocks rightLength regionSize region work spare signa
 empty-text = refl
 
 rate-text : varlistText rateStore ≡ ascii "region 4096 used 104 live 1\n0102030405060708090A0B0C0D0E0F10 52004100540045000000 07 4\n"
-unfolding same allFF block blocks rightLength regionSize region work spare signature regionHeader zeroEnded wellNamed headerFields readHeader headerFront headerRest placed walk walkEnd entries tailAt tail rightHeader rightLive undoubled sound clean added replacing standing isValue values valuesOf find records usedFirst spareLast wellFormed lastUsed endsInFC idle readyForCall inBoot atRuntime customMode reserved lockAt locked noLocks noSizes kept freshSession globalVendor databaseVendor keyPK keyKEK keydb keydbx keydbt isDatabase isKeyName userMode keyVerdicts otherVerdicts wantedVerdicts rightDescriptor dataProper stampToStore later deletes emptyAppend equalTo newData newValue changeOf without step changeIn entrySizes spaceOf firstBroken rule1 rule2 rule3 rule4 rule5 rule6 rule7Over rule7 rule8 verdictWanted rule9 rule10 removesAbsent rule11 rule12 rule13 imageRules requestRules standingRules resultRules roomRules setBroken apply applyAll after run leftover entryStores tailTo tailOn fitsTail putPlan changePlan setPlan storesOf imageAfter emptyStore setRate ascii digit hexOf leading decimalOf field summaryLine keyText entryLine valueLine valueLines refusedLine storeText varlistText rateStore
+unfolding same allFF block blocks rightLength regionSize region work spare signature regionHeader zeroEnded wellNamed headerFields readHeader headerFront headerRest placed walk walkEnd entries tailAt tail rightHeader rightLive undoubled sound clean added replacing standing isValue values valuesOf find records usedFirst spareLast wellFormed lastUsed endsInFC idle readyForCall inBoot atRuntime customMode reserved lockAt locked noLocks noSizes kept freshSession globalVendor databaseVendor keyPK keyKEK keydb keydbx keydbt isDatabase isKeyName userMode keyVerdicts otherVerdicts wantedVerdicts rightDescriptor dataProper stampToStore later deletes emptyAppend equalTo newData laterOf newStamp newValue changeOf without step changeIn entrySizes spaceOf firstBroken rule1 rule2 rule3 rule4 rule5 rule6 rule7Over rule7 rule8 verdictWanted rule9 rule10 removesAbsent rule11 rule12 rule13 imageRules requestRules standingRules resultRules roomRules setBroken apply applyAll after run leftover entryStores tailTo tailOn fitsTail putPlan changePlan setPlan storesOf imageAfter emptyStore setRate ascii digit hexOf leading decimalOf field summaryLine keyText entryLine valueLine valueLines refusedLine storeText varlistText rateStore
 rate-text = refl
 
 none-text : varlistText [] ≡ ascii "refused 1\n"
