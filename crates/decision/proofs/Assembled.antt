@@ -135,16 +135,16 @@ module _ (s : Session) (q : Request) (r : List ℕ) (sounds : sound r ≡ true) 
 
   -- rules 7 to 10
   pub standing-here : firstBroken (standingRules s q vs)
-      ≡ firstBroken (standingBy (atRuntime s) (q .attributes) (q .bytes) old ++ verdictBy r old wanted (q .verdict) (stampOf (q .attributes) (q .bytes)))
+      ≡ firstBroken (standingBy (atRuntime s) (q .attributes) (q .bytes) old ++ verdictBy r old (q .attributes) wanted (q .verdict) (stampOf (q .attributes) (q .bytes)))
   unfolding standingRules standingBy verdictBy rule7 rule10 verdictWanted
   standing-here =
       let seven : rule7 s q vs ≡ onFound old (λ at e. rule7Of (atRuntime s) (q .attributes) (e .attributes)) false =
       ap (λ (o : Option Value). onSome o (rule7Over s q) false) (sym value) ∙ standing-numbers r q s old in
       let nine : rule9 s q vs ≡ rule9Of wanted (q .verdict) = rule9-plain s q vs ∙ ap (λ (w : List ℕ). rule9Of w (q .verdict)) wanted-here in
-      let ten : rule8 q ≡ false → rule10 s q vs ≡ (not (isEmpty wanted) && notLater r old (stampOf (q .attributes) (q .bytes))) =
-      (λ k. ap₂ (λ (w : List ℕ) (t : Bool). not (isEmpty w) && t) wanted-here (later-here k)) in
+      let ten : rule8 q ≡ false → rule10 s q vs ≡ (not (appends (q .attributes)) && not (isEmpty wanted) && notLater r old (stampOf (q .attributes) (q .bytes))) =
+      (λ k. ap₂ (λ (w : List ℕ) (t : Bool). not (appends (q .attributes)) && not (isEmpty w) && t) wanted-here (later-here k)) in
       later-broken ((Standing, rule7 s q vs) ∷ (Descriptor, rule8 q) ∷ (Verdict, rule9 s q vs) ∷ []) Stamp (rule10 s q vs)
-      (not (isEmpty wanted) && notLater r old (stampOf (q .attributes) (q .bytes))) (λ k. ten (unbroken _ 8 k))
+      (not (appends (q .attributes)) && not (isEmpty wanted) && notLater r old (stampOf (q .attributes) (q .bytes))) (λ k. ten (unbroken _ 8 k))
       ∙ rw (seven, rule8-plain q, nine)
 
   -- rules 11 to 13, and the change
@@ -191,7 +191,7 @@ module _ (s : Session) (q : Request) (r : List ℕ) (sounds : sound r ≡ true) 
   -- all rules, and the change
   pub decision-here : decisionOf s q (length r) vs
       ≡ decided (firstBroken (requestRules s q))
-      (decided (firstBroken (standingBy (atRuntime s) (q .attributes) (q .bytes) old ++ verdictBy r old wanted (q .verdict) (stampOf (q .attributes) (q .bytes))))
+      (decided (firstBroken (standingBy (atRuntime s) (q .attributes) (q .bytes) old ++ verdictBy r old (q .attributes) wanted (q .verdict) (stampOf (q .attributes) (q .bytes))))
       (outcomeBy r old (reserved s) (length (q .name)) (q .attributes) proper))
   unfolding decisionOf
   decision-here =
@@ -212,11 +212,11 @@ module _ (s : Session) (q : Request) (r : List ℕ) (sounds : sound r ≡ true) 
 
   module _ (kept : firstBroken (requestRules s q) ≡ none) where
     pub standing-broken : (rule : Rule)
-        → firstBroken (standingBy (atRuntime s) (q .attributes) (q .bytes) old ++ verdictBy r old wanted (q .verdict) (stampOf (q .attributes) (q .bytes))) ≡ some rule
+        → firstBroken (standingBy (atRuntime s) (q .attributes) (q .bytes) old ++ verdictBy r old (q .attributes) wanted (q .verdict) (stampOf (q .attributes) (q .bytes))) ≡ some rule
         → decisionOf s q (length r) vs ≡ Broken rule
     standing-broken rule a = decision-here ∙ rw (kept, a)
 
     pub none-broken :
-        firstBroken (standingBy (atRuntime s) (q .attributes) (q .bytes) old ++ verdictBy r old wanted (q .verdict) (stampOf (q .attributes) (q .bytes))) ≡ none
+        firstBroken (standingBy (atRuntime s) (q .attributes) (q .bytes) old ++ verdictBy r old (q .attributes) wanted (q .verdict) (stampOf (q .attributes) (q .bytes))) ≡ none
         → decisionOf s q (length r) vs ≡ outcomeBy r old (reserved s) (length (q .name)) (q .attributes) proper
     none-broken a = decision-here ∙ rw (kept, a)

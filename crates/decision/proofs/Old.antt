@@ -7,11 +7,10 @@ use mathlib.Core.Path.{_≡_, refl, sym, ap, _∙_}
 use mathlib.Core.Bool.{true}
 use mathlib.Core.List.{List}
 use mathlib.Core.Option.{Option, none, some}
-use lib.ListN.{length, drop, length-take, length-drop}
-use lib.Seq.{take-all}
-use Rattle.model.specs.Lists.{isSome, onSome, part}
+use lib.ListN.{length}
+use Rattle.model.specs.Lists.{isSome, onSome}
 use Rattle.model.specs.Name.{Key}
-use Rattle.model.specs.Entry.{headerSize, headerFields}
+use Rattle.model.specs.Entry.{headerFields}
 use Rattle.model.specs.Walk as walk
 use Rattle.model.specs.Region.{sound, entries, values, standing, find}
 use Rattle.model.specs.Request.{keyPK, userMode}
@@ -25,7 +24,7 @@ use Rattle.values.specs.declared.Found.the-variants.{At, Nothing}
 use Rattle.values.proofs.Sizes.{lengths}
 use Rattle.values.proofs.Stands.{standing-stands, nothing-first}
 use Rattle.policy.specs.Descriptor.{stampIn}
-use Rattle.policy.proofs.Descriptor.{stamp-whole}
+use Rattle.policy.proofs.Descriptor.{stamp-held}
 use Rattle.decision.specs.Parts.{valueAt, stands, oldSpace}
 
 pub stands-some : (r : List ℕ) (old : Found) → stands old ≡ isSome (valueAt r old)
@@ -60,11 +59,7 @@ module _ (r : List ℕ) (sounds : sound r ≡ true) where
 -- the stamp that is read of the entry that stands is its value's
 pub stamp-read : (r : List ℕ) (k : Key) (at : ℕ) (e : numbers.Entry) → At at e ≡ foundOf (standing k (entries r)) → stampIn (stampAt r at) ≡ stampAt r at
 unfolding stampAt headerFields
-stamp-read r k at e h =
-    let fits : at + headerSize ≤ length r = standing-stands r k at e (sym h) .fits in
-    let long : 16 ≤ length (part 16 16 (drop at r)) = simp (length-take, length-drop) (omega arith) in
-    let short : length (part 16 16 (drop at r)) ≤ 16 = simp (length-take, length-drop) (omega arith) in
-    stamp-whole (part 16 16 (drop at r)) long ∙ take-all 16 (part 16 16 (drop at r)) short
+stamp-read r k at e h = stamp-held r at (standing-stands r k at e (sym h) .fits)
 
 -- an entry takes no more than the region and its header
 pub old-least : (r : List ℕ) (old : Found) → oldSpace r old ≤ length r + 63

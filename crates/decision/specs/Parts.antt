@@ -53,10 +53,12 @@ standingBy runtime a bytes old =
 unfoldable pub notLater : List ℕ → Found → List ℕ → Bool
 notLater r old stamp = onFound old (λ at e. not (later stamp (stampIn (stampAt r at)))) false
 
--- rules 9 and 10, by what stands, the verdicts of which one is wanted, the verdict given and the stamp
-unfoldable pub verdictBy : List ℕ → Found → List ℕ → ℕ → List ℕ → List (Rule × Bool)
-verdictBy r old wanted verdict stamp =
-    (Verdict, rule9Of wanted verdict) ∷ (Stamp, not (isEmpty wanted) && notLater r old stamp) ∷ []
+-- rules 9 and 10, by what stands, attributes, the verdicts of which one is wanted, the verdict given and the stamp; 10 does not concern appends
+unfoldable pub verdictBy : List ℕ → Found → ℕ → List ℕ → ℕ → List ℕ → List (Rule × Bool)
+verdictBy r old a wanted verdict stamp =
+    (Verdict, rule9Of wanted verdict)
+    ∷ (Stamp, not (appends a) && not (isEmpty wanted) && notLater r old stamp)
+    ∷ []
 
 -- the value that stands is equal
 unfoldable pub equalBy : List ℕ → Found → ℕ → List ℕ → Bool

@@ -57,7 +57,7 @@ fn judge_standing(
     verdict: u32,
 ) -> Judged
     ensures { λ r. ⌜ r ≡ judgedOf (firstBroken (standingBy (atRuntime s) attributes (now (bytes .entry)) old
-        ++ verdictBy (now (region .entry)) old
+        ++ verdictBy (now (region .entry)) old attributes
         (wantedBy (s .setup .custom) presence (isSome (standing keyPK (entries (now (region .entry)))))
         (keyed (now (name .entry)) (now (vendor .entry))) attributes (stands old))
         verdict (stampOf attributes (now (bytes .entry))))) ⌝ }
@@ -75,7 +75,7 @@ fn judge_standing(
                 change::stands(old),
             );
             let stamp = policy::stamp(attributes, bytes);
-            rules::verdict(region, old, w, verdict, &stamp)
+            rules::verdict(region, old, attributes, w, verdict, &stamp)
         }
         Judged::Breaks(_) => t,
     }

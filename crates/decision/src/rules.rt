@@ -113,12 +113,22 @@ fn not_later(region: &[u8], old: Found, stamp: &[u8; 16]) -> bool
     }
 }
 
-// Rules 9 and 10.
-pub fn verdict(region: &[u8], old: Found, wanted: Wanted, given: u32, stamp: &[u8; 16]) -> Judged
-    ensures { λ r. ⌜ r ≡ judgedOf (firstBroken (verdictBy (now (region .entry)) old (verdictsOf wanted) given (now (stamp .entry)))) ⌝ }
+// Rules 9 and 10; an append may carry any stamp.
+pub fn verdict(
+    region: &[u8],
+    old: Found,
+    attributes: u32,
+    wanted: Wanted,
+    given: u32,
+    stamp: &[u8; 16],
+) -> Judged
+    ensures { λ r. ⌜ r ≡ judgedOf (firstBroken (verdictBy (now (region .entry)) old attributes (verdictsOf wanted) given (now (stamp .entry)))) ⌝ }
 {
     if policy::verdict_broken(wanted, given) {
         return Judged::Breaks(Rule::Verdict);
+    }
+    if policy::appends(attributes) {
+        return Judged::Kept;
     }
     if policy::verdict_wanted(wanted) {
         if not_later(region, old, stamp) {

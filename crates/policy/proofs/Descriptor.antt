@@ -132,3 +132,10 @@ unfolding stampIn
 stamp-whole bytes h =
     let n : stampSize ≤ length (take stampSize bytes) = rw length-take (omega arith) in
     take-append-le stampSize (take stampSize bytes) noStamp n ∙ take-take stampSize stampSize bytes (omega arith)
+
+-- a header has a whole stamp
+pub stamp-held : (r : List ℕ) (at : ℕ) → at + 60 ≤ length r → stampIn (part 16 16 (drop at r)) ≡ part 16 16 (drop at r)
+stamp-held r at h =
+    let long : 16 ≤ length (part 16 16 (drop at r)) = simp (length-take, length-drop) (omega arith) in
+    let short : length (part 16 16 (drop at r)) ≤ 16 = simp (length-take, length-drop) (omega arith) in
+    stamp-whole (part 16 16 (drop at r)) long ∙ take-all 16 (part 16 16 (drop at r)) short

@@ -8,6 +8,7 @@ ghost use Rattle.model.specs.Lists.{among, isEmpty};
 ghost use Rattle.model.specs.Name.{keyed};
 ghost use Rattle.model.specs.Region.{storedAttributes};
 ghost use Rattle.model.specs.Request.{runtimeAccess, timeBased, appends, withoutAppend, rightDescriptor, later, keyVerdicts};
+ghost use Rattle.model.specs.Change.{laterOf};
 ghost use Rattle.policy.specs.Rules.{rule4Of, rule5Of, unlikeStored, rule7Of, rule8Of};
 ghost use Rattle.policy.specs.Descriptor.{properOf, noStamp, stampIn, stampOf, rightSize, rightKind};
 ghost use Rattle.policy.specs.Verdict.{verdictsOf, inPerson, otherVerdictsOf, rule9Of};
@@ -223,6 +224,16 @@ pub fn later(a: &[u8; 16], b: &[u8; 16]) -> bool
         i += 1;
     }
     false
+}
+
+// The later of two stamps, the old one if neither is later.
+pub fn later_of(given: &[u8; 16], old: &[u8; 16]) -> [u8; 16]
+    ensures { λ r. ⌜ r ≡ laterOf (now (given .entry)) (now (old .entry)) ⌝ }
+{
+    if later(given, old) {
+        return *given;
+    }
+    *old
 }
 
 // Key names want no verdict in custom mode with presence: both are needed.

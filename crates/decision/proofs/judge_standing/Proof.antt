@@ -51,10 +51,10 @@ returns c =
     let k = keyed (now (a .name)) (now (a .vendor)) in
     let wanted : Bool → List ℕ = λ t. wantedBy (a .s .setup .custom) (a .presence) (isSome (standing keyPK (entries r))) k (a .attributes) t in
     let front = standingBy (atRuntime (a .s)) (a .attributes) (now (a .bytes)) (a .old) in
-    let back = verdictBy r (a .old) (wanted (stands (a .old))) (a .verdict) (stampOf (a .attributes) (now (a .bytes))) in
+    let back = verdictBy r (a .old) (a .attributes) (wanted (stands (a .old))) (a .verdict) (stampOf (a .attributes) (now (a .bytes))) in
     let same = ap (λ (t : Bool). judgedOf (firstBroken (standingBy t (a .attributes) (now (a .bytes)) (a .old)))) (runtime-phase (a .s) ∙ sym (c .before .before .before .before .before .before .before .before .at-runtime .ensures)) in
     c .verdict .ensures
-    ∙ ap₂ (λ (w t : List ℕ). judgedOf (firstBroken (verdictBy r (a .old) w (a .verdict) t))) (c .before .before .before .wanted .ensures ∙ ap wanted (c .before .before .before .before .stands .ensures)) (c .before .before .stamp .ensures)
+    ∙ ap₂ (λ (w t : List ℕ). judgedOf (firstBroken (verdictBy r (a .old) (a .attributes) w (a .verdict) t))) (c .before .before .before .wanted .ensures ∙ ap wanted (c .before .before .before .before .stands .ensures)) (c .before .before .stamp .ensures)
     ∙ sym (after-kept front back (same ∙ sym (c .before .before .before .before .before .before .before .standing .ensures) ∙ c .before .before .before .before .before .enum-told .given .1))
 
 returns-2 : tie.Need-returns-2
@@ -63,7 +63,7 @@ returns-2 c =
     let r = now (a .region) in
     let k = keyed (now (a .name)) (now (a .vendor)) in
     let front = standingBy (atRuntime (a .s)) (a .attributes) (now (a .bytes)) (a .old) in
-    let back = verdictBy r (a .old) (wantedBy (a .s .setup .custom) (a .presence) (isSome (standing keyPK (entries r))) k (a .attributes) (stands (a .old))) (a .verdict) (stampOf (a .attributes) (now (a .bytes))) in
+    let back = verdictBy r (a .old) (a .attributes) (wantedBy (a .s .setup .custom) (a .presence) (isSome (standing keyPK (entries r))) k (a .attributes) (stands (a .old))) (a .verdict) (stampOf (a .attributes) (now (a .bytes))) in
     let same = ap (λ (t : Bool). judgedOf (firstBroken (standingBy t (a .attributes) (now (a .bytes)) (a .old)))) (runtime-phase (a .s) ∙ sym (c .before .before .before .at-runtime .ensures)) in
     let told = c .enum-told2 .given in
     told .1 ∙ sym (after-breaks front back (told .0 .0) (same ∙ sym (c .before .before .standing .ensures) ∙ told .1))

@@ -13,23 +13,30 @@ returns : tie.Need-returns
 unfolding verdictBy firstBroken
 returns c = rw (sym (c .before .verdict-broken .ensures) ∙ c .if1 .taken)
 
+appends-requires : tie.Need-appends-requires
+appends-requires c κs = search needs
+
+returns-2 : tie.Need-returns-2
+unfolding verdictBy firstBroken
+returns-2 c = rw (sym (c .before .before .before .verdict-broken .ensures) ∙ c .before .before .if1 .left, sym (c .before .appends .ensures) ∙ c .if2 .taken)
+
 verdict-wanted-requires : tie.Need-verdict-wanted-requires
 verdict-wanted-requires c κs = search needs
 
 not-later-requires : tie.Need-not-later-requires
 not-later-requires c κs = search needs
 
-returns-2 : tie.Need-returns-2
-unfolding verdictBy firstBroken
-returns-2 c = rw (sym (c .before .before .before .before .before .verdict-broken .ensures) ∙ c .before .before .before .before .if1 .left, sym (c .before .before .before .verdict-wanted .ensures) ∙ c .before .before .if2 .taken, sym (c .before .not-later .ensures) ∙ c .if3 .taken)
-
 returns-3 : tie.Need-returns-3
 unfolding verdictBy firstBroken
-returns-3 c = rw (sym (c .before .before .before .before .before .verdict-broken .ensures) ∙ c .before .before .before .before .if1 .left, sym (c .before .before .before .verdict-wanted .ensures) ∙ c .before .before .if2 .taken, sym (c .before .not-later .ensures) ∙ c .if3 .left)
+returns-3 c = rw (sym (c .before .before .before .before .before .before .before .verdict-broken .ensures) ∙ c .before .before .before .before .before .before .if1 .left, sym (c .before .before .before .before .before .appends .ensures) ∙ c .before .before .before .before .if2 .left, sym (c .before .before .before .verdict-wanted .ensures) ∙ c .before .before .if3 .taken, sym (c .before .not-later .ensures) ∙ c .if4 .taken)
 
 returns-4 : tie.Need-returns-4
 unfolding verdictBy firstBroken
-returns-4 c = rw (sym (c .before .before .before .verdict-broken .ensures) ∙ c .before .before .if1 .left, sym (c .before .verdict-wanted .ensures) ∙ c .if2 .left)
+returns-4 c = rw (sym (c .before .before .before .before .before .before .before .verdict-broken .ensures) ∙ c .before .before .before .before .before .before .if1 .left, sym (c .before .before .before .before .before .appends .ensures) ∙ c .before .before .before .before .if2 .left, sym (c .before .before .before .verdict-wanted .ensures) ∙ c .before .before .if3 .taken, sym (c .before .not-later .ensures) ∙ c .if4 .left)
+
+returns-5 : tie.Need-returns-5
+unfolding verdictBy firstBroken
+returns-5 c = rw (sym (c .before .before .before .before .before .verdict-broken .ensures) ∙ c .before .before .before .before .if1 .left, sym (c .before .before .before .appends .ensures) ∙ c .before .before .if2 .left, sym (c .before .verdict-wanted .ensures) ∙ c .if3 .left)
 
 pub verdict-spec : {M : Type 1} → statement M
 verdict-spec =
@@ -37,8 +44,10 @@ verdict-spec =
     (tie.spec
     verdict-broken-requires
     returns
+    appends-requires
+    returns-2
     verdict-wanted-requires
     not-later-requires
-    returns-2
     returns-3
-    returns-4)
+    returns-4
+    returns-5)
