@@ -1,7 +1,7 @@
 -- The value that a put stores, and what the checks of the call leave to it.
 use Prim.Native.Nat.{ℕ, _≤_}
 use mathlib.Core.Path.{_≡_}
-use mathlib.Core.Bool.{true}
+use mathlib.Core.Bool.{true, cond, _&&_}
 use mathlib.Core.List.{List, [], _++_}
 use lib.ListN.{length}
 use Rattle.model.specs.Lists.{onSome}
@@ -9,15 +9,19 @@ use Rattle.model.specs.Name.{keyed}
 use Rattle.model.specs.Image.{regionSize, region}
 use Rattle.model.specs.Entry.{Value, keyOf}
 use Rattle.model.specs.Region.{entries, valuesOf, added, replacing, find}
-use Rattle.model.specs.Request.{Request}
-use Rattle.model.specs.Change.{put, newValue, step, spaceOf}
+use Rattle.model.specs.Request.{Request, timeBased, appends}
+use Rattle.model.specs.Change.{put, laterOf, newValue, step, spaceOf}
 use Rattle.model.specs.Set.{fitsTail, putPlan}
 use Rattle.model.specs.Answers.{storesOf}
 use Rattle.model.specs.Book.{ClearsOne, isState, isRecord}
 use Rattle.model.specs.Beside.{Valid}
+use Rattle.region.specs.Walk.{stampAt}
+use Rattle.values.specs.declared.Found.{Found}
+use Rattle.values.specs.declared.Found.the-variants.{At, Nothing}
 use Rattle.values.specs.Found.{foundOf}
 use Rattle.values.specs.declared.Places.{Places}
 use Rattle.image.specs.Check.{IsReady}
+use Rattle.policy.specs.Descriptor.{stampIn}
 use Rattle.plan.specs.declared.Planned.{Planned}
 use Rattle.plan.specs.Plan.{Ready}
 use Rattle.plan.specs.Planned.{plannedAs, decidesRight}
@@ -40,6 +44,15 @@ valueToPut img name vendor attributes bytes =
 -- "Append joins the data": those of the name's value, then those given
 unfoldable pub appended : List ℕ → List ℕ → List ℕ → List ℕ → List ℕ
 appended img name vendor own = onSome (find (keyed name vendor) (valuesOf img)) (λ v. v .bytes) [] ++ own
+
+-- the stamp given over that of the value found, if any: the later of the two
+unfoldable pub stampOver : List ℕ → Found → List ℕ → List ℕ
+stampOver r (At at e) given = laterOf given (stampIn (stampAt r at))
+stampOver r Nothing given = given
+
+-- the stamp that a set stores, by what stands, attributes and the one given: an append's with 0x20 is the later of the two
+unfoldable pub stampKept : List ℕ → Found → ℕ → List ℕ → List ℕ
+stampKept r old a given = cond (appends a && timeBased a) (stampOver r old given) given
 
 -- before a value is put: the image is ready, of b blocks and with its tail at an offset, the places are those of the name's entries, and the value is one that a
 -- region can hold (a GUID is 16 bytes by its type) and has room beside the others

@@ -14,9 +14,11 @@ ghost use Rattle.values.specs.Found.{elseFound};
 ghost use Rattle.output.specs.Text.{Wrote};
 ghost use Rattle.compose.specs.Compose.{oldData};
 ghost use Rattle.policy.specs.Rules.{rule8Of};
-ghost use Rattle.change.specs.Asked.{valued, valueToPut, Asked, PutPlanned};
+ghost use Rattle.change.specs.Asked.{valued, valueToPut, stampOver, stampKept, Asked, PutPlanned};
 use plan::Planned;
 use plan::Step;
+use region::walk;
+use values::Found;
 use values::Places;
 use values::lookup;
 
@@ -35,6 +37,31 @@ fn kept_data(region: &[u8], places: Places, attributes: u32) -> &[u8]
         return compose::old_data(region, lookup::standing(places));
     }
     &region[..0]
+}
+
+// The stamp given, over that of the value that stands: the later of the two.
+fn stamp_over(region: &[u8], standing: Found, given: &[u8; 16]) -> [u8; 16]
+    ensures { λ r. ⌜ r ≡ stampOver (now (region .entry)) standing (now (given .entry)) ⌝ }
+{
+    match standing {
+        Found::At(at, _) => {
+            let old = policy::stamp_in(walk::stamp_of(region, at));
+            policy::later_of(given, &old)
+        }
+        Found::Nothing => *given,
+    }
+}
+
+// The stamp to store: of an append with 0x20 the later of the two, of any other set the one given.
+fn kept_stamp(region: &[u8], places: Places, asked: u32, given: &[u8; 16]) -> [u8; 16]
+    ensures { λ r. ⌜ r ≡ stampKept (now (region .entry)) (elseFound (places .added) (places .replacing)) asked (now (given .entry)) ⌝ }
+{
+    if policy::appends(asked) {
+        if policy::time_based(asked) {
+            return stamp_over(region, lookup::standing(places), given);
+        }
+    }
+    *given
 }
 
 // The front of the region after the change: its header and the values in flash order, the changed one last.
@@ -176,7 +203,7 @@ fn put_value(
     )
 }
 
-// The plan of the value that a set asks for: with the descriptor's stamp, without 0x40, an append's data behind the old.
+// The plan of the value that a set asks for: without 0x40; an append's data behind the old, with the later stamp.
 pub fn put(
     image: &[u8],
     standing: Standing,
@@ -193,15 +220,13 @@ pub fn put(
         ⌜ PutPlanned (now (image .entry)) (valueToPut (now (image .entry)) (now (name .entry)) (now (vendor .entry)) attributes (now (bytes .entry)))
         (now (content .exit)) r ⌝ }
 {
-    let stamp = policy::stamp(attributes, bytes);
+    let given = policy::stamp(attributes, bytes);
     let kept = policy::without_append(attributes);
     let own = policy::proper(attributes, bytes);
     let places = standing.places;
-    let old = kept_data(
-        slices::cut(image, 0, layout::BLOCK * standing.b),
-        places,
-        attributes,
-    );
+    let region = slices::cut(image, 0, layout::BLOCK * standing.b);
+    let old = kept_data(region, places, attributes);
+    let stamp = kept_stamp(region, places, attributes, &given);
     put_value(
         image,
         standing,

@@ -23,18 +23,21 @@ cut-requires c κs = search needs
 kept-data-requires : tie.Need-kept-data-requires
 kept-data-requires c κs = search needs
 
+kept-stamp-requires : tie.Need-kept-stamp-requires
+kept-stamp-requires c κs = search needs
+
 put-value-requires : tie.Need-put-value-requires
 put-value-requires c κs =
-    let pre = c .before .before .before .before .before .before .before .before .before .before .before .before .before .pre in
-    (asked-as (value-kept _ _ _ _ _ (pre .1) (c .before .before .before .before .before .before .before .without-append .ensures) (c .before .before .before .before .before .before .before .before .stamp .ensures) (c .before .before .before .before .before .before .proper .ensures) (pre .0) (c .before .before .before .cut .ensures) (c .before .before .kept-data .ensures)) (pre .0), pre .2)
+    let pre = c .before .before .before .before .before .before .before .before .before .before .before .before .before .before .before .pre in
+    (asked-as (value-kept _ _ _ _ _ (pre .1) (c .before .before .before .before .before .before .before .before .before .without-append .ensures) (c .before .before .before .before .before .before .before .before .before .before .stamp .ensures) (c .before .before .before .before .before .before .before .before .proper .ensures) (pre .0) (c .before .before .before .before .before .cut .ensures) (c .before .before .before .before .kept-data .ensures) (c .before .before .kept-stamp .ensures)) (pre .0), pre .2)
 
 same-length : tie.Need-same-length
 same-length c = search needs
 
 returns : tie.Need-returns
 returns c =
-    let pre = c .before .before .before .before .before .before .before .before .before .before .before .before .before .before .before .before .pre in
-    planned-as (value-kept _ _ _ _ _ (pre .1) (c .before .before .before .before .before .before .before .before .before .before .without-append .ensures) (c .before .before .before .before .before .before .before .before .before .before .before .stamp .ensures) (c .before .before .before .before .before .before .before .before .before .proper .ensures) (pre .0) (c .before .before .before .before .before .before .cut .ensures) (c .before .before .before .before .before .kept-data .ensures)) (c .before .before .put-value .ensures)
+    let pre = c .before .before .before .before .before .before .before .before .before .before .before .before .before .before .before .before .before .before .pre in
+    planned-as (value-kept _ _ _ _ _ (pre .1) (c .before .before .before .before .before .before .before .before .before .before .before .before .without-append .ensures) (c .before .before .before .before .before .before .before .before .before .before .before .before .before .stamp .ensures) (c .before .before .before .before .before .before .before .before .before .before .before .proper .ensures) (pre .0) (c .before .before .before .before .before .before .before .before .cut .ensures) (c .before .before .before .before .before .before .before .kept-data .ensures) (c .before .before .before .before .before .kept-stamp .ensures)) (c .before .before .put-value .ensures)
 
 pub put-spec : {M : Type 1} → statement M
 put-spec =
@@ -46,6 +49,7 @@ put-spec =
     mul-cut
     cut-requires
     kept-data-requires
+    kept-stamp-requires
     put-value-requires
     same-length
     returns)

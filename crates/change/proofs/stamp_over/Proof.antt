@@ -1,0 +1,50 @@
+-- `change::stamp_over` meets its contract: the stamp given is held against that of the entry found. Assumes nothing.
+use mathlib.Core.Path.{sym, ap, _∙_}
+use denote.Ref.{now}
+use Rattle.model.specs.Change.{laterOf}
+use Rattle.values.specs.declared.Found.{Found}
+use Rattle.policy.specs.Descriptor.{stampIn}
+use Rattle.change.specs.Asked.{stampOver}
+use borrow.Author.Needs.{needs}
+use Rattle.change.proofs.stamp_over.Statement.{statement}
+use Rattle.change.proofs.stamp_over.Tie as tie
+
+enum-known-standing : tie.Need-enum-known-standing
+enum-known-standing c = search needs
+
+stamp-of-requires : tie.Need-stamp-of-requires
+stamp-of-requires c κs = search needs
+
+stamp-in-requires : tie.Need-stamp-in-requires
+stamp-in-requires c κs = search needs
+
+later-of-requires : tie.Need-later-of-requires
+later-of-requires c κs = search needs
+
+enum-told : tie.Need-enum-told
+enum-told c = search needs
+
+returns : tie.Need-returns
+unfolding stampOver
+returns c =
+    let a = c .before .before .before .before .before .before .before .before .args in
+    let old = c .before .before .stamp-in .ensures ∙ ap stampIn (c .before .before .before .stamp-of .ensures) in
+    c .later-of .ensures
+    ∙ ap (laterOf (now (a .given))) old
+    ∙ sym (ap (λ (f : Found). stampOver (now (a .region)) f (now (a .given))) (c .before .before .before .before .before .standing .given .1))
+
+returns-2 : tie.Need-returns-2
+unfolding stampOver
+returns-2 c = rw (c .before .enum-told .given .1)
+
+pub stamp-over-spec : {M : Type 1} → statement M
+stamp-over-spec =
+    tie.close
+    (tie.spec
+    enum-known-standing
+    stamp-of-requires
+    stamp-in-requires
+    later-of-requires
+    enum-told
+    returns
+    returns-2)
