@@ -17,7 +17,7 @@ use Rattle.model.specs.Entry.{Value}
 use Rattle.model.specs.Walk as walk
 use Rattle.model.specs.Region.{entries, sound, values, valuesOf, added, replacing, standing, find}
 use Rattle.model.specs.Request.{Request, requestKey, dataProper, stampToStore}
-use Rattle.model.specs.Change.{Change, nothing, remove, put, changeIn, newData, newValue}
+use Rattle.model.specs.Change.{Change, nothing, remove, put, changeIn, newData, newStamp, newValue}
 use Rattle.model.specs.Rules.{firstBroken, imageRules, requestRules, standingRules, resultRules, roomRules, rule8, setBroken}
 use Rattle.model.specs.Stores.{Store, Bytes}
 use Rattle.model.specs.Set.{Plan, refuse, make, fitsTail, deleteTo, putPlan, changePlan, setPlan}
@@ -168,7 +168,7 @@ module _ (s : Session) (name vendor : List ℕ) (a : ℕ) (bytes : List ℕ) (pr
   -- ---- a put
 
   new-plain : newValue q (find (keyed name vendor) (valuesOf img)) ≡ valueToPut img name vendor a bytes
-  unfolding valueToPut newValue newData dataProper stampToStore
+  unfolding valueToPut newValue newData newStamp dataProper stampToStore
   new-plain = refl
 
   asked-change : what ≡ decision.Put → changeIn q (valuesOf img) ≡ put (valueToPut img name vendor a bytes)
