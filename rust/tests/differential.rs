@@ -12,11 +12,12 @@ use std::collections::BTreeMap;
 use common::cuts::places;
 use common::generate::{self, Asked, Name, BLOCK};
 use common::random::Random;
-use common::same_bytes;
 use common::stored::{carry_out, Call};
+use common::{same_bytes, stamped};
 use varstore::calls::{Read, ENGINE, PAPER};
 use varstore::interface::{Answer, Context, Reply, Session, Setup};
 use varstore::paper;
+use varstore::paper::request::{DB, KEK};
 use varstore::plan::{Content, Operation, Plan};
 
 /// What a call finds in its content: nothing that it may rely on.
@@ -389,6 +390,42 @@ fn descriptors_at_each_field() {
         try_data(data);
     }
     expect_seen(&tally, "set", &["done", "refused 8", "refused 11"]);
+}
+
+/// Appends over stored stamps that differ from the one given in each byte, the nine that are not compared among them: 02 (b) tells which is stored.
+#[test]
+fn appends_at_each_byte_of_a_stamp() {
+    let mut tally = Tally::new();
+    let middle: [u8; 16] = [0x80; 16];
+    let names = [(*DB.vendor, DB.name), (*KEK.vendor, KEK.name), ([7; 16], &b"S\0\0\0"[..])];
+    for (vendor, name) in names {
+        for custom in [0, 1] {
+            let setup = Setup { custom, reserve: 0 };
+            let mut pair = Pair { image: generate::empty(1), session: (PAPER.session_new)(setup), tally: &mut tally };
+            let name = Name { name: name.to_vec(), vendor };
+            let mut given = [0; 16];
+            given[..7].copy_from_slice(&middle[..7]);
+            let mut asked = Asked { name, attributes: 0x27, data: stamped(&given, &[1]), presence: 1, verdict: 3 };
+            pair.set(&asked, u64::MAX);
+            let before = pair.image.clone();
+            asked.verdict = 4;
+            for (at, byte) in (0..16).flat_map(|at| [0x7F, 0x80, 0x81].map(|byte| (at, byte))) {
+                for (attributes, data) in [(0x67, &[2][..]), (0x67, &[]), (0x27, &[2])] {
+                    let mut stored = middle;
+                    stored[at] = byte;
+                    pair.image.copy_from_slice(&before);
+                    pair.image[28 + 16..][..16].copy_from_slice(&stored);
+                    (asked.attributes, asked.data) = (attributes, stamped(&given, data));
+                    let answer = pair.set(&asked, u64::MAX);
+                    let value = paper::region::values(&pair.image[..BLOCK]).next().expect("a value");
+                    let keeps = attributes == 0x67 && (data.is_empty() || at >= 7 || byte >= 0x80);
+                    let expected = if keeps || matches!(answer, Answer::Refused(_)) { stored } else { given };
+                    assert_eq!(*value.stamp(), expected, "{asked:?} over {stored:X?}");
+                }
+            }
+        }
+    }
+    expect_seen(&tally, "set", &["done", "done without stores", "refused 10"]);
 }
 
 /// Lengths 0 and 1, every number of blocks up to 17, and one byte less or more.

@@ -8,15 +8,16 @@ mod common;
 
 use std::collections::BTreeMap;
 
+use common::book::Value;
 use common::cuts::{begun, places, Begun, Cut, Garbage, Run, Way, START_UP};
 use common::generate::{self, Asked, Name, BLOCK};
 use common::random::Random;
 use common::rounds::{once, rounds};
 use common::stored::Call;
-use common::{same_bytes, signed, A, B, NEW, OLD, RATE, VENDOR};
+use common::{same_bytes, signed, stamped, A, AUTUMN, B, NEW, OLD, RATE, SPRING, VENDOR};
 use varstore::calls::{lent, Calls, Read, BOTH, ENGINE, PAPER};
 use varstore::interface::{Answer, Context, Key, Reply, Rule, Setup};
-use varstore::paper::request::PK;
+use varstore::paper::request::{DBX, PK};
 use varstore::paper::Stores;
 use varstore::plan::Operation;
 
@@ -142,6 +143,61 @@ fn tail_write_that_replaces() {
 #[test]
 fn tail_write_that_appends() {
     cut_everywhere(&empty(1).with(RATE, OLD).with(A, OLD), &Call::Set(asked(RATE, 0x47, NEW)), 81);
+}
+
+/// A list of revocations with a stamp, set or appended.
+fn revoked(attributes: u32, stamp: &[u8; 16], data: &[u8]) -> Call {
+    Call::Set(Asked { verdict: 2, ..asked(DBX, attributes, &stamped(stamp, data)) })
+}
+
+/// A store in user mode, with a list of revocations of that stamp.
+fn with_revocations(blocks: usize, stamp: &[u8; 16]) -> Run {
+    let mut run = empty(blocks).with(RATE, OLD);
+    run.whole(&Call::Set(asked(PK, 0x27, &signed(2024, OLD))));
+    run.whole(&revoked(0x27, stamp, OLD));
+    run
+}
+
+/// 02 (b): "A cut keeps data and stamp together": the book has both in one value, and after each cut it has the old ones or the new ones.
+#[test]
+fn tail_write_that_appends_in_either_order() {
+    for (first, second) in [(AUTUMN, SPRING), (SPRING, AUTUMN)] {
+        let run = with_revocations(1, &first).with(A, OLD);
+        let append = revoked(0x67, &second, NEW);
+        let mut after = run.clone();
+        assert_eq!(after.whole(&append), 79);
+        let (old, new) = (value(&run, DBX), value(&after, DBX));
+        assert_eq!((old.stamp, &old.data[..]), (first, OLD));
+        assert_eq!((new.stamp, new.data), (AUTUMN, [OLD, NEW].concat()));
+        cut_everywhere(&run, &append, 79);
+    }
+}
+
+/// The same where the tail is too short: at the ends of the compaction's operations and many places between them.
+#[test]
+fn compaction_that_appends_in_either_order() {
+    for (first, second) in [(AUTUMN, SPRING), (SPRING, AUTUMN)] {
+        let run = with_revocations(1, &first).with(A, &[1; 2000]).with(B, &[2; 1600]);
+        let append = revoked(0x67, &second, &[0x5A; 60]);
+        let mut after = run.clone();
+        assert_eq!(after.whole(&append), 8197);
+        assert_eq!(value(&after, DBX).stamp, AUTUMN);
+        cut_after(&run, &append, 8197, |list, r| places(list, 61, r));
+    }
+}
+
+/// An old entry that is 3E only, and one beside a leftover, give their stamps as a 3F entry does.
+#[test]
+fn tail_write_that_appends_to_a_value_being_replaced() {
+    let run = with_revocations(1, &AUTUMN);
+    let (append, again) = (revoked(0x67, &SPRING, NEW), revoked(0x67, &SPRING, OLD));
+    cut_everywhere(&run.clone().stopped(&append, 1), &again, 78);
+    cut_everywhere(&run.stopped(&append, 78), &again, 84);
+}
+
+/// What the book has of a name.
+fn value(run: &Run, key: Key) -> Value {
+    run.book.values.iter().find(|value| value.name.key() == key).expect("a value").clone()
 }
 
 /// A store in which RATE has a 3F entry, and a leftover 3E beside it.
@@ -373,6 +429,10 @@ fn cases() -> Vec<(Run, Call)> {
         (crowded(1).stopped(&compacting(), decided(1)), START_UP),
         (crowded(2).stopped(&compacting(), decided(2)), START_UP),
     ];
+    for (first, second) in [(AUTUMN, SPRING), (SPRING, AUTUMN)] {
+        cases.push((with_revocations(1, &first), revoked(0x67, &second, NEW)));
+        cases.push((with_revocations(1, &first).with(A, &[1; 2000]).with(B, &[2; 1600]), revoked(0x67, &second, &[0x5A; 60])));
+    }
     for (blocks, used) in [(1, 0), (1, 63), (1, 64), (2, 0), (2, 64), (7, 64)] {
         cases.push((crowded(blocks).recorded(used), compacting()));
     }

@@ -5,6 +5,8 @@
 //!     set name guid attrs data presence verdict n      get/next name guid buflen fill n (buffer of buflen bytes, all fill)
 //!     startup custom reserve n · format n · lock name guid · phase to · varlist
 //!
+//! A line that a request of document 02 has changed says `why`: the sentence, with `_` for a space; also where only the image is another than it was.
+//!
 //! `rle` is tokens joined by `,`, hexadecimal bytes or `hh*count`; `-` is the empty string. `varlist`'s text has `_` for a space and `|` for a line end.
 
 mod common;
@@ -28,7 +30,7 @@ struct Line<'a> {
 }
 
 /// What a line may give; every field that is not an argument is checked.
-const ARGUMENTS: &str = "op len rle off slot phase custom reserve count sizes locks name guid attrs data presence verdict n buflen fill to";
+const ARGUMENTS: &str = "why op len rle off slot phase custom reserve count sizes locks name guid attrs data presence verdict n buflen fill to";
 const EXPECTED: &str =
     "answer rule stores list deciding size attrs_out buf_sha256 text sha256 crc32 s_phase s_custom s_reserve s_count s_sizes s_locks";
 
@@ -241,10 +243,11 @@ fn varlist_program(image: &[u8]) -> String {
     String::from_utf8(output.stdout).expect("varlist prints text")
 }
 
-fn run_file(name: &str, lines: usize) {
+fn run_file(name: &str, lines: usize, changed: usize) {
     let path = Path::new(env!("CARGO_MANIFEST_DIR")).join("vectors").join(name);
     let text = std::fs::read_to_string(&path).unwrap_or_else(|error| panic!("{}: {error}", path.display()));
     assert_eq!(text.lines().count(), lines, "lines of {name}");
+    assert_eq!(text.lines().filter(|line| line.contains(" why=")).count(), changed, "lines of {name} that say why");
     for calls in BOTH {
         let mut player = Player::new(calls);
         for (index, content) in text.lines().enumerate() {
@@ -255,12 +258,18 @@ fn run_file(name: &str, lines: usize) {
 
 #[test]
 fn directed() {
-    run_file("directed.txt", 1400);
+    run_file("directed.txt", 1400, 0);
 }
 
 #[test]
 fn random() {
-    run_file("random.txt", 1101);
+    run_file("random.txt", 1101, 37);
+}
+
+/// 02 (b): appends out of order.
+#[test]
+fn appends_out_of_order() {
+    run_file("b.txt", 228, 0);
 }
 
 #[test]

@@ -2,7 +2,8 @@
 
 mod common;
 
-use common::{signed, A, B, NEW, OLD, RATE, VENDOR};
+use common::book::Book;
+use common::{signed, stamped, A, AUTUMN, B, NEW, OLD, RATE, SPRING, VENDOR};
 use varstore::calls::{lent, Calls, BOTH};
 use varstore::engine;
 use varstore::interface::{Answer, Context, Key, Reply, Request, Rule, Session, Setup, AFTER_END_OF_DXE, RUNTIME};
@@ -20,6 +21,7 @@ struct Station {
     calls: Calls,
     session: Session,
     image: Vec<u8>,
+    presence: u32,
     verdict: u32,
 }
 
@@ -28,7 +30,7 @@ fn empty_stores() -> impl Iterator<Item = Station> {
         println!("implementation: {}", calls.who);
         let mut image = vec![0; 3 * 4096];
         assert_eq!((calls.format)(Context::NO_LIMIT, &mut image), Answer::Done(31));
-        Station { calls, session: (calls.session_new)(Setup::PLAIN), image, verdict: 0 }
+        Station { calls, session: (calls.session_new)(Setup::PLAIN), image, presence: 0, verdict: 0 }
     })
 }
 
@@ -51,7 +53,7 @@ impl Station {
     }
 
     fn set_until(&mut self, limit: u64, key: Key, attributes: u32, data: &[u8]) -> Answer {
-        let request = Request { key, attributes, data, presence: 0, verdict: self.verdict };
+        let request = Request { key, attributes, data, presence: self.presence, verdict: self.verdict };
         (self.calls.set)(Context { limit }, &self.session, &mut self.image, &request)
     }
 
@@ -64,6 +66,19 @@ impl Station {
         let reply = (self.calls.get)(Context::NO_LIMIT, &self.session, &self.image, key, &mut buffer);
         buffer.truncate(reply.size as usize);
         (reply, buffer)
+    }
+
+    /// The stamp that a name's value has in the image.
+    fn stamp(&self, key: Key) -> [u8; 16] {
+        let values = Book::of(&self.image).values;
+        values.iter().find(|value| value.name.key() == key).expect("a value").stamp
+    }
+
+    /// PK is enrolled, so that the mode is user; from then on its verdict is given.
+    fn enrol(&mut self) {
+        self.verdict = 3;
+        assert_eq!(self.set(request::PK, 0x27, &stamped(&SPRING, OLD)), Answer::Done(71));
+        self.verdict = 1;
     }
 
     fn start_up(&mut self) -> Answer {
@@ -309,6 +324,85 @@ fn appended() {
         assert_eq!(station.get(RATE).1, [OLD, OLD].concat());
         assert_eq!(station.set(RATE, 0x47, &[0; 2041]), refused(12));
         assert_eq!(station.set(RATE, 0x07, &[]), Answer::Done(1));
+    });
+}
+
+/// 02 (b): "Two dbx lists signed in spring and autumn reach a station in the wrong order": the spring one is appended, and the later stamp kept. A set
+/// that does not append still meets 10, and an append still meets 9.
+#[test]
+fn appended_in_either_order() {
+    on_empty(|mut station| {
+        station.enrol();
+        for (first, second) in [(AUTUMN, SPRING), (SPRING, AUTUMN)] {
+            let mut station = station.clone();
+            assert_eq!(station.set(request::DBX, 0x27, &stamped(&first, OLD)), Answer::Done(73));
+            assert_eq!(station.set(request::DBX, 0x27, &stamped(&first, NEW)), refused(10));
+            station.verdict = 3;
+            assert_eq!(station.set(request::DBX, 0x67, &stamped(&second, NEW)), refused(9));
+            station.verdict = 2;
+            assert_eq!(station.set(request::DBX, 0x67, &stamped(&second, NEW)), Answer::Done(79));
+            assert_eq!((station.get(request::DBX).1, station.stamp(request::DBX)), ([OLD, NEW].concat(), AUTUMN));
+            assert_eq!(station.set(request::DBX, 0x27, &stamped(&AUTUMN, OLD)), refused(10));
+        }
+    });
+}
+
+/// 02 (b): "the old one if neither is later": its sixteen bytes, of which another writer may have left others than zeros behind the second.
+#[test]
+fn appended_with_an_equal_stamp() {
+    on_empty(|mut station| {
+        let foreign = [&AUTUMN[..7], &[0xEE; 9]].concat();
+        assert_eq!(station.set(request::KEK, 0x27, &stamped(&AUTUMN, OLD)), Answer::Done(73));
+        station.image[28 + 16..][..16].copy_from_slice(&foreign);
+        for (stamp, stores) in [(AUTUMN, 79), (SPRING, 83)] {
+            assert_eq!(station.set(request::KEK, 0x67, &stamped(&stamp, NEW)), Answer::Done(stores));
+            assert_eq!(station.stamp(request::KEK)[..], foreign[..]);
+        }
+        let mut later = AUTUMN;
+        later[6] = 1;
+        assert_eq!(station.set(request::KEK, 0x67, &stamped(&later, NEW)), Answer::Done(87));
+        assert_eq!((station.get(request::KEK).1, station.stamp(request::KEK)), ([OLD, NEW, NEW, NEW].concat(), later));
+    });
+}
+
+/// 02 (b): "with 0x20 the stored stamp becomes the later of the two", also where no verdict is wanted: in setup mode, and in custom mode with presence.
+/// Without 0x40 it is the set's own, as in 01.
+#[test]
+fn appended_where_no_verdict_is_wanted() {
+    on_empty(|mut station| {
+        let append_and_set = |station: &mut Station| {
+            assert_eq!(station.set(request::DB, 0x27, &stamped(&AUTUMN, OLD)), Answer::Done(71));
+            assert_eq!(station.set(request::DB, 0x67, &stamped(&SPRING, NEW)), Answer::Done(77));
+            assert_eq!((station.get(request::DB).1, station.stamp(request::DB)), ([OLD, NEW].concat(), AUTUMN));
+            assert_eq!(station.set(request::DB, 0x27, &stamped(&SPRING, NEW)), Answer::Done(73));
+            assert_eq!(station.stamp(request::DB), SPRING);
+        };
+        append_and_set(&mut station.clone());
+        station.enrol();
+        (station.verdict, station.session.setup.custom, station.presence) = (0, 1, 1);
+        append_and_set(&mut station);
+    });
+}
+
+/// 02 (b): "an empty append still changes nothing", whatever its stamp. Where no value stands there are no two stamps: a creating append stores its own.
+/// Without 0x20 the stamp is zeros, also over another writer's.
+#[test]
+fn appended_nothing_and_to_nothing() {
+    on_empty(|mut station| {
+        station.verdict = 3;
+        assert_eq!(station.set(RATE, 0x67, &stamped(&SPRING, &[])), Answer::Done(0));
+        assert_eq!(station.set(RATE, 0x67, &stamped(&SPRING, OLD)), Answer::Done(75));
+        assert_eq!(station.stamp(RATE), SPRING);
+        station.verdict = 4;
+        let before = station.image.clone();
+        for stamp in [AUTUMN, SPRING, [0; 16]] {
+            assert_eq!(station.set(RATE, 0x67, &stamped(&stamp, &[])), Answer::Done(0));
+        }
+        assert!(station.image == before);
+        assert_eq!(station.set(A, 0x47, OLD), Answer::Done(69));
+        station.image[104 + 16..][..16].copy_from_slice(&AUTUMN);
+        assert_eq!(station.set(A, 0x47, NEW), Answer::Done(75));
+        assert_eq!((station.get(A).1, station.stamp(A)), ([OLD, NEW].concat(), [0; 16]));
     });
 }
 

@@ -53,7 +53,7 @@ pub fn wanted(session: &Session, region: &[u8], request: &Request, value: Option
     }
 }
 
-/// The stamp to be stored and the data proper.
+/// The stamp that a set carries, zeros without 0x20, and the data proper.
 #[derive(Clone, Copy)]
 pub struct Payload<'a> {
     pub stamp: &'a [u8; 16],
@@ -83,6 +83,15 @@ pub fn is_later(stamp: &[u8; 16], than: &[u8; 16]) -> bool {
     (year(stamp), &stamp[2..7]) > (year(than), &than[2..7])
 }
 
+/// 02 (b): with 0x20 an append's stored stamp becomes the later of the two, the old one if neither is later; every other set stores its own.
+fn stamp_to_store<'a>(request: &Request, given: &'a [u8; 16], value: Option<&Entry<'a>>) -> &'a [u8; 16] {
+    let joins = request.attributes & APPEND != 0 && request.attributes & TIME_BASED != 0;
+    match value.map(|value| value.stamp()) {
+        Some(old) if joins && !is_later(given, old) => old,
+        _ => given,
+    }
+}
+
 /// What a set does to the values.
 pub enum Change<'a> {
     Nothing,
@@ -104,6 +113,7 @@ pub fn change<'a>(request: &Request, payload: Payload<'a>, value: Option<Entry<'
     if plain && value.is_some_and(|value| value.attributes() == request.attributes && value.data() == payload.data) {
         return Change::Nothing;
     }
+    let stamp = stamp_to_store(request, payload.stamp, value.as_ref());
     let old = value.filter(|_| append).map_or(&[][..], |value| value.data());
-    Change::Put(Contents { attributes: request.attributes & !APPEND, stamp: payload.stamp, old, new: payload.data })
+    Change::Put(Contents { attributes: request.attributes & !APPEND, stamp, old, new: payload.data })
 }

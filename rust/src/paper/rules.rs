@@ -59,7 +59,9 @@ pub fn of_what_stands<'a>(session: &Session, region: &[u8], request: &Request<'a
     let wanted = wanted(session, region, request, value);
     if !wanted.is_empty() {
         broken(Rule::Verdict, !wanted.contains(&request.verdict))?;
-        broken(Rule::Stamp, value.is_some_and(|value| !is_later(payload.stamp, value.stamp())))?;
+        // 02 (b): rule 10 no longer concerns appends
+        let append = request.attributes & APPEND != 0;
+        broken(Rule::Stamp, !append && value.is_some_and(|value| !is_later(payload.stamp, value.stamp())))?;
     }
     Ok(payload)
 }

@@ -45,6 +45,7 @@ impl Book {
 
     /// What a set that is done, or had its deciding store complete, changes. A delete takes its value out; any other drops the old value, if
     /// any, and adds at the end. An empty append, or equal data and attributes with neither 0x20 nor 0x40 among them, changes nothing.
+    /// 02 (b): an append with 0x20 stores the later stamp of the two, the old one if neither is later.
     pub fn set(&mut self, request: &Request) {
         let (stamp, proper) = stored(request);
         let append = request.attributes & 0x40 != 0;
@@ -60,7 +61,12 @@ impl Book {
         if request.attributes == 0 || proper.is_empty() {
             return;
         }
-        let mut data = old.filter(|_| append).map_or(vec![], |old| old.data);
+        let old = old.filter(|_| append);
+        let stamp = match &old {
+            Some(old) if request.attributes & 0x20 != 0 && moment(&old.stamp) >= moment(&stamp) => old.stamp,
+            _ => stamp,
+        };
+        let mut data = old.map_or(vec![], |old| old.data);
         data.extend_from_slice(proper);
         let name = Name { name: request.key.name.to_vec(), vendor: *request.key.vendor };
         self.values.push(Value { name, attributes: request.attributes & !0x40, stamp, data });
@@ -103,7 +109,12 @@ impl Book {
     }
 }
 
-/// The stamp to be stored and the data proper of an accepted set.
+/// What is compared of a stamp: year down to second.
+fn moment(stamp: &[u8; 16]) -> (u16, &[u8]) {
+    (u16::from_le_bytes([stamp[0], stamp[1]]), &stamp[2..7])
+}
+
+/// The stamp and the data proper of an accepted set.
 fn stored<'a>(request: &Request<'a>) -> ([u8; 16], &'a [u8]) {
     if request.attributes & 0x20 == 0 {
         return ([0; 16], request.data);

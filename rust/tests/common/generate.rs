@@ -104,6 +104,15 @@ fn stamp(r: &mut Random) -> [u8; 16] {
     stamp
 }
 
+/// A stamp that stands in an image of another writer: what is not compared of it may be anything.
+fn stored_stamp(r: &mut Random) -> [u8; 16] {
+    let mut stamp = stamp(r);
+    if r.once_in(3) {
+        stamp[7..].fill(r.pick(&[0xEE, 0x01, 0xFF]));
+    }
+    stamp
+}
+
 /// Descriptor and data proper; damaged at one field once in some times.
 pub fn signed(r: &mut Random, proper: &[u8]) -> Vec<u8> {
     let extra = r.pick(&[0, 0, 1, 100]);
@@ -287,7 +296,7 @@ fn crafted_header(r: &mut Random, state: u8, name: &Name, size: usize) -> Vec<u8
     let mut header = vec![0xAA, 0x55, state, r.pick(&[0, 0, 0xFF])];
     header.extend_from_slice(&r.pick(&ATTRIBUTES).to_le_bytes());
     header.extend_from_slice(&r.pick(&[0, u64::MAX, 5]).to_le_bytes());
-    header.extend_from_slice(&stamp(r));
+    header.extend_from_slice(&stored_stamp(r));
     header.extend_from_slice(&r.pick(&[0, u32::MAX, 5]).to_le_bytes());
     header.extend_from_slice(&(name.name.len() as u32).to_le_bytes());
     header.extend_from_slice(&(size as u32).to_le_bytes());

@@ -19,16 +19,26 @@ pub const B: Key = Key { name: b"B\0\0\0", vendor: &VENDOR };
 pub const OLD: &[u8] = &[0x64, 0, 0, 0];
 pub const NEW: &[u8] = &[0x65, 0, 0, 0];
 
-/// The descriptor with a year, then the data proper.
-pub fn signed(year: u16, data: &[u8]) -> Vec<u8> {
-    let mut bytes = year.to_le_bytes().to_vec();
-    bytes.extend_from_slice(&[1, 2, 3, 4, 5]);
-    bytes.extend_from_slice(&[0; 9]);
+/// Stamps of the same year: 1 April and 1 October 2024.
+pub const SPRING: [u8; 16] = [0xE8, 0x07, 4, 1, 0, 0, 0, 0, 0, 0, 0, 0, 0, 0, 0, 0];
+pub const AUTUMN: [u8; 16] = [0xE8, 0x07, 10, 1, 0, 0, 0, 0, 0, 0, 0, 0, 0, 0, 0, 0];
+
+/// The descriptor with a stamp, then the data proper.
+pub fn stamped(stamp: &[u8; 16], data: &[u8]) -> Vec<u8> {
+    let mut bytes = stamp.to_vec();
     bytes.extend_from_slice(&24u32.to_le_bytes());
     bytes.extend_from_slice(&[0x00, 0x02, 0xF1, 0x0E]);
     bytes.extend_from_slice(&generate::CERTIFICATE);
     bytes.extend_from_slice(data);
     bytes
+}
+
+/// The same with a year.
+pub fn signed(year: u16, data: &[u8]) -> Vec<u8> {
+    let mut stamp = [0; 16];
+    stamp[..2].copy_from_slice(&year.to_le_bytes());
+    stamp[2..7].copy_from_slice(&[1, 2, 3, 4, 5]);
+    stamped(&stamp, data)
 }
 
 pub fn same_bytes(what: &str, ours: &[u8], theirs: &[u8]) {
