@@ -11,5 +11,7 @@ pub mod Runs
 pub mod Table
 -- Cases beyond those with a star
 pub mod Readings
+-- 02 (b): appends out of order
+pub mod Appends
 -- Calls that make no stores, and formatting
 pub mod Replies

@@ -7,7 +7,7 @@ use lib.ListN.{replicate}
 use Rattle.model.specs.Answers.{done}
 use Rattle.model.specs.Book.{Call, set, startUp}
 use Rattle.table.proofs.Pieces.{store, clear}
-use Rattle.table.proofs.Row.{Row, Holds, HoldAll, end, _and_, held, computed, refuses, plain, boot, ff, zeros, header, image, empty, guid, rate, four, behindState, startId, rateHeader, rateEntry, setting, rateStands}
+use Rattle.table.proofs.Row.{Row, Holds, HoldAll, end, _and_, held, computed, refuses, plain, boot, ff, zeros, header, image, empty, guid, rate, four, behindState, startId, rateHeader, rateEntry, setting, rateStands, platform, pk, described}
 
 -- ---- "New: 75 stores; entry 28 to 104 with padding."
 
@@ -189,13 +189,6 @@ attributes40-holds : Holds (attributes 0x40)
 unfolding computed
 attributes40-holds = held (attributes 0x40) refl refl tt tt refl refl
 
-abbrev platform : List ℕ
-platform =
-    0x61 ∷ 0xDF ∷ 0xE4 ∷ 0x8B ∷ 0xCA ∷ 0x93 ∷ 0xD2 ∷ 0x11 ∷ 0xAA ∷ 0x0D ∷ 0x00 ∷ 0xE0 ∷ 0x98 ∷ 0x03 ∷ 0x2B ∷ 0x8C ∷ []
-
-abbrev pk : List ℕ
-pk = 0x50 ∷ 0x00 ∷ 0x4B ∷ 0x00 ∷ 0x00 ∷ 0x00 ∷ []
-
 abbrev settingPK : ℕ → List ℕ → ℕ → Call
 settingPK a bytes verdict =
     set boot (record { name = pk; vendor = platform; attributes = a; bytes = bytes; presence = 0; verdict = verdict })
@@ -318,10 +311,7 @@ abbrev stamp : ℕ → List ℕ
 stamp second = (0xE8 ∷ 0x07 ∷ 0x06 ∷ 0x01 ∷ 0x0C ∷ 0x1E ∷ second ∷ []) ++ zeros 9
 
 abbrev descriptor : ℕ → List ℕ
-descriptor second =
-    stamp second
-    ++ (0x18 ∷ 0x00 ∷ 0x00 ∷ 0x00 ∷ 0x00 ∷ 0x02 ∷ 0xF1 ∷ 0x0E ∷ [])
-    ++ (0x9D ∷ 0xD2 ∷ 0xAF ∷ 0x4A ∷ 0xDF ∷ 0x68 ∷ 0xEE ∷ 0x49 ∷ 0x8A ∷ 0xA9 ∷ 0x34 ∷ 0x7D ∷ 0x37 ∷ 0x56 ∷ 0x65 ∷ 0xA7 ∷ [])
+descriptor second = described (stamp second)
 
 -- PK stands, stamped at second 5: 60 + 6 + 4 bytes, and 2 of padding
 abbrev pkHeader : ℕ → List ℕ
