@@ -1,4 +1,4 @@
-//! Document 01 in Rust, in the paper's order and words. A call is a rule broken, or a list of stores that is then made up to n.
+//! Document 01, with what document 02 changes, in Rust, in the paper's order and words. A call is a rule broken, or a list of stores that is then made up to n.
 
 pub mod calls;
 pub mod entry;
