@@ -1,5 +1,5 @@
 -- The value to put. The functions that read a set's arguments give its attributes, stamp and data proper; rule 8 is kept, so that the stamp is the descriptor's;
--- and the data and the stamp of the entry that stands are those of the name's value, so that an append's are the new data, and the later stamp is the new stamp.
+-- and data and stamp of the entry that stands are those of the name's value, so that an append's are the new data, and the later stamp is the new one.
 -- Assumes nothing.
 use Prim.Native.Nat.{ℕ, _*_}
 use mathlib.Core.Path.{_≡_, refl, sym, ap, _∙_}
@@ -78,7 +78,8 @@ module _ (img name vendor : List ℕ) (a : ℕ) (bytes : List ℕ) (keeps : rule
 
   -- *the value to put*, by the data and the stamp that are kept
   module _ {kept : ℕ} {given own : List ℕ} (w : kept ≡ withoutAppend a) (s : given ≡ stampOf a bytes) (o : own ≡ properOf a bytes)
-      {b at : ℕ} {places : Places} (asked : Asked img b at places (valueToPut img name vendor a bytes)) {reg kept-data stamp : List ℕ} (cut : reg ≡ part 0 (4096 * b) img)
+      {b at : ℕ} {places : Places} (asked : Asked img b at places (valueToPut img name vendor a bytes))
+      {reg kept-data stamp : List ℕ} (cut : reg ≡ part 0 (4096 * b) img)
       (k : kept-data ≡ cond (appends a) (oldData reg (elseFound (places .added) (places .replacing))) [])
       (t : stamp ≡ stampKept reg (elseFound (places .added) (places .replacing)) a given) where
     abbrev found : Found
@@ -99,7 +100,8 @@ module _ (img name vendor : List ℕ) (a : ℕ) (bytes : List ℕ) (keeps : rule
     kept-stamp =
         t
         ∙ ap (λ (x : List ℕ). cond (appends a && timeBased a) (stampOver x found given) given) (cut ∙ asked .ready .cut)
-        ∙ ap (λ (x : List ℕ). cond (appends a && timeBased a) x given) (standing-stamp (region img) (keyed name vendor) (asked .ready .sounds) given found stands)
+        ∙ ap (λ (x : List ℕ). cond (appends a && timeBased a) x given)
+        (standing-stamp (region img) (keyed name vendor) (asked .ready .sounds) given found stands)
         ∙ ap (λ (g : List ℕ). cond (appends a && timeBased a) (onSome old (λ v. laterOf g (v .stamp)) g) g) (s ∙ sym stored)
 
     pub value-kept : valued name vendor kept stamp (kept-data ++ own) ≡ valueToPut img name vendor a bytes

@@ -133,9 +133,14 @@ module _ (s : Session) (q : Request) (r : List ℕ) (sounds : sound r ≡ true) 
       → onSome (find (requestKey q) vs) (λ v. not (later (stampToStore q) (v .stamp))) false ≡ notLater r old (stampOf (q .attributes) (q .bytes))
   later-here k = ap (λ (o : Option Value). onSome o (λ v. not (later (stampToStore q) (v .stamp))) false) (sym value) ∙ stamp-numbers r q k old h
 
-  -- rules 7 to 10
+  -- rules 7 to 10, by the parts in which they are judged
+  abbrev parts : List (Rule × Bool)
+  parts =
+      standingBy (atRuntime s) (q .attributes) (q .bytes) old
+      ++ verdictBy r old (q .attributes) wanted (q .verdict) (stampOf (q .attributes) (q .bytes))
+
   pub standing-here : firstBroken (standingRules s q vs)
-      ≡ firstBroken (standingBy (atRuntime s) (q .attributes) (q .bytes) old ++ verdictBy r old (q .attributes) wanted (q .verdict) (stampOf (q .attributes) (q .bytes)))
+      ≡ firstBroken parts
   unfolding standingRules standingBy verdictBy rule7 rule10 verdictWanted
   standing-here =
       let seven : rule7 s q vs ≡ onFound old (λ at e. rule7Of (atRuntime s) (q .attributes) (e .attributes)) false =
@@ -191,7 +196,7 @@ module _ (s : Session) (q : Request) (r : List ℕ) (sounds : sound r ≡ true) 
   -- all rules, and the change
   pub decision-here : decisionOf s q (length r) vs
       ≡ decided (firstBroken (requestRules s q))
-      (decided (firstBroken (standingBy (atRuntime s) (q .attributes) (q .bytes) old ++ verdictBy r old (q .attributes) wanted (q .verdict) (stampOf (q .attributes) (q .bytes))))
+      (decided (firstBroken parts)
       (outcomeBy r old (reserved s) (length (q .name)) (q .attributes) proper))
   unfolding decisionOf
   decision-here =
@@ -212,11 +217,11 @@ module _ (s : Session) (q : Request) (r : List ℕ) (sounds : sound r ≡ true) 
 
   module _ (kept : firstBroken (requestRules s q) ≡ none) where
     pub standing-broken : (rule : Rule)
-        → firstBroken (standingBy (atRuntime s) (q .attributes) (q .bytes) old ++ verdictBy r old (q .attributes) wanted (q .verdict) (stampOf (q .attributes) (q .bytes))) ≡ some rule
+        → firstBroken parts ≡ some rule
         → decisionOf s q (length r) vs ≡ Broken rule
     standing-broken rule a = decision-here ∙ rw (kept, a)
 
     pub none-broken :
-        firstBroken (standingBy (atRuntime s) (q .attributes) (q .bytes) old ++ verdictBy r old (q .attributes) wanted (q .verdict) (stampOf (q .attributes) (q .bytes))) ≡ none
+        firstBroken parts ≡ none
         → decisionOf s q (length r) vs ≡ outcomeBy r old (reserved s) (length (q .name)) (q .attributes) proper
     none-broken a = decision-here ∙ rw (kept, a)

@@ -101,7 +101,7 @@ AgreesAll begin = Unit {0}
 AgreesAll (ran {img} {book} run c sized n) = AgreesAll run × Agrees c n img book
 AgreesAll (cut run c sized k left) = AgreesAll run
 
--- *Demand 3*. 02 (b), "A cut keeps data and stamp together", is this claim: a cut append leaves the book as it was or enters `newValue`, data and stamp in one value
+-- *Demand 3*. It is also 02 (b), "A cut keeps data and stamp together": a cut append leaves the book as it was, or enters `newValue`, which has both
 abbrev pub Demand3 : Type 0
 Demand3 = (start img : List ℕ) (book : List Value) → StartedUp start → (run : Run start img book) → AgreesAll run
 

@@ -1,4 +1,4 @@
--- 01, "What a set does": the change that a call makes of the list of values, for the book, for rule 13 and for a compaction alike. 02 (b): the stamp of an append.
+-- 01, "What a set does", and 02 (b): the change that a call makes of the list of values, for the book, for rule 13 and for a compaction alike.
 use Prim.Native.Nat.{ℕ, _+_}
 use mathlib.Core.Bool.{Bool, false, not, cond, _&&_, _||_}
 use mathlib.Core.List.{List, [], _∷_, _++_}
