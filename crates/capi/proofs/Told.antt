@@ -3,6 +3,7 @@
 use Prim.Native.Nat.{ℕ}
 use mathlib.Core.Path.{_≡_, refl}
 use mathlib.Core.List.{List}
+use Rattle.model.specs.Layout.{authenticated}
 use Rattle.model.specs.declared.Rule.{Rule}
 use Rattle.model.specs.declared.Answer.{Answer}
 use Rattle.model.specs.declared.Answer.the-variants.{Done, Stopped, Refused}
@@ -33,11 +34,11 @@ pub ready-told : (img : List ℕ) (b t : ℕ) (x : Answered) → callOf img ≡ 
     → _≡_ {A = Checked} (record { answer = x; blocks = b; tail = t }) (checkedOf img)
 unfolding checkedOf
 ready-told img b t x e f =
-    let i = is-ready img b t e in
+    let i = is-ready authenticated img b t e in
     rw (i .unbroken, i .number, i .tail-at, f) refl
 
 -- the first that is broken
 pub broken-told : (img : List ℕ) (rule : Rule) (x : Answered) → callOf img ≡ call.Refused rule → x ≡ numbersOf (answerOf (Refused rule))
     → _≡_ {A = Checked} (record { answer = x; blocks = 0; tail = 0 }) (checkedOf img)
 unfolding checkedOf
-broken-told img rule x e f = rw (refused-rule img rule e, f) refl
+broken-told img rule x e f = rw (refused-rule authenticated img rule e, f) refl

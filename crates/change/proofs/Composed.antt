@@ -8,7 +8,7 @@ use mathlib.Core.List.{List, [], _∷_, _++_, append-assoc}
 use lib.ListN.{length, length-append}
 use Rattle.model.specs.Image.{regionHeader}
 use Rattle.model.specs.Entry.{Value, keyOf, entrySize, entryBytes}
-use Rattle.model.specs.Change.{without, put, step, entrySizes, spaceOf}
+use Rattle.model.specs.Change.{without, put, step, entrySizes, spaceOf, entrySizesIn, spaceIn}
 use Rattle.model.specs.Compact.{joined}
 use Rattle.output.specs.Text.{Wrote}
 use Rattle.output.proofs.Writing.{wrote-append, wrote-as}
@@ -43,10 +43,10 @@ module _ (n : ℕ) (v : Value) (vs : List Value) where
 
 -- the changed one's own space
 last-space : (v : Value) (ws : List Value) → entrySize v ≤ entrySizes (ws ++ (v ∷ []))
-unfolding entrySizes
+unfolding entrySizesIn
 last-space v [] = omega arith
 last-space v (w ∷ ws) = let h = last-space v ws in omega arith
 
 pub put-space : (v : Value) (vs : List Value) → entrySize v ≤ spaceOf (step (put v) vs)
-unfolding step spaceOf
+unfolding step spaceIn
 put-space v vs = let h = last-space v (without (keyOf v) vs) in omega arith

@@ -7,10 +7,11 @@ use mathlib.Core.Path.{_≡_, refl, sym, ap, _∙_, subst}
 use mathlib.Core.Bool.{true, false}
 use mathlib.Core.List.{List, _++_}
 use lib.ListN.{length, take, replicate, length-append, length-replicate}
+use Rattle.model.specs.Layout.{authenticated}
 use Rattle.model.specs.Lists.{part}
 use Rattle.model.specs.Image.{block, regionSize, region, work, regionHeader}
 use Rattle.model.specs.Entry.{Value}
-use Rattle.model.specs.Region.{entries, values, valuesOf}
+use Rattle.model.specs.Region.{entries, values, valuesOf, valuesIn}
 use Rattle.model.specs.Work.{usedRecords}
 use Rattle.model.specs.Change.{put, step, spaceOf}
 use Rattle.model.specs.Compact.{joined, encode, nextRecord, fillSpare, finish, compactTo, compactOn}
@@ -41,14 +42,14 @@ abbrev after : List ℕ → Value → List ℕ
 after r v = regionHeader (length r) ++ joined (step (put v) (values (entries r)))
 
 module _ {img : List ℕ} {b : ℕ} {at : ℕ} {places : Places} {v : Value} (a : Asked img b at places v) (vendor : length (v .vendor) ≡ 16) where
-  all-valid : AllValid (step (put v) (valuesOf img))
-  unfolding valuesOf
+  all-valid : AllValid authenticated (step (put v) (valuesOf img))
+  unfolding valuesIn
   all-valid =
-      let c = sound-chunked (region img) (omega (arith, a .ready .long)) (a .ready .sounds) in
-      put-valid v (values (entries (region img))) (a .valid vendor) (sound-valid (region img) c)
+      let c = sound-chunked authenticated (region img) (omega (arith, a .ready .long)) (a .ready .sounds) in
+      (put-valid authenticated) v (values (entries (region img))) (a .valid vendor) (sound-valid authenticated (region img) c)
 
   after-length : length (after (region img) v) ≡ spaceOf (step (put v) (valuesOf img))
-  unfolding valuesOf
+  unfolding valuesIn
   after-length = content-length (length (region img)) (step (put v) (values (entries (region img)))) all-valid
 
   after-short : length (after (region img) v) ≤ 4096 * b
@@ -64,7 +65,7 @@ module _ {img : List ℕ} {b : ℕ} {at : ℕ} {places : Places} {v : Value} (a 
       rw (e ∙ a .ready .cut) (omega (arith, a .ready .long), omega arith, omega arith, vendor, omega arith)
 
   whole-content : after (region img) v ++ replicate (block * b - length (after (region img) v)) 0xFF ≡ encode (regionSize img) (step (put v) (valuesOf img))
-  unfolding valuesOf block
+  unfolding valuesIn block
   whole-content =
       let long : length (region img) ≡ 4096 * b = a .ready .long in
       let e : length (region img) ≡ regionSize img = long ∙ sym (region-size img b (a .ready .number)) in

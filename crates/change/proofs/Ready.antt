@@ -13,7 +13,7 @@ use Rattle.model.specs.Lists.{allFF}
 use Rattle.model.specs.Image.{block, blocks, rightLength, regionSize, region, work, spare}
 use Rattle.model.specs.Entry.{Value, plainSize}
 use Rattle.model.specs.Region.{clean, valuesOf}
-use Rattle.model.specs.Work.{idle, readyForCall}
+use Rattle.model.specs.Work.{idle, readyForCall, readyIn}
 use Rattle.model.specs.Change.{put, step, spaceOf}
 use Rattle.model.proofs.Tests.{and-split}
 use Rattle.values.specs.declared.Places.{Places}
@@ -38,7 +38,7 @@ region-size img b e = ap (λ (k : ℕ). 4096 * k) e
 
 -- rule 2: the region is clean, the work block idle
 pub ready-clean : (img : List ℕ) → readyForCall img ≡ true → clean (region img) ≡ true
-unfolding readyForCall
+unfolding readyIn
 ready-clean img h =
     and-split (clean (region img)) (allFF (spare img)) (and-split (clean (region img) && allFF (spare img)) (idle (work img)) h .0) .0
 

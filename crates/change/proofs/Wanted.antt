@@ -6,18 +6,19 @@ use mathlib.Core.Path.{_≡_, refl, sym, ap, _∙_}
 use mathlib.Core.Bool.{Bool, true, false, cond, _&&_}
 use mathlib.Core.List.{List, [], _++_}
 use mathlib.Core.Option.{Option, none, some}
+use Rattle.model.specs.Layout.{authenticated}
 use Rattle.model.specs.Lists.{part, onSome}
 use Rattle.model.specs.Image.{region}
 use Rattle.model.specs.Name.{Key, keyed}
-use Rattle.model.specs.Entry.{Value, headerFields}
+use Rattle.model.specs.Entry.{Value, headerFieldsIn}
 use Rattle.model.specs.Walk as walk
-use Rattle.model.specs.Region.{entries, values, valuesOf, standing, sound, find}
+use Rattle.model.specs.Region.{entries, values, valuesOf, standing, sound, find, valuesIn}
 use Rattle.model.specs.Request.{Request, timeBased, appends, withoutAppend, stampToStore}
 use Rattle.model.specs.Change.{newData, laterOf, newStamp, newValue}
 use Rattle.model.proofs.Chunks.{sound-parts}
 use Rattle.model.proofs.Values.{find-standing}
 use Rattle.layout.specs.declared.Entry as numbers
-use Rattle.region.specs.Walk.{entryAt, stampAt}
+use Rattle.region.specs.Walk.{entryAt, stampAt, entryAs}
 use Rattle.values.specs.declared.Found.{Found}
 use Rattle.values.specs.declared.Found.the-variants.{At, Nothing}
 use Rattle.values.specs.declared.Places.{Places}
@@ -35,10 +36,10 @@ use Rattle.change.specs.Asked.{valued, requested, valueToPut, appended, 
 
 module _ (r : List ℕ) (k : Key) (s : sound r ≡ true) where
   by-entry : find k (values (entries r)) ≡ onSome (standing k (entries r)) (λ x. some (walk.entryValue x)) none
-  by-entry = find-standing _ (entries r) k (sound-parts r s .1)
+  by-entry = find-standing _ (entries r) k (sound-parts authenticated r s .1)
 
   value-at : (at : ℕ) (e : numbers.Entry) → foundOf (standing k (entries r)) ≡ At at e → find k (values (entries r)) ≡ some (walk.entryValue (entryAt r at e))
-  value-at at e p = by-entry ∙ ap (λ (o : Option walk.Entry). onSome o (λ x. some (walk.entryValue x)) none) (standing-stands r k at e p .entry)
+  value-at at e p = by-entry ∙ ap (λ (o : Option walk.Entry). onSome o (λ x. some (walk.entryValue x)) none) (standing-stands authenticated r k at e p .entry)
 
   no-value : foundOf (standing k (entries r)) ≡ Nothing → find k (values (entries r)) ≡ none
   no-value p = by-entry ∙ ap (λ (o : Option walk.Entry). onSome o (λ x. some (walk.entryValue x)) none) (nothing-first (standing k (entries r)) p)
@@ -49,9 +50,9 @@ module _ (r : List ℕ) (k : Key) (s : sound r ≡ true) where
 
   standing-stamp : (given : List ℕ) (f : Found) → foundOf (standing k (entries r)) ≡ f
       → stampOver r f given ≡ onSome (find k (values (entries r))) (λ v. laterOf given (v .stamp)) given
-  unfolding stampOver stampAt entryAt walk.placed headerFields
+  unfolding stampOver stampAt entryAs walk.placed headerFieldsIn
   standing-stamp given (At at e) p =
-      ap (laterOf given) (stamp-held r at (standing-stands r k at e p .fits))
+      ap (laterOf given) (stamp-held r at (standing-stands authenticated r k at e p .fits))
       ∙ sym (ap (λ (o : Option Value). onSome o (λ v. laterOf given (v .stamp)) given) (value-at at e p))
   standing-stamp given Nothing p = sym (ap (λ (o : Option Value). onSome o (λ v. laterOf given (v .stamp)) given) (no-value p))
 
@@ -90,13 +91,13 @@ module _ (img name vendor : List ℕ) (a : ℕ) (bytes : List ℕ) (keeps : rule
     stands = sym (standing-is [] places (keyed name vendor) (entries (region img)) (asked .added) (asked .replacing))
 
     old-data : oldData reg found ++ own ≡ appended img name vendor own
-    unfolding appended valuesOf
+    unfolding appended valuesIn
     old-data =
         ap (λ (x : List ℕ). oldData x found ++ own) (cut ∙ asked .ready .cut)
         ∙ ap (λ (x : List ℕ). x ++ own) (standing-data (region img) (keyed name vendor) (asked .ready .sounds) found stands)
 
     kept-stamp : stamp ≡ newStamp r old
-    unfolding stampKept newStamp valuesOf
+    unfolding stampKept newStamp valuesIn
     kept-stamp =
         t
         ∙ ap (λ (x : List ℕ). cond (appends a && timeBased a) (stampOver x found given) given) (cut ∙ asked .ready .cut)

@@ -11,17 +11,18 @@ use mathlib.Core.List.{List, [], _∷_, _++_, map, append-assoc, append-nil}
 use lib.ListN.{length, drop, length-take}
 use lib.Dec.{leb}
 use borrow.Author.Tests.{eq-eqb}
+use Rattle.model.specs.Layout.{authenticated}
 use Rattle.model.specs.Lists.{part, same, all, keep, among}
 use Rattle.model.specs.Name.{Key, keyed, sameKey, zeroEnded, wellNamed}
 use Rattle.model.specs.Entry.{rounded, Value, keyOf, entrySize, entryBytes}
 use Rattle.model.specs.Walk as walk
-use Rattle.model.specs.Region.{entries, live, rightHeader, knownState, within, rightLive, isEntry, undoubled, sound, isValue, values, storedAttributes, maxData}
+use Rattle.model.specs.Region.{entries, live, rightHeader, knownState, within, rightLive, isEntry, undoubled, sound, isValue, values, storedAttributes, maxData, soundIn}
 use Rattle.model.specs.Change.{without}
-use Rattle.model.specs.Compact.{joined}
+use Rattle.model.specs.Compact.{joined, joinedIn}
 use Rattle.model.proofs.Tests.{and-split}
 use Rattle.model.proofs.Encode.{value-live}
 use Rattle.layout.specs.declared.Entry as numbers
-use Rattle.region.specs.Walk.{entryAt, stampAt, vendorAt}
+use Rattle.region.specs.Walk.{entryAt, stampAt, vendorAt, entryAs, vendorAs}
 use Rattle.region.proofs.Entries.{stamp as stamp-part, vendor as vendor-part}
 use Rattle.values.proofs.Listed.{listed, listed-all}
 use Rattle.values.proofs.Sizes.{lengths}
@@ -41,7 +42,7 @@ module _ (r : List ℕ) (a : ℕ) (e : numbers.Entry) {stamp name vendor bytes :
   read = record { name = name; vendor = vendor; attributes = e .attributes; stamp = stamp; bytes = bytes }
 
   pub entry-value : entryBytes 0x3F read ≡ entryBytes 0x3F (walk.entryValue (entryAt r a e))
-  unfolding entryAt walk.placed stampAt vendorAt
+  unfolding entryAs walk.placed stampAt vendorAs
   entry-value = rw (s, n, v, b)
 
   -- and how long its parts can be
@@ -54,11 +55,11 @@ module _ (r : List ℕ) (a : ℕ) (e : numbers.Entry) {stamp name vendor bytes :
 
   pub short : Short
   short =
-      let l = lengths r a e in
+      let l = lengths authenticated r a e in
       let k = ap length n in
       let d = ap length b in
       let ms : length stamp ≤ 16 = rw (s, stamp-part r a) (part-short r (a + 16) 16) in
-      let mv : length vendor ≤ 16 = rw (v, vendor-part r a) (part-short r (a + 44) 16) in
+      let mv : length vendor ≤ 16 = rw (v, vendor-part authenticated r a) (part-short r (a + 44) 16) in
       record {
         stamp-short = ms;
         vendor-short = mv;
@@ -71,22 +72,22 @@ module _ (r : List ℕ) (a : ℕ) (e : numbers.Entry) {stamp name vendor bytes :
 
 module _ (r : List ℕ) (a : ℕ) (e : numbers.Entry) (k : Key) where
   named : isEntry (e .state) k (entryAt r a e) ≡ sameKey (keyOf (walk.entryValue (entryAt r a e))) k
-  unfolding entryAt walk.placed
+  unfolding entryAs walk.placed
   named = rw (eq-eqb (e .state) (e .state) refl)
 
   pub left-out : isEntry (e .state) k (entryAt r a e) ≡ true → joined (without k (walk.entryValue (entryAt r a e) ∷ [])) ≡ []
-  unfolding without joined
+  unfolding without joinedIn
   left-out h = rw (sym named ∙ h)
 
   pub carried-over : isEntry (e .state) k (entryAt r a e) ≡ false
       → entryBytes 0x3F (walk.entryValue (entryAt r a e)) ≡ joined (without k (walk.entryValue (entryAt r a e) ∷ []))
-  unfolding without joined
+  unfolding without joinedIn
   carried-over h = rw (sym named ∙ h) (sym (append-nil (entryBytes 0x3F (walk.entryValue (entryAt r a e)))))
 
 -- ---- the loop
 
 pub joined-append : (xs ys : List Value) → joined (xs ++ ys) ≡ joined xs ++ joined ys
-unfolding joined
+unfolding joinedIn
 joined-append [] ys = refl
 joined-append (x ∷ xs) ys = rw (append-assoc, joined-append xs ys)
 
@@ -106,10 +107,10 @@ pub record Carried (r : List ℕ) (k : Key) (at : ℕ) (out out′ : List ℕ) (
 
 pub carried-none : (r : List ℕ) (k : Key) (at : ℕ) (out : List ℕ) → Carried r k at out out at 28
 carried-none r k at out =
-    record { text = []; whole = ap (λ (vs : List Value). joined (without k vs)) (listed-all r); wrote = wrote-none at out }
+    record { text = []; whole = ap (λ (vs : List Value). joined (without k vs)) (listed-all authenticated r); wrote = wrote-none at out }
 
 pub carried-next : {r : List ℕ} {k : Key} {at here a : ℕ} {e : numbers.Entry} {n n′ : ℕ} {l l′ l″ : List ℕ}
-    → Carried r k at l l′ n here → Next r here a e → Wrote (joined (without k (walk.entryValue (entryAt r a e) ∷ []))) n l′ l″ n′
+    → Carried r k at l l′ n here → Next authenticated r here a e → Wrote (joined (without k (walk.entryValue (entryAt r a e) ∷ []))) n l′ l″ n′
     → Carried r k at l l″ n′ (a + rounded (60 + e .name + e .size))
 carried-next {r} {k} {a = a} {e} w x p =
     let v = walk.entryValue (entryAt r a e) in
@@ -127,7 +128,7 @@ carried-next {r} {k} {a = a} {e} w x p =
 
 pub carried-all : {r : List ℕ} {k : Key} {at here n : ℕ} {l l′ : List ℕ} → Carried r k at l l′ n here → listed r here ≡ []
     → Wrote (joined (without k (values (entries r)))) at l l′ n
-unfolding joined without
+unfolding joinedIn without
 carried-all {r} {k} w p = wrote-as (sym (w .whole ∙ rw (p, append-nil))) (w .wrote)
 
 -- ---- under the empty name none is left out
@@ -164,7 +165,7 @@ unnamed g es (e ∷ ys) h = go (isValue es e) refl (unnamed g es ys (k .1))
     go false p i = i
 
 pub without-unnamed : (r g : List ℕ) → sound r ≡ true → without (keyed [] g) (values (entries r)) ≡ values (entries r)
-unfolding sound values
+unfolding soundIn values
 without-unnamed r g h =
     let a = and-split (rightHeader r && all knownState (entries r) && all (within (length r)) (entries r) && all rightLive (entries r)) (undoubled (entries r)) h .0 in
     let b = and-split (rightHeader r && all knownState (entries r) && all (within (length r)) (entries r)) (all rightLive (entries r)) a .1 in

@@ -8,7 +8,7 @@ use mathlib.Core.Path.{_≡_, refl, sym, ap, _∙_}
 use mathlib.Core.List.{List, [], _∷_, _++_, append-assoc}
 use lib.ListN.{length, take, set, replicate, length-append, length-replicate}
 use Rattle.model.specs.Lists.{bytes32}
-use Rattle.model.specs.Entry.{headerFront, headerRest, rounded, Value, plainSize, entrySize, entryBytes}
+use Rattle.model.specs.Entry.{headerFront, headerRest, rounded, Value, plainSize, entrySize, entryBytes, entryBytesIn, extraBytes, headerRestIn}
 use Rattle.output.specs.Text.{Wrote}
 use Rattle.output.proofs.Writing.{wrote-append, wrote-as}
 use Rattle.compose.specs.Compose.{beforeStamp, behindStamp, headerBytes}
@@ -21,7 +21,7 @@ regroup f s z a w st x n d ve = simp append-assoc
 
 pub header-value : (s : ℕ) (v : Value)
     → headerBytes s (v .attributes) (v .stamp) (length (v .name)) (length (v .bytes)) (v .vendor) ≡ headerFront ++ (s ∷ []) ++ headerRest v
-unfolding headerBytes beforeStamp behindStamp headerRest
+unfolding headerBytes beforeStamp behindStamp headerRestIn extraBytes
 header-value s v =
     regroup headerFront (s ∷ []) (0 ∷ []) (bytes32 (v .attributes)) (replicate 8 0) (v .stamp) (replicate 4 0) (bytes32 (length (v .name))) (bytes32 (length (v .bytes))) (v .vendor)
 
@@ -51,7 +51,7 @@ header-wrote s a n d {at} p q r t =
 
 pub entry-parts : (s : ℕ) (v : Value)
     → headerBytes s (v .attributes) (v .stamp) (length (v .name)) (length (v .bytes)) (v .vendor) ++ v .name ++ v .bytes ++ replicate (entrySize v - plainSize v) 0xFF ≡ entryBytes s v
-unfolding entryBytes
+unfolding entryBytesIn
 entry-parts s v = ap (λ (l : List ℕ). l ++ v .name ++ v .bytes ++ replicate (entrySize v - plainSize v) 0xFF) (header-value s v)
 
 pub entry-wrote : (s : ℕ) (v : Value) {at n₁ n₂ n₃ n₄ : ℕ} {l l₁ l₂ l₃ l₄ : List ℕ}

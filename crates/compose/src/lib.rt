@@ -16,12 +16,13 @@ ghost use Rattle.region.specs.Walk.{entryAt};
 ghost use Rattle.output.specs.Text.{Wrote};
 ghost use Rattle.compose.specs.Compose.{beforeStamp, behindStamp, headerBytes, oldData};
 use layout::Entry;
+use model::Layout;
 use region::walk;
 use values::Found;
 use values::list;
 
 // A number as four bytes, little-endian.
-fn bytes32(n: usize) -> [u8; 4]
+pub fn bytes32(n: usize) -> [u8; 4]
     ensures { λ r. ⌜ r ≡ bytes32 n ⌝ }
 {
     [
@@ -92,7 +93,7 @@ fn put_header(
 }
 
 // The FF bytes between an entry of `size` bytes and the next multiple of 4.
-fn put_padding(out: &mut [u8], at: usize, size: usize) -> usize
+pub fn put_padding(out: &mut [u8], at: usize, size: usize) -> usize
     requires { ⌜ (at < 2 ^ 63) × (size < 2 ^ 62) ⌝ }
     ensures { λ r. ⌜ Wrote (replicate (rounded size - size) 0xFF) at (now (out .entry)) (now (out .exit)) r ⌝ }
 {
@@ -142,7 +143,7 @@ pub fn put_entry(
     put_padding(
         out,
         next,
-        layout::HEADER + name.len() + old.len() + own.len(),
+        Layout::HEADER + name.len() + old.len() + own.len(),
     )
 }
 

@@ -9,6 +9,7 @@ use mathlib.Core.List.{List, [], _∷_, _++_, append-assoc}
 use mathlib.Core.Option.{Option, none, some}
 use lib.ListN.{length, length-append}
 use lib.Dec.{ltb}
+use Rattle.model.specs.Layout.{authenticated}
 use Rattle.model.specs.declared.Session.{Session}
 use Rattle.model.specs.declared.Rule.{Rule}
 use Rattle.model.specs.declared.Rule.the-variants.{Standing, Descriptor, Verdict, Stamp, Absent, DataSize, Room}
@@ -24,7 +25,7 @@ use Rattle.model.specs.Rules.{firstBroken, rule3, rule4, rule5, rule6, rule7Ove
 use Rattle.model.proofs.Requests.{broken-append, unbroken}
 use Rattle.model.proofs.Chunks.{sound-parts}
 use Rattle.model.proofs.Encode as encode
-use Rattle.region.specs.Walk.{entryAt, stampAt}
+use Rattle.region.specs.Walk.{entryAt, stampAt, entryAs}
 use Rattle.values.specs.Found.{foundOf}
 use Rattle.values.specs.declared.Found.{Found}
 use Rattle.values.specs.declared.Found.the-variants as found
@@ -50,12 +51,12 @@ request-fields s q = refl
 module _ (r : List ℕ) (q : Request) where
   standing-numbers : (s : Session) (old : Found)
       → onSome (valueAt r old) (rule7Over s q) false ≡ onFound old (λ at e. rule7Of (atRuntime s) (q .attributes) (e .attributes)) false
-  unfolding entryAt walk.placed
+  unfolding entryAs walk.placed
   standing-numbers s (found.At at e) = rule7-plain s q (walk.entryValue (entryAt r at e))
   standing-numbers s found.Nothing = refl
 
   equal-numbers : (old : Found) → onSome (valueAt r old) (equalTo q) false ≡ equalBy r old (q .attributes) (dataProper q)
-  unfolding equalBy entryAt walk.placed
+  unfolding equalBy entryAs walk.placed
   equal-numbers (found.At at e) = equal-plain q (walk.entryValue (entryAt r at e))
   equal-numbers found.Nothing = refl
 
@@ -73,7 +74,7 @@ module _ (r : List ℕ) (q : Request) where
 -- and of its stamp, where the descriptor's is whole
 stamp-numbers : (r : List ℕ) (q : Request) → rule8 q ≡ false → (old : Found) → old ≡ foundOf (standing (requestKey q) (entries r))
     → onSome (valueAt r old) (λ v. not (later (stampToStore q) (v .stamp))) false ≡ notLater r old (stampOf (q .attributes) (q .bytes))
-unfolding notLater stampAt entryAt walk.placed
+unfolding notLater stampAt entryAs walk.placed
 stamp-numbers r q k (found.At at e) h = ap₂ (λ (a b : List ℕ). not (later a b)) (stamp-plain q k) (sym (stamp-read r (requestKey q) at e h))
 stamp-numbers r q k found.Nothing h = refl
 
@@ -169,7 +170,7 @@ module _ (s : Session) (q : Request) (r : List ℕ) (sounds : sound r ≡ true) 
   new-space : spaceOf (step (put new) vs) + oldSpace r old ≡ spaceOf vs + entrySize new
   unfolding newValue
   new-space =
-      let d = encode.values-distinct (entries r) (encode.sound-parts (length r) (entries r) (sound-parts r sounds .1) .single) in
+      let d = encode.values-distinct (entries r) (encode.sound-parts (length r) (entries r) (sound-parts authenticated r sounds .1) .single) in
       ap (λ (n : ℕ). spaceOf (step (put new) vs) + n) (sym (ap sizeOf (sym value) ∙ space-numbers r old)) ∙ put-space new vs d
 
   room-here : roomBy r old (rounded (headerSize + length (q .name) + newSize r old (q .attributes) (length proper)) + reserved s)

@@ -8,9 +8,10 @@ use mathlib.Core.Bool.{true}
 use mathlib.Core.List.{List}
 use mathlib.Core.Option.{Option, none, some}
 use lib.ListN.{length}
+use Rattle.model.specs.Layout.{authenticated}
 use Rattle.model.specs.Lists.{isSome, onSome}
 use Rattle.model.specs.Name.{Key}
-use Rattle.model.specs.Entry.{headerFields}
+use Rattle.model.specs.Entry.{headerFieldsIn}
 use Rattle.model.specs.Walk as walk
 use Rattle.model.specs.Region.{sound, entries, values, standing, find}
 use Rattle.model.specs.Request.{keyPK, userMode}
@@ -37,12 +38,12 @@ found-some none = refl
 
 module _ (r : List ℕ) (sounds : sound r ≡ true) where
   judged : soundEntries (length r) (entries r) ≡ true
-  judged = sound-parts r sounds .1
+  judged = sound-parts authenticated r sounds .1
 
   pub old-value : (k : Key) (old : Found) → old ≡ foundOf (standing k (entries r)) → valueAt r old ≡ find k (values (entries r))
   old-value k (At at e) h =
       sym (find-standing (length r) (entries r) k judged
-      ∙ ap (λ (o : Option walk.Entry). onSome o (λ x. some (walk.entryValue x)) none) (standing-stands r k at e (sym h) .entry))
+      ∙ ap (λ (o : Option walk.Entry). onSome o (λ x. some (walk.entryValue x)) none) (standing-stands authenticated r k at e (sym h) .entry))
   old-value k Nothing h =
       sym (find-standing (length r) (entries r) k judged
       ∙ ap (λ (o : Option walk.Entry). onSome o (λ x. some (walk.entryValue x)) none) (nothing-first (standing k (entries r)) (sym h)))
@@ -58,11 +59,11 @@ module _ (r : List ℕ) (sounds : sound r ≡ true) where
 
 -- the stamp that is read of the entry that stands is its value's
 pub stamp-read : (r : List ℕ) (k : Key) (at : ℕ) (e : numbers.Entry) → At at e ≡ foundOf (standing k (entries r)) → stampIn (stampAt r at) ≡ stampAt r at
-unfolding stampAt headerFields
-stamp-read r k at e h = stamp-held r at (standing-stands r k at e (sym h) .fits)
+unfolding stampAt headerFieldsIn
+stamp-read r k at e h = stamp-held r at (standing-stands authenticated r k at e (sym h) .fits)
 
 -- an entry takes no more than the region and its header
 pub old-least : (r : List ℕ) (old : Found) → oldSpace r old ≤ length r + 63
 unfolding oldSpace
-old-least r (At at e) = let l = lengths r at e in omega arith
+old-least r (At at e) = let l = lengths authenticated r at e in omega arith
 old-least r Nothing = omega arith

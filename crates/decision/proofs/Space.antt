@@ -13,7 +13,7 @@ use Rattle.model.specs.Lists.{any, keep, first, onSome}
 use Rattle.model.specs.Name.{Key, sameKey}
 use Rattle.model.specs.Entry.{Value, keyOf, entrySize}
 use Rattle.model.specs.Region.{find}
-use Rattle.model.specs.Change.{put, without, step, entrySizes, spaceOf}
+use Rattle.model.specs.Change.{put, without, step, entrySizes, spaceOf, entrySizesIn, spaceIn}
 use Rattle.model.proofs.Tests.{or-split, both-ways, key-eq}
 use Rattle.model.proofs.Encode.{Distinct}
 
@@ -22,7 +22,7 @@ abbrev pub sizeOf : Option Value → ℕ
 sizeOf o = onSome o (λ v. entrySize v) 0
 
 sizes-last : (ws : List Value) (v : Value) → entrySizes (ws ++ (v ∷ [])) ≡ entrySizes ws + entrySize v
-unfolding entrySizes
+unfolding entrySizesIn
 sizes-last [] v = omega arith
 sizes-last (w ∷ ws) v = omega (arith, sizes-last ws v)
 
@@ -33,7 +33,7 @@ keep-whole f (v ∷ vs) h =
     rw (p .0) (ap (λ (l : List Value). v ∷ l) (keep-whole f vs (p .1)))
 
 without-sizes : (k : Key) (vs : List Value) → Distinct vs → entrySizes (without k vs) + sizeOf (find k vs) ≡ entrySizes vs
-unfolding without find entrySizes
+unfolding without find entrySizesIn
 without-sizes k [] d = refl
 without-sizes k (v ∷ vs) d = go (sameKey (keyOf v) k) refl (without-sizes k vs (d .1))
   where
@@ -47,7 +47,7 @@ without-sizes k (v ∷ vs) d = go (sameKey (keyOf v) k) refl (without-sizes k vs
     go false h i = omega arith
 
 pub put-space : (v : Value) (vs : List Value) → Distinct vs → spaceOf (step (put v) vs) + sizeOf (find (keyOf v) vs) ≡ spaceOf vs + entrySize v
-unfolding spaceOf step
+unfolding spaceIn step
 put-space v vs d = omega (arith, sizes-last (without (keyOf v) vs) v, without-sizes (keyOf v) vs d)
 
 -- tests of sums that differ alike

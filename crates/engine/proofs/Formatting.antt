@@ -7,7 +7,8 @@ use mathlib.Core.Bool.{Bool, true, false, cond}
 use mathlib.Core.List.{List, [], append-nil}
 use lib.ListN.{length, take}
 use Rattle.model.specs.declared.Rule.the-variants.{Length}
-use Rattle.model.specs.Image.{signature, block, blocks, rightLength, regionSize, regionHeader}
+use Rattle.model.specs.Layout.{signature}
+use Rattle.model.specs.Image.{block, blocks, rightLength, regionSize, regionHeader, regionHeaderIn}
 use Rattle.model.specs.Lists.{part}
 use Rattle.model.specs.Rules.{firstBroken, rule1, formatBroken}
 use Rattle.model.specs.Set.{refuse, make}
@@ -34,7 +35,7 @@ format-refused img b e z = go (rightLength img) refl (sym e ∙ z)
     go false h k = rw h
 
 header-long : (n : ℕ) → length (regionHeader n) ≡ 28
-unfolding regionHeader signature
+unfolding regionHeaderIn signature
 header-long n = refl
 
 module _ (img : List ℕ) (b : ℕ) (e : b ≡ blocksOf img) (low : 1 ≤ b) where

@@ -8,15 +8,16 @@ use mathlib.Core.Bool.{Bool, true, false, not, cond}
 use mathlib.Core.List.{List, [], _∷_, _++_}
 use mathlib.Core.Option.{Option, none, some}
 use lib.Dec.{eqb}
+use Rattle.model.specs.Layout.{authenticated}
 use Rattle.model.specs.Lists.{onSome, orElse}
 use Rattle.model.specs.Image.{blocks, region}
 use Rattle.model.specs.Region.{tailAt}
-use Rattle.model.specs.Rules.{firstBroken, rule1, rule2, imageRules}
+use Rattle.model.specs.Rules.{firstBroken, rule1, rule2, imageRules, imageRulesIn}
 use Rattle.model.specs.Answers.{ruleNumber}
 use Rattle.model.proofs.Requests.{broken-append}
 use Rattle.model.specs.declared.Rule.{Rule}
 use Rattle.model.specs.declared.Rule.the-variants.{Length, Unready, Name}
-use Rattle.image.specs.Check.{callOf, IsReady}
+use Rattle.image.specs.Check.{callIn, callOf, IsReady}
 use Rattle.image.specs.declared.Check.the-variants.{Ready, Refused}
 use Rattle.image.proofs.Ready.{is-ready, refused-rule}
 use Rattle.engine.specs.Read.{openOf}
@@ -31,21 +32,21 @@ module _ (img : List ℕ) where
   pub open-named : (b t : ℕ) → callOf img ≡ Ready b t → openOf img true ≡ Ready b t
   unfolding openOf
   open-named b t p =
-      let r = is-ready img b t p in
+      let r = is-ready authenticated img b t p in
       rw (with-name true, r .unbroken, r .number, r .tail-at)
 
   pub open-unnamed : (b t : ℕ) → callOf img ≡ Ready b t → openOf img false ≡ Refused Name
   unfolding openOf
-  open-unnamed b t p = rw (with-name false, is-ready img b t p .unbroken)
+  open-unnamed b t p = rw (with-name false, is-ready authenticated img b t p .unbroken)
 
   pub open-refused : (rule : Rule) (named : Bool) → callOf img ≡ Refused rule → openOf img named ≡ Refused rule
   unfolding openOf
-  open-refused rule named p = rw (with-name named, refused-rule img rule p)
+  open-refused rule named p = rw (with-name named, refused-rule authenticated img rule p)
 
   -- ---- what they leave to the later rules
 
   early : (o : Option Rule) → firstBroken (imageRules img) ≡ o → onSome o (λ rule. eqb (ruleNumber rule) 14) false ≡ false
-  unfolding firstBroken imageRules
+  unfolding firstBroken imageRulesIn
   early o q = sym (ap (λ (x : Option Rule). onSome x (λ rule. eqb (ruleNumber rule) 14) false) q) ∙ go (rule1 img) (rule2 img)
     where
       go : (s t : Bool) → onSome (firstBroken ((Length, s) ∷ (Unready, t) ∷ [])) (λ rule. eqb (ruleNumber rule) 14) false ≡ false
@@ -58,7 +59,7 @@ module _ (img : List ℕ) where
     pub later : (ts : List (Rule × Bool)) → firstBroken (imageRules img ++ ((Name, not named) ∷ ts)) ≡ firstBroken ts
 
   pub opens : (b t : ℕ) (named : Bool) → openOf img named ≡ Ready b t → Opens b t named
-  unfolding openOf callOf firstBroken
+  unfolding openOf callIn firstBroken
   opens b t named p = go (firstBroken (imageRules img)) refl named refl
     where
       go : (o : Option Rule) → firstBroken (imageRules img) ≡ o → (n : Bool) → named ≡ n → Opens b t named
@@ -72,7 +73,7 @@ module _ (img : List ℕ) where
           let z : _≡_ {A = ℕ} 0 1 = cc in
           absurd (omega arith)
       go none q true m = record {
-        ready = is-ready img b t (rw q (rw (with-name named, q, m) at p));
+        ready = is-ready authenticated img b t (rw q (rw (with-name named, q, m) at p));
         later = λ ts. broken-append (imageRules img) ((Name, not named) ∷ ts) ∙ rw (q, m);
       }
 

@@ -10,12 +10,13 @@ use mathlib.Core.List.{List, [], _∷_}
 use mathlib.Core.Option.{Option, none, some}
 use lib.ListN.{length, drop, length-take}
 use lib.Dec.{eqb, ltb, leb·zero}
+use Rattle.model.specs.Layout.{authenticated}
 use Rattle.model.specs.Lists.{onSome, overlay}
 use Rattle.model.specs.Image.{region}
 use Rattle.model.specs.Name.{Key, wellNamed}
 use Rattle.model.specs.Entry.{Value}
 use Rattle.model.specs.Walk.{Entry, entryValue, placed}
-use Rattle.model.specs.Region.{entries, values, valuesOf}
+use Rattle.model.specs.Region.{entries, values, valuesOf, valuesIn}
 use Rattle.model.specs.Session.{countedPhase, atRuntime}
 use Rattle.model.specs.Rules.{firstBroken, rule3, rule3Next, rule11Read, rule14, seen, valueToGet, valueToName, gotBytes, namedBytes, getBroken, nextBroken}
 use Rattle.model.specs.Answers.{ruleNumber, refusal, written, done, refused, outcome, getReply, nextReply, getPlan, nextPlan}
@@ -29,7 +30,7 @@ use Rattle.model.specs.declared.Rule.the-variants.{Absent, Buffer}
 use Rattle.model.specs.declared.Answer.the-variants.{Done}
 use Rattle.model.specs.declared.Got.{Got}
 use Rattle.layout.specs.declared.Entry as numbers
-use Rattle.region.specs.Walk.{entryAt, vendorAt}
+use Rattle.region.specs.Walk.{entryAt, vendorAt, entryAs, vendorAs}
 use Rattle.region.proofs.Entries.{vendor}
 use Rattle.values.specs.declared.Found.{Found}
 use Rattle.values.specs.declared.Found.the-variants.{At, Nothing}
@@ -92,22 +93,22 @@ module _ (r : List ℕ) (f : Found) (o : Option Entry) (q : entryIn r f ≡ o) (
   value-none p = sym held ∙ ap valueIn (sym q) ∙ ap (λ (x : Found). valueIn (entryIn r x)) p
 
 pub entry-attributes : (r : List ℕ) (at : ℕ) (e : numbers.Entry) → e .attributes ≡ entryAt r at e .header .attributes
-unfolding entryAt placed
+unfolding entryAs placed
 entry-attributes r at e = refl
 
 pub entry-vendor : (r : List ℕ) (at : ℕ) (e : numbers.Entry) → vendorAt r at ≡ entryAt r at e .header .vendor
-unfolding entryAt placed vendorAt
+unfolding entryAs placed vendorAs
 entry-vendor r at e = refl
 
 -- none of it is longer than the region
 pub short-data : (r : List ℕ) (at : ℕ) (e : numbers.Entry) → length (entryAt r at e .bytes) ≤ length r
-short-data r at e = let l = lengths r at e in omega (arith, l .whole)
+short-data r at e = let l = lengths authenticated r at e in omega (arith, l .whole)
 
 pub short-name : (r : List ℕ) (at : ℕ) (e : numbers.Entry) → length (entryAt r at e .name) ≤ length r
-short-name r at e = let l = lengths r at e in omega (arith, l .whole)
+short-name r at e = let l = lengths authenticated r at e in omega (arith, l .whole)
 
 pub short-vendor : (r : List ℕ) (at : ℕ) → length (vendorAt r at) ≤ 16
-short-vendor r at = rw (vendor r at, length-take 16 (drop (at + 44) r)) (min-le-left 16 (length (drop (at + 44) r)))
+short-vendor r at = rw (vendor authenticated r at, length-take 16 (drop (at + 44) r)) (min-le-left 16 (length (drop (at + 44) r)))
 
 -- ---- rules 1 to 3 before 11 and 14
 
@@ -138,13 +139,13 @@ read-as img bytes attributes buffer {found} {found′} {named} {named′} {got} 
 -- the region that was cut
 pub region-get : (s : Session) (k : Key) (img r : List ℕ) (runtime : Bool) → r ≡ region img → runtime ≡ eqb (countedPhase (s .phase)) 2
     → getAt runtime k (values (entries r)) ≡ valueToGet s k (valuesOf img)
-unfolding valuesOf atRuntime
+unfolding valuesIn atRuntime
 region-get s k img r runtime p q =
     ap₂ (λ (t : Bool) (x : List ℕ). getAt t k (values (entries x))) q p ∙ session-get s k (valuesOf img)
 
 pub region-name : (phase : ℕ) (k : Key) (img r : List ℕ) (runtime : Bool) → r ≡ region img → runtime ≡ eqb (countedPhase phase) 2
     → nameAt runtime k (values (entries r)) ≡ nextAt phase k img
-unfolding valuesOf
+unfolding valuesIn
 region-name phase k img r runtime p q = ap₂ (λ (t : Bool) (x : List ℕ). nameAt t k (values (entries x))) q p
 
 -- ---- whole calls

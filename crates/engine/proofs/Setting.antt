@@ -8,6 +8,7 @@ use mathlib.Core.Bool.{Bool, true, false}
 use mathlib.Core.List.{List, [], _++_}
 use mathlib.Core.Option.{Option, none, some}
 use lib.ListN.{length}
+use Rattle.model.specs.Layout.{authenticated}
 use Rattle.model.specs.declared.Session.{Session}
 use Rattle.model.specs.declared.Rule.{Rule}
 use Rattle.model.specs.Lists.{part, isSome, onSome}
@@ -15,10 +16,10 @@ use Rattle.model.specs.Name.{keyed}
 use Rattle.model.specs.Image.{block, regionSize, region}
 use Rattle.model.specs.Entry.{Value}
 use Rattle.model.specs.Walk as walk
-use Rattle.model.specs.Region.{entries, sound, values, valuesOf, added, replacing, standing, find}
+use Rattle.model.specs.Region.{entries, sound, values, valuesOf, added, replacing, standing, find, valuesIn}
 use Rattle.model.specs.Request.{Request, requestKey, dataProper, stampToStore}
 use Rattle.model.specs.Change.{Change, nothing, remove, put, changeIn, newData, newStamp, newValue}
-use Rattle.model.specs.Rules.{firstBroken, imageRules, requestRules, standingRules, resultRules, roomRules, rule8, setBroken}
+use Rattle.model.specs.Rules.{firstBroken, imageRules, requestRules, standingRules, resultRules, roomRules, rule8, setBroken, imageRulesIn}
 use Rattle.model.specs.Stores.{Store, Bytes}
 use Rattle.model.specs.Set.{Plan, refuse, make, fitsTail, deleteTo, putPlan, changePlan, setPlan}
 use Rattle.model.specs.Answers.{storesOf}
@@ -60,7 +61,7 @@ image-refused s q img rule h =
     let b : List (Rule × Bool) = standingRules s q vs in
     let c : List (Rule × Bool) = resultRules q vs in
     let d : List (Rule × Bool) = roomRules s q (regionSize img) vs in
-    let first : firstBroken i ≡ some rule = refused-rule img rule h in
+    let first : firstBroken i ≡ some rule = refused-rule authenticated img rule h in
     let broken : firstBroken (i ++ a ++ b ++ c ++ d) ≡ some rule =
     broken-append (i ++ a ++ b ++ c) d ∙ rw (broken-append (i ++ a ++ b) c, broken-append (i ++ a) b, broken-append i a, first) in
     ap (λ (o : Option Rule). onSome o refuse (changePlan img (changeIn q vs))) broken
@@ -85,7 +86,7 @@ module _ (s : Session) (name vendor : List ℕ) (a : ℕ) (bytes : List ℕ) (pr
   its-region = cut ∙ ready .cut
 
   decided : decisionOf s q (regionSize img) (valuesOf img) ≡ what
-  unfolding valuesOf
+  unfolding valuesIn
   decided =
       let long : length (region img) ≡ regionSize img = ready .long ∙ sym (region-size img b (ready .number)) in
       sym (d .0 ∙ ap (λ (x : List ℕ). decisionOf s q (length x) (values (entries x))) its-region
@@ -128,14 +129,14 @@ module _ (s : Session) (name vendor : List ℕ) (a : ℕ) (bytes : List ℕ) (pr
 
   -- rule 11: an entry of the name stands
   stands : what ≡ decision.Remove → isSome (standing (keyed name vendor) (entries (region img))) ≡ true
-  unfolding valuesOf
+  unfolding valuesIn
   stands h =
       let k = keyed name vendor in
       let es = entries (region img) in
       let present : isSome (find k (valuesOf img)) ≡ true =
       remove-present s q img (broken ∙ ap brokenOf h) k (remove-change s q (regionSize img) (valuesOf img) (decided ∙ h)) in
       let looked : find k (values es) ≡ onSome (standing k es) (λ e. some (walk.entryValue e)) none =
-      find-standing (length (region img)) es k (sound-parts (region img) (ready .sounds) .1) in
+      find-standing (length (region img)) es k (sound-parts authenticated (region img) (ready .sounds) .1) in
       go (standing k es) (ap isSome (sym looked) ∙ present)
     where
       go : (o : Option walk.Entry) → isSome (onSome o (λ e. some (walk.entryValue e)) none) ≡ true → isSome o ≡ true
@@ -179,7 +180,7 @@ module _ (s : Session) (name vendor : List ℕ) (a : ℕ) (bytes : List ℕ) (pr
   put-plan h = plan (put (valueToPut img name vendor a bytes)) (ap brokenOf h) (asked-change h)
 
   pub put-asked : what ≡ decision.Put → Asked img b at places (valueToPut img name vendor a bytes) × (rule8Of a bytes ≡ false)
-  unfolding setBroken imageRules requestRules standingRules valueToPut newValue newData dataProper
+  unfolding setBroken imageRulesIn requestRules standingRules valueToPut newValue newData dataProper
   put-asked h =
       let v = valueToPut img name vendor a bytes in
       let accepted : setBroken s q img ≡ none = broken ∙ ap brokenOf h in

@@ -10,13 +10,14 @@ ghost use Rattle.plan.specs.Planned.{plannedAs};
 ghost use Rattle.plan.specs.declared.Step.the-variants.{Mark, Program, Header};
 use model::Answer;
 use model::Context;
+use model::Layout;
 use plan::Judged;
 use plan::Plan;
 use plan::Planned;
 use plan::Step;
 
 // The stores of an entry's header: all its bytes but the state.
-const HEADER_STORES: usize = layout::HEADER - 1;
+const HEADER_STORES: usize = Layout::HEADER - 1;
 
 // One byte store.
 fn put(image: &mut [u8], at: usize, v: u8)
@@ -109,13 +110,13 @@ fn header(image: &mut [u8], at: usize, from: usize, i: usize, content: &[u8], le
     requires { ⌜ (i < 59) × (1 ≤ left) × (from + 60 ≤ length (now content)) × (at + 60 ≤ length (now image)) ⌝ }
     ensures { λ r. ⌜ Advances (now (content .entry)) (Header at from) i left (now (image .entry)) (now (image .exit)) r ⌝ }
 {
-    if i < layout::STATE {
-        let r = least(layout::STATE - i, left);
-        put_run(image, at, from, layout::HEADER, i, r, content);
+    if i < Layout::STATE {
+        let r = least(Layout::STATE - i, left);
+        put_run(image, at, from, Layout::HEADER, i, r, content);
         return r;
     }
     let r = least(HEADER_STORES - i, left);
-    put_run(image, at, from, layout::HEADER, i + 1, r, content);
+    put_run(image, at, from, Layout::HEADER, i + 1, r, content);
     r
 }
 

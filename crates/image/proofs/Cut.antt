@@ -8,15 +8,16 @@ use mathlib.Core.List.{List}
 use lib.ListN.{length}
 use lib.Dec.{eqb, leb}
 use borrow.Author.Tests.{leb-true, le-leb, eqb-true, eq-eqb}
+use Rattle.model.specs.declared.Layout.{Layout}
 use Rattle.model.specs.Lists.{part, allFF}
 use Rattle.model.specs.Image.{block, blocks, rightLength, regionSize, region, work, spare}
-use Rattle.model.specs.Region.{tailAt, sound, clean}
-use Rattle.model.specs.Work.{wellFormed, endsInFC, idle, pending, readyForCall, readyForStartUp}
-use Rattle.model.specs.Rules.{firstBroken, rule1, rule2, rule2StartUp, imageRules, startUpBroken}
+use Rattle.model.specs.Region.{tailAtIn, sound, clean, cleanIn}
+use Rattle.model.specs.Work.{wellFormed, endsInFC, idle, pending, readyIn, readyForStartUp}
+use Rattle.model.specs.Rules.{firstBroken, rule1, rule2StartUp, startUpBroken, imageRulesIn, rule2In}
 use Rattle.model.specs.declared.Rule.the-variants.{Length, Unready}
 use Rattle.model.proofs.Tests.{and-split, true-and}
 use Rattle.records.specs.Look.{lookAt}
-use Rattle.image.specs.Check.{blocksOf, callOf, startUpOf}
+use Rattle.image.specs.Check.{blocksOf, callIn, startUpOf}
 use Rattle.image.specs.declared.Check.the-variants as call
 use Rattle.image.specs.declared.Start.the-variants as start
 
@@ -55,11 +56,11 @@ blocks-wrong img wrong = go (rightLength img) refl
     go false e = refl
 
 -- no blocks: rule 1 is broken
-pub none-refused : (img : List ℕ) → blocksOf img ≡ 0 → (callOf img ≡ call.Refused Length) × (startUpOf img ≡ start.Refused Length)
-unfolding blocksOf callOf startUpOf imageRules startUpBroken firstBroken rule1
-none-refused img h = go (rightLength img) refl h
+pub none-refused : (y : Layout) (img : List ℕ) → blocksOf img ≡ 0 → (callIn y img ≡ call.Refused Length) × (startUpOf img ≡ start.Refused Length)
+unfolding blocksOf callIn startUpOf imageRulesIn startUpBroken firstBroken rule1
+none-refused y img h = go (rightLength img) refl h
   where
-    go : (t : Bool) → rightLength img ≡ t → cond t (blocks img) 0 ≡ 0 → (callOf img ≡ call.Refused Length) × (startUpOf img ≡ start.Refused Length)
+    go : (t : Bool) → rightLength img ≡ t → cond t (blocks img) 0 ≡ 0 → (callIn y img ≡ call.Refused Length) × (startUpOf img ≡ start.Refused Length)
     go true e f = let l = long-of img e in absurd (omega (arith, l .low))
     go false e f = rw e (refl, refl)
 
@@ -87,35 +88,36 @@ parted img b h n = go (rightLength img) refl (sym h)
 
 -- ---- what the rules make of it
 
-module _ (img : List ℕ) (b : ℕ) (p : Parted img b) where
-  pub call-ready : idle (work img) ≡ true → allFF (spare img) ≡ true → clean (region img) ≡ true → callOf img ≡ call.Ready b (tailAt (region img))
-  unfolding callOf imageRules firstBroken rule1 rule2 readyForCall
+module _ (y : Layout) (img : List ℕ) (b : ℕ) (p : Parted img b) where
+  pub call-ready : idle (work img) ≡ true → allFF (spare img) ≡ true → cleanIn y (region img) ≡ true → callIn y img ≡ call.Ready b (tailAtIn y (region img))
+  unfolding callIn imageRulesIn firstBroken rule1 rule2In readyIn
   call-ready i s c = rw (p .right-length, c, s, i, p .same)
 
-  unready : readyForCall img ≡ false → callOf img ≡ call.Refused Unready
-  unfolding callOf imageRules firstBroken rule1 rule2
+  unready : readyIn y img ≡ false → callIn y img ≡ call.Refused Unready
+  unfolding callIn imageRulesIn firstBroken rule1 rule2In
   unready h = rw (p .right-length, h)
 
-  pub call-not-idle : idle (work img) ≡ false → callOf img ≡ call.Refused Unready
-  unfolding readyForCall
-  call-not-idle i = unready (go (clean (region img) && allFF (spare img)) (idle (work img)) i)
+  pub call-not-idle : idle (work img) ≡ false → callIn y img ≡ call.Refused Unready
+  unfolding readyIn
+  call-not-idle i = unready (go (cleanIn y (region img) && allFF (spare img)) (idle (work img)) i)
     where
       go : (t u : Bool) → u ≡ false → (t && u) ≡ false
       go true u e = e
       go false u e = refl
 
-  pub call-not-blank : allFF (spare img) ≡ false → callOf img ≡ call.Refused Unready
-  unfolding readyForCall
-  call-not-blank s = unready (go (clean (region img)) (allFF (spare img)) (idle (work img)) s)
+  pub call-not-blank : allFF (spare img) ≡ false → callIn y img ≡ call.Refused Unready
+  unfolding readyIn
+  call-not-blank s = unready (go (cleanIn y (region img)) (allFF (spare img)) (idle (work img)) s)
     where
       go : (t u v : Bool) → u ≡ false → (t && u && v) ≡ false
       go true u v e = rw e
       go false u v e = refl
 
-  pub call-not-clean : clean (region img) ≡ false → callOf img ≡ call.Refused Unready
-  unfolding readyForCall
+  pub call-not-clean : cleanIn y (region img) ≡ false → callIn y img ≡ call.Refused Unready
+  unfolding readyIn
   call-not-clean c = unready (rw c)
 
+module _ (img : List ℕ) (b : ℕ) (p : Parted img b) where
   pub pending-of : (wellFormed (work img) && endsInFC (work img)) ≡ true → pending img ≡ clean (spare img)
   unfolding pending
   pending-of w = rw w

@@ -4,14 +4,15 @@ use Prim.Native.Nat.{ℕ}
 use mathlib.Core.Path.{_≡_, sym, ap, _∙_}
 use mathlib.Core.Bool.{Bool, true, cond, _&&_}
 use mathlib.Core.List.{List}
+use Rattle.model.specs.declared.Layout.{Layout}
 use Rattle.model.specs.Lists.{allFF}
-use Rattle.model.specs.Region.{tailAt, tail, sound, clean}
+use Rattle.model.specs.Region.{tailAtIn, tailIn, soundIn, cleanIn}
 use Rattle.model.specs.Work.{wellFormed, endsInFC, idle}
 use Rattle.model.proofs.Tests.{and-split}
 use Rattle.records.specs.Look.{lookAt, idleAt, endsAt}
 use Rattle.records.specs.declared.Look.{Look}
 use Rattle.records.proofs.Block.{look-idle, look-closed}
-use Rattle.region.specs.Judge.{judgedOf}
+use Rattle.region.specs.Judge.{judgedIn}
 use Rattle.region.specs.declared.Judged.{Judged}
 
 -- cut from the image as w′, which is its part w
@@ -22,23 +23,23 @@ module _ {w w′ : List ℕ} (same : w′ ≡ w) {l : Look} (looked : l ≡ look
   pub told-closed : t ≡ endsAt l → (wellFormed w && endsInFC w) ≡ t
   told-closed e = sym (look-closed w) ∙ ap (λ (x : List ℕ). endsAt (lookAt x)) (sym same) ∙ ap endsAt (sym looked) ∙ sym e
 
-module _ {r r′ : List ℕ} (same : r′ ≡ r) {j : Judged} (judged : j ≡ judgedOf r′) where
-  its : j ≡ judgedOf r
-  its = judged ∙ ap judgedOf same
+module _ (y : Layout) {r r′ : List ℕ} (same : r′ ≡ r) {j : Judged} (judged : j ≡ judgedIn y r′) where
+  its : j ≡ judgedIn y r
+  its = judged ∙ ap (judgedIn y) same
 
-  pub told-clean : clean r ≡ j .clean
-  unfolding judgedOf
+  pub told-clean : cleanIn y r ≡ j .clean
+  unfolding judgedIn
   told-clean = sym (ap (λ (x : Judged). x .clean) its)
 
-  pub told-sound : sound r ≡ j .sound
-  unfolding judgedOf
+  pub told-sound : soundIn y r ≡ j .sound
+  unfolding judgedIn
   told-sound = sym (ap (λ (x : Judged). x .sound) its)
 
-  told-tail : j .tail ≡ cond (sound r) (tailAt r) 0
-  unfolding judgedOf
+  told-tail : j .tail ≡ cond (soundIn y r) (tailAtIn y r) 0
+  unfolding judgedIn
   told-tail = ap (λ (x : Judged). x .tail) its
 
   -- a clean region's tail
-  pub told-clean-tail : j .clean ≡ true → j .tail ≡ tailAt r
-  unfolding clean
-  told-clean-tail e = told-tail ∙ rw (and-split (sound r) (allFF (tail r)) (told-clean ∙ e) .0)
+  pub told-clean-tail : j .clean ≡ true → j .tail ≡ tailAtIn y r
+  unfolding cleanIn
+  told-clean-tail e = told-tail ∙ rw (and-split (soundIn y r) (allFF (tailIn y r)) (told-clean ∙ e) .0)

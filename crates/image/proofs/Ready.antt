@@ -9,33 +9,34 @@ use mathlib.Core.List.{List}
 use mathlib.Core.Option.{Option, none, some}
 use lib.ListN.{length}
 use borrow.Author.Tests.{not-false}
+use Rattle.model.specs.declared.Layout.{Layout}
 use Rattle.model.specs.Lists.{part, onSome, allFF}
 use Rattle.model.specs.Image.{block, blocks, rightLength, regionSize, region, spare, work}
-use Rattle.model.specs.Region.{tailAt, tail, sound, clean}
-use Rattle.model.specs.Work.{idle, readyForCall}
-use Rattle.model.specs.Rules.{firstBroken, rule1, rule2, imageRules}
+use Rattle.model.specs.Region.{tailAtIn, tailIn, soundIn, cleanIn}
+use Rattle.model.specs.Work.{idle, readyIn}
+use Rattle.model.specs.Rules.{firstBroken, rule1, rule2In, imageRulesIn}
 use Rattle.model.specs.declared.Rule.{Rule}
 use Rattle.model.proofs.Tests.{and-split}
 use Rattle.model.proofs.Parts.{right-parts, parts-region, parts-size}
 use Rattle.model.proofs.Chunks.{sound-chunked, made-length, made-tailAt}
 use Rattle.model.proofs.Requests.{unbroken}
-use Rattle.image.specs.Check.{callOf, IsReady}
+use Rattle.image.specs.Check.{callIn, IsReadyIn}
 use Rattle.image.specs.declared.Check.the-variants.{Ready, Refused}
 
 -- a refused image
-pub refused-rule : (img : List ℕ) (rule : Rule) → callOf img ≡ Refused rule → firstBroken (imageRules img) ≡ some rule
-unfolding callOf
-refused-rule img rule p = go (firstBroken (imageRules img)) p
+pub refused-rule : (y : Layout) (img : List ℕ) (rule : Rule) → callIn y img ≡ Refused rule → firstBroken (imageRulesIn y img) ≡ some rule
+unfolding callIn
+refused-rule y img rule p = go (firstBroken (imageRulesIn y img)) p
   where
-    go : (o : Option Rule) → onSome o Refused (Ready (blocks img) (tailAt (region img))) ≡ Refused rule → o ≡ some rule
+    go : (o : Option Rule) → onSome o Refused (Ready (blocks img) (tailAtIn y (region img))) ≡ Refused rule → o ≡ some rule
     go (some x) p = let same : x ≡ rule = cc in ap some same
     go none p = let z : _≡_ {A = ℕ} 0 1 = cc in absurd (omega arith)
 
-ready-sound : (img : List ℕ) → readyForCall img ≡ true → sound (region img) ≡ true
-unfolding readyForCall clean
-ready-sound img h =
-    and-split (sound (region img)) (allFF (tail (region img)))
-    (and-split (clean (region img)) (allFF (spare img)) (and-split (clean (region img) && allFF (spare img)) (idle (work img)) h .0) .0) .0
+ready-sound : (y : Layout) (img : List ℕ) → readyIn y img ≡ true → soundIn y (region img) ≡ true
+unfolding readyIn cleanIn
+ready-sound y img h =
+    and-split (soundIn y (region img)) (allFF (tailIn y (region img)))
+    (and-split (cleanIn y (region img)) (allFF (spare img)) (and-split (cleanIn y (region img) && allFF (spare img)) (idle (work img)) h .0) .0) .0
 
 -- the length of the region of an image of a right length
 region-long : (img : List ℕ) → rightLength img ≡ true → (blocks img ≤ 7) × (length (region img) ≡ 4096 * blocks img)
@@ -48,31 +49,32 @@ region-long img h =
     let l = ap length r in
     (omega (arith, p .high), omega (arith, p .region-long))
 
-sound-tail : (r : List ℕ) → length r % 4 ≡ 0 → sound r ≡ true → tailAt r ≤ length r
-sound-tail r m s =
-    let c = sound-chunked r m s in
-    let t = made-tailAt (c .made) in
-    let l = made-length (c .made) in
+sound-tail : (y : Layout) (r : List ℕ) → length r % 4 ≡ 0 → soundIn y r ≡ true → tailAtIn y r ≤ length r
+sound-tail y r m s =
+    let c = sound-chunked y r m s in
+    let t = made-tailAt y (c .made) in
+    let l = made-length y (c .made) in
     omega arith
 
-pub is-ready : (img : List ℕ) (b t : ℕ) → callOf img ≡ Ready b t → IsReady img b t
-unfolding callOf imageRules rule1 rule2 region regionSize block
-is-ready img b t p = go (firstBroken (imageRules img)) refl p
+pub is-ready : (y : Layout) (img : List ℕ) (b t : ℕ) → callIn y img ≡ Ready b t → IsReadyIn y img b t
+unfolding callIn imageRulesIn rule1 rule2In region regionSize block
+is-ready y img b t p = go (firstBroken (imageRulesIn y img)) refl p
   where
-    go : (o : Option Rule) → firstBroken (imageRules img) ≡ o → onSome o Refused (Ready (blocks img) (tailAt (region img))) ≡ Ready b t → IsReady img b t
+    go : (o : Option Rule) → firstBroken (imageRulesIn y img) ≡ o → onSome o Refused (Ready (blocks img) (tailAtIn y (region img))) ≡ Ready b t
+        → IsReadyIn y img b t
     go (some x) q p = let z : _≡_ {A = ℕ} 0 1 = cc in absurd (omega arith)
     go none q p =
         let n : blocks img ≡ b = cc in
-        let e : tailAt (region img) ≡ t = cc in
-        let right : rightLength img ≡ true = not-false (rightLength img) (unbroken (imageRules img) 1 q) in
-        let ready : readyForCall img ≡ true = not-false (readyForCall img) (unbroken (imageRules img) 2 q) in
+        let e : tailAtIn y (region img) ≡ t = cc in
+        let right : rightLength img ≡ true = not-false (rightLength img) (unbroken (imageRulesIn y img) 1 q) in
+        let ready : readyIn y img ≡ true = not-false (readyIn y img) (unbroken (imageRulesIn y img) 2 q) in
         let l = region-long img right in
-        let w = sound-tail (region img) (omega (arith, l .1)) (ready-sound img ready) in
+        let w = sound-tail y (region img) (omega (arith, l .1)) (ready-sound y img ready) in
         record {
           unbroken = q;
           right = right;
           ready = ready;
-          sounds = ready-sound img ready;
+          sounds = ready-sound y img ready;
           number = n;
           few = omega (arith, l .0);
           cut = ap (λ (k : ℕ). part 0 (4096 * k) img) (sym n);

@@ -4,7 +4,8 @@ ghost use Prim.Native.Nat.{_≤_};
 ghost use Rattle.model.specs.Image.{work};
 ghost use Rattle.model.specs.Work.{pending};
 ghost use Rattle.records.specs.Look.{lookAt};
-ghost use Rattle.image.specs.Check.{blocksOf, callOf, startUpOf};
+ghost use Rattle.image.specs.Check.{blocksOf, callIn, callOf, startUpOf};
+use model::Layout;
 use model::Rule;
 use records::Look;
 
@@ -42,9 +43,9 @@ pub fn blocks(image: &[u8]) -> usize
     0
 }
 
-// Rules 1 and 2 as a call meets them. What is cheap to look at comes first: the work block, the spare, then the entries.
-pub fn check_call(image: &[u8]) -> Check
-    ensures { λ r. ⌜ r ≡ callOf (now (image .entry)) ⌝ }
+// Rules 1 and 2 as a call meets them, in a stored form. What is cheap to look at comes first: the work block, the spare, then the entries.
+pub fn check_in(y: Layout, image: &[u8]) -> Check
+    ensures { λ r. ⌜ r ≡ callIn y (now (image .entry)) ⌝ }
 {
     let b = blocks(image);
     if b == 0 {
@@ -53,13 +54,20 @@ pub fn check_call(image: &[u8]) -> Check
     let size = layout::BLOCK * b;
     if records::is_idle(records::look_at(slices::cut(image, size, layout::BLOCK))) {
         if slices::is_blank(slices::cut(image, size + layout::BLOCK, size)) {
-            let j = region::judge::judge(slices::cut(image, 0, size));
+            let j = region::judge::judge_in(y, slices::cut(image, 0, size));
             if j.clean {
                 return Check::Ready(b, j.tail);
             }
         }
     }
     Check::Refused(Rule::Unready)
+}
+
+// The same in the form in which calls store.
+pub fn check_call(image: &[u8]) -> Check
+    ensures { λ r. ⌜ r ≡ callOf (now (image .entry)) ⌝ }
+{
+    check_in(Layout::authenticated(), image)
 }
 
 // Whether a compaction of b blocks is pending, by a look at the work block.

@@ -11,20 +11,22 @@ use lib.ListN.{length, getD, take, drop, length-take, length-drop}
 use lib.Dec.{eqb}
 use lib.Seq.{drop-drop, take-nil, getD-take, getD-drop}
 use borrow.Author.Tests.{eq-eqb, ne-eqb, eqb-true, eqb-false, le-leb, lt-leb}
+use Rattle.model.specs.declared.Layout.{Layout}
+use Rattle.model.specs.Layout.{authenticated, headerLength, vendorAt}
 use Rattle.model.specs.Lists.{part, same, u32At}
-use Rattle.model.specs.Entry.{headerFields}
+use Rattle.model.specs.Entry.{headerFieldsIn}
 use Rattle.model.specs.Walk.{placed}
 use Rattle.model.proofs.Tests.{same-eq}
 use Rattle.slices.specs.Agree.{fourAt}
 use Rattle.layout.specs.Head.{nameIn, mayBe, Unlike}
 use Rattle.layout.specs.declared.Entry.{Entry}
 
-module _ (s : List ℕ) (e : Entry) where
-  pub unnamed : e .state ≡ 0xFF → nameIn s e ≡ []
+module _ (y : Layout) (s : List ℕ) (e : Entry) where
+  pub unnamed : e .state ≡ 0xFF → nameIn y s e ≡ []
   unfolding nameIn placed
   unnamed h = rw (eq-eqb (e .state) 0xFF h)
 
-  pub named : e .state ≢ 0xFF → nameIn s e ≡ part 60 (e .name) s
+  pub named : e .state ≢ 0xFF → nameIn y s e ≡ part (headerLength y) (e .name) s
   unfolding nameIn placed
   named h = rw (ne-eqb (e .state) 0xFF h)
 
@@ -35,16 +37,18 @@ take-plus zero b l = ap (λ k. take k l) (zero-add b)
 take-plus (suc a) b [] = take-nil (suc a + b) ∙ sym (take-nil b)
 take-plus (suc a) b (x ∷ l) = ap (λ k. take k (x ∷ l)) (suc-add a b) ∙ ap (λ r. x ∷ r) (take-plus a b l)
 
-module _ (s : List ℕ) (e : Entry) where
-  pub unnamed-key : e .state ≡ 0xFF → part 44 16 s ≡ headerFields s .vendor ++ nameIn s e
-  unfolding headerFields
-  unnamed-key h = rw (unnamed s e h) (sym (append-nil (part 44 16 s)))
+module _ (y : Layout) (s : List ℕ) (e : Entry) where
+  pub unnamed-key : e .state ≡ 0xFF → part (vendorAt y) 16 s ≡ headerFieldsIn y s .vendor ++ nameIn y s e
+  unfolding headerFieldsIn
+  unnamed-key h = rw (unnamed y s e h) (sym (append-nil (part (vendorAt y) 16 s)))
 
-  pub named-key : e .state ≢ 0xFF → part 44 (16 + e .name) s ≡ headerFields s .vendor ++ nameIn s e
-  unfolding headerFields
+  pub named-key : e .state ≢ 0xFF → part (vendorAt y) (16 + e .name) s ≡ headerFieldsIn y s .vendor ++ nameIn y s e
+  unfolding headerFieldsIn
   named-key h =
-      take-plus 16 (e .name) (drop 44 s)
-      ∙ ap (λ r. part 44 16 s ++ r) (ap (take (e .name)) (drop-drop 16 44 s) ∙ sym (named s e h))
+      take-plus 16 (e .name) (drop (vendorAt y) s)
+      ∙ ap (λ (r : List ℕ). part (vendorAt y) 16 s ++ r)
+      (ap (take (e .name)) (drop-drop 16 (vendorAt y) s ∙ ap (λ (k : ℕ). drop k s) (let k : vendorAt y + 16 ≡ headerLength y = omega arith in k))
+      ∙ sym (named y s e h))
 
 -- ---- a word of the name
 
@@ -70,16 +74,16 @@ module _ (s : List ℕ) (a m : ℕ) where
 
 -- where a word of a name does not stand, the entry has another
 pub unlike : (s name : List ℕ) (i k : ℕ) → k ≡ 60 + i → i + 4 ≤ length name → (fourAt s k ≡ fourAt name i → ⊥) → Unlike s name
-unlike s name i k place h d e = go (same (nameIn s e) name) refl (eqb (e .state) 0xFF) refl
+unlike s name i k place h d e = go (same (nameIn authenticated s e) name) refl (eqb (e .state) 0xFF) refl
   where
-    go : (t : Bool) → same (nameIn s e) name ≡ t → (u : Bool) → eqb (e .state) 0xFF ≡ u → same (nameIn s e) name ≡ false
+    go : (t : Bool) → same (nameIn authenticated s e) name ≡ t → (u : Bool) → eqb (e .state) 0xFF ≡ u → same (nameIn authenticated s e) name ≡ false
     go false q u f = q
     go true q true f =
-        let own = sym (unnamed s e (eqb-true (e .state) 0xFF f)) ∙ same-eq (nameIn s e) name q in
+        let own = sym (unnamed authenticated s e (eqb-true (e .state) 0xFF f)) ∙ same-eq (nameIn authenticated s e) name q in
         let long = ap length own in
         absurd (omega arith)
     go true q false f =
-        let own = sym (named s e (eqb-false (e .state) 0xFF f)) ∙ same-eq (nameIn s e) name q in
+        let own = sym (named authenticated s e (eqb-false (e .state) 0xFF f)) ∙ same-eq (nameIn authenticated s e) name q in
         let long : i + 4 ≤ length (part 60 (e .name) s) = rw own h in
         absurd (d (sym (part-four s 60 (e .name) i k long place) ∙ ap (λ l. fourAt l i) own))
 

@@ -1,12 +1,13 @@
-// The fixed byte strings of the format: signature, vendor GUIDs, certificate GUID, key names, and the region's header.
+// The fixed byte strings of the format: vendor GUIDs, certificate GUID, key names, and the region's header.
 ghost use mathlib.Core.Path.{_≡_};
 ghost use mathlib.Core.Bool.{_&&_, _||_};
 ghost use Prim.Native.Nat.{_%_};
 ghost use Rattle.model.specs.Lists.{same};
-ghost use Rattle.model.specs.Image.{regionHeader};
-ghost use Rattle.model.specs.Region.{rightHeader};
+ghost use Rattle.model.specs.Image.{regionHeader, regionHeaderIn};
+ghost use Rattle.model.specs.Region.{rightHeaderIn};
 ghost use Rattle.model.specs.Name.{keyed, sameKey};
 ghost use Rattle.model.specs.Request.{globalVendor, databaseVendor, certificate, keyPK, keyKEK, keydb, keydbx, keydbt, isDatabase, isKeyName};
+use model::Layout;
 
 pub fn global_vendor() -> [u8; 16]
     ensures { λ r. ⌜ r ≡ globalVendor ⌝ }
@@ -62,23 +63,58 @@ fn low_byte(x: usize) -> u8
     (x % 256) as u8
 }
 
-// The header of a region of `size` bytes: the signature, the size, format 5A, state FE, six zero bytes.
+// The header of a region of `size` bytes: the form's signature, the size, format 5A, state FE, six zero bytes.
+pub fn region_header_in(y: Layout, size: usize) -> [u8; 28]
+    ensures { λ r. ⌜ r ≡ regionHeaderIn y size ⌝ }
+{
+    let s = y.signature();
+    let a = low_byte(size);
+    let b = low_byte(size / 0x100);
+    let c = low_byte(size / 0x10000);
+    let d = low_byte(size / 0x1000000);
+    [
+        s[0],
+        s[1],
+        s[2],
+        s[3],
+        s[4],
+        s[5],
+        s[6],
+        s[7],
+        s[8],
+        s[9],
+        s[10],
+        s[11],
+        s[12],
+        s[13],
+        s[14],
+        s[15],
+        a,
+        b,
+        c,
+        d,
+        0x5A,
+        0xFE,
+        0,
+        0,
+        0,
+        0,
+        0,
+        0,
+    ]
+}
+
+// The same in the form in which calls store.
 pub fn region_header(size: usize) -> [u8; 28]
     ensures { λ r. ⌜ r ≡ regionHeader size ⌝ }
 {
-    let mut header =
-        *b"\x78\x2C\xF3\xAA\x7B\x94\x9A\x43\xA1\x80\x2E\x14\x4E\xC3\x77\x92\0\0\0\0\x5A\xFE\0\0\0\0\0\0";
-    header[16] = low_byte(size);
-    header[17] = low_byte(size / 0x100);
-    header[18] = low_byte(size / 0x10000);
-    header[19] = low_byte(size / 0x1000000);
-    header
+    region_header_in(Layout::authenticated(), size)
 }
 
-pub fn right_header(region: &[u8]) -> bool
-    ensures { λ r. ⌜ r ≡ rightHeader (now (region .entry)) ⌝ }
+pub fn right_header(y: Layout, region: &[u8]) -> bool
+    ensures { λ r. ⌜ r ≡ rightHeaderIn y (now (region .entry)) ⌝ }
 {
-    let header = region_header(region.len());
+    let header = region_header_in(y, region.len());
     slices::equal(slices::cut(region, 0, crate::REGION_HEADER), &header)
 }
 

@@ -1,12 +1,14 @@
-// The layout of an entry; the fixed byte strings of the format stand in `fixed`.
+// The readers of an entry, in every stored form; the fixed byte strings of the format stand in `fixed`.
 ghost use mathlib.Core.Path.{_≡_};
 ghost use mathlib.Core.Bool.{false};
 ghost use mathlib.Core.List.{_++_};
 ghost use Prim.Native.Nat.{_+_, _<_, _^_};
 ghost use lib.ListN.{getD};
 ghost use Rattle.model.specs.Lists.{u16At, u32At};
-ghost use Rattle.model.specs.Entry.{headerSize, headerFields, rounded};
-ghost use Rattle.layout.specs.Head.{headOf, nameIn, dataIn, mayBe, Unlike};
+ghost use Rattle.model.specs.Layout.{headerLength};
+ghost use Rattle.model.specs.Entry.{headerSize, headerFields, headerFieldsIn, rounded};
+ghost use Rattle.layout.specs.Head.{headIn, nameIn, dataIn, mayBe, Unlike};
+use model::Layout;
 
 pub mod fixed;
 
@@ -18,12 +20,6 @@ pub const CONTENT: usize = 28672;
 
 // The bytes of the region's header, behind which the walk starts.
 pub const REGION_HEADER: usize = 28;
-
-// The bytes of an entry's header, which its name follows.
-pub const HEADER: usize = 60;
-
-// Where an entry's state stands in it.
-pub const STATE: usize = 2;
 
 // The bytes of the longest data that a value may have.
 pub const LARGEST_DATA: u32 = 2048;
@@ -77,18 +73,18 @@ pub fn u32_at(s: &[u8], i: usize) -> u32
 }
 
 // The header at the front of `s`, the part of the region from an entry's first byte on.
-pub fn read_head(s: &[u8]) -> Head
-    ensures { λ r. ⌜ r ≡ headOf (now (s .entry)) ⌝ }
+pub fn read_head(y: Layout, s: &[u8]) -> Head
+    ensures { λ r. ⌜ r ≡ headIn y (now (s .entry)) ⌝ }
 {
-    if s.len() < HEADER {
+    if s.len() < y.header() {
         return Head::End;
     }
     if u16_at(s, 0) == 0x55AA {
         Head::Present(Entry {
-            state: s[STATE],
-            attributes: u32_at(s, 4),
-            name: u32_at(s, 36),
-            size: u32_at(s, 40),
+            state: s[Layout::STATE],
+            attributes: u32_at(s, Layout::ATTRIBUTES),
+            name: u32_at(s, y.name_size()),
+            size: u32_at(s, y.data_size()),
         })
     } else {
         Head::End
@@ -104,58 +100,68 @@ pub fn rounded(size: usize) -> usize
 }
 
 // The rounded size of an entry whose name and data have so many bytes.
+pub fn entry_size_in(y: Layout, name: usize, size: usize) -> usize
+    requires { ⌜ headerLength y + name + size + 3 < 2 ^ 64 ⌝ }
+    ensures { λ r. ⌜ r ≡ rounded (headerLength y + name + size) ⌝ }
+{
+    rounded(y.header() + name + size)
+}
+
+// The same in the form in which calls store.
 pub fn entry_size(name: usize, size: usize) -> usize
     requires { ⌜ headerSize + name + size + 3 < 2 ^ 64 ⌝ }
     ensures { λ r. ⌜ r ≡ rounded (headerSize + name + size) ⌝ }
 {
-    rounded(HEADER + name + size)
+    rounded(Layout::HEADER + name + size)
 }
 
-// The stamp of the entry at the front of `s`.
+// The stamp of the entry at the front of `s`, in the form in which calls store.
 pub fn stamp_of(s: &[u8]) -> &[u8]
     ensures { λ r. ⌜ now r ≡ headerFields (now (s .entry)) .stamp ⌝ }
 {
-    slices::cut(s, 16, 16)
+    slices::cut(s, Layout::STAMP, 16)
 }
 
-// Its GUID.
-pub fn vendor_of(s: &[u8]) -> &[u8]
-    ensures { λ r. ⌜ now r ≡ headerFields (now (s .entry)) .vendor ⌝ }
+// The GUID of the entry at the front of `s`.
+pub fn vendor_of(y: Layout, s: &[u8]) -> &[u8]
+    ensures { λ r. ⌜ now r ≡ headerFieldsIn y (now (s .entry)) .vendor ⌝ }
 {
-    slices::cut(s, 44, 16)
+    slices::cut(s, y.vendor(), 16)
 }
 
 // Its GUID and its name, which stand one behind the other.
-pub fn key_of(s: &[u8], e: Entry) -> &[u8]
-    ensures { λ r. ⌜ now r ≡ headerFields (now (s .entry)) .vendor ++ nameIn (now (s .entry)) e ⌝ }
+pub fn key_of(y: Layout, s: &[u8], e: Entry) -> &[u8]
+    ensures { λ r. ⌜ now r ≡ headerFieldsIn y (now (s .entry)) .vendor ++ nameIn y (now (s .entry)) e ⌝ }
 {
+    let at = y.vendor();
     if e.state == 0xFF {
-        return slices::cut(s, 44, 16);
+        return slices::cut(s, at, 16);
     }
-    slices::cut(s, 44, 16 + e.name as usize)
+    slices::cut(s, at, 16 + e.name as usize)
 }
 
 // Its name by its numbers, as much of it as is there; an unfinished entry has none.
-pub fn name_of(s: &[u8], e: Entry) -> &[u8]
-    ensures { λ r. ⌜ now r ≡ nameIn (now (s .entry)) e ⌝ }
+pub fn name_of(y: Layout, s: &[u8], e: Entry) -> &[u8]
+    ensures { λ r. ⌜ now r ≡ nameIn y (now (s .entry)) e ⌝ }
 {
     if e.state == 0xFF {
         return &s[..0];
     }
-    slices::cut(s, HEADER, e.name as usize)
+    slices::cut(s, y.header(), e.name as usize)
 }
 
 // Its data, likewise.
-pub fn data_of(s: &[u8], e: Entry) -> &[u8]
-    ensures { λ r. ⌜ now r ≡ dataIn (now (s .entry)) e ⌝ }
+pub fn data_of(y: Layout, s: &[u8], e: Entry) -> &[u8]
+    ensures { λ r. ⌜ now r ≡ dataIn y (now (s .entry)) e ⌝ }
 {
     if e.state == 0xFF {
         return &s[..0];
     }
-    slices::cut(s, HEADER + e.name as usize, e.size as usize)
+    slices::cut(s, y.header() + e.name as usize, e.size as usize)
 }
 
-// Whether the entry at the front of `s`, whatever its numbers, may have this name: the words at the end and at the front of the name, which are cheap to see.
+// Whether the entry at the front of `s`, in the form in which calls store and whatever its numbers, may have this name: the words at the end and at the front
+// of the name, which are cheap to see.
 pub fn may_be(s: &[u8], name: &[u8]) -> bool
     ensures { λ r. ⌜ (r ≡ mayBe (now (s .entry)) (now (name .entry))) × (r ≡ false → Unlike (now (s .entry)) (now (name .entry))) ⌝ }
 {
@@ -163,8 +169,8 @@ pub fn may_be(s: &[u8], name: &[u8]) -> bool
     if n < 4 {
         return true;
     }
-    if slices::four(s, HEADER + (n - 4)) == slices::four(name, n - 4) {
-        return slices::four(s, HEADER) == slices::four(name, 0);
+    if slices::four(s, Layout::HEADER + (n - 4)) == slices::four(name, n - 4) {
+        return slices::four(s, Layout::HEADER) == slices::four(name, 0);
     }
     false
 }

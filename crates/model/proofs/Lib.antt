@@ -21,3 +21,5 @@ pub mod WorkBlock
 pub mod Requests
 -- A place of the lock list, and one more lock
 pub mod Locks
+-- A move between forms
+pub mod Moving

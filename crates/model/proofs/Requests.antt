@@ -13,16 +13,17 @@ use lib.Dec.{eqb, leb, ltb}
 use borrow.Author.Tests.{ltb-false, leb-true, eqb-true, eqb-false, ne-eqb, not-false}
 use Rattle.model.specs.declared.Session.{Session}
 use Rattle.model.specs.declared.Rule.{Rule}
+use Rattle.model.specs.Layout.{authenticated}
 use Rattle.model.specs.Lists.{allFF, among, isEmpty, isSome, onSome, orElse}
 use Rattle.model.specs.Name.{Key, wellNamed}
 use Rattle.model.specs.Image.{rightLength, regionSize, region, work, spare}
 use Rattle.model.specs.Entry.{Value, keyOf}
-use Rattle.model.specs.Region.{maxData, storedAttributes, tail, sound, clean, valuesOf, find}
-use Rattle.model.specs.Work.{idle, readyForCall, readyForStartUp}
+use Rattle.model.specs.Region.{maxData, storedAttributes, tail, sound, clean, cleanIn, valuesOf, valuesIn, find}
+use Rattle.model.specs.Work.{idle, readyForCall, readyIn, readyForStartUp}
 use Rattle.model.specs.Session.{reserved}
 use Rattle.model.specs.Request.{Request, requestKey, stampSize, timeBased, appends, withoutAppend, dataProper, stampToStore, later, properAt, rightDescriptor}
 use Rattle.model.specs.Change.{nothing, remove, put, deletes, emptyAppend, equalTo, newData, laterOf, newStamp, newValue, changeOf, changeIn, step, spaceOf}
-use Rattle.model.specs.Rules.{firstBroken, rule1, rule2, rule2StartUp, rule3, rule4, rule8, rule11, rule12, rule13, imageRules, requestRules, standingRules, resultRules, roomRules, removesAbsent, setBroken, getBroken, nextBroken, startUpBroken}
+use Rattle.model.specs.Rules.{firstBroken, rule1, rule2In, rule2StartUp, rule3, rule4, rule8, rule11, rule12, rule13, imageRulesIn, requestRules, standingRules, resultRules, roomRules, removesAbsent, setBroken, getBroken, nextBroken, startUpBroken}
 use Rattle.model.specs.Answers.{ruleNumber}
 use Rattle.model.specs.Beside.{Valid}
 use Rattle.model.proofs.Encode.{AllValid, sound-valid}
@@ -154,14 +155,15 @@ new-stamp P r old p f = go (appends (r .attributes) && timeBased (r .attributes)
     go true (some v) f = pick (later (stampToStore r) (v .stamp)) p (f v refl)
 
 -- the values of an image that is ready are valid
-image-valid : (img : List ℕ) → rightLength img ≡ true → readyForCall img ≡ true → AllValid (valuesOf img)
-unfolding valuesOf readyForCall clean
+image-valid : (img : List ℕ) → rightLength img ≡ true → readyForCall img ≡ true → AllValid authenticated (valuesOf img)
+unfolding valuesIn readyIn cleanIn
 image-valid img l h =
     let i = right-parts img l in
     let a = and-split (clean (region img) && allFF (spare img)) (idle (work img)) h .0 in
     let c = and-split (clean (region img)) (allFF (spare img)) a .0 in
     let s = and-split (sound (region img)) (allFF (tail (region img))) c .0 in
-    sound-valid (region img) (region-chunked (i .b) (ap length (ap region (i .whole) ∙ parts-region (i .parts)) ∙ i .parts .region-long) s)
+    sound-valid authenticated (region img) (region-chunked authenticated (i .b) (ap length (ap region (i .whole) ∙ parts-region (i .parts))
+    ∙ i .parts .region-long) s)
 
 stamp-length : (r : Request) → rule8 r ≡ false → length (stampToStore r) ≡ 16
 unfolding rule8 stampToStore
@@ -177,11 +179,11 @@ stamp-length r h = go (timeBased (r .attributes)) (rightDescriptor (r .bytes)) r
 
 module _ (s : Session) (r : Request) (img : List ℕ) (accepted : setBroken s r img ≡ none) where
   pub set-length : rightLength img ≡ true
-  unfolding setBroken imageRules rule1
+  unfolding setBroken imageRulesIn rule1
   set-length = not-false (rightLength img) (unbroken _ 1 accepted)
 
   pub set-ready : readyForCall img ≡ true
-  unfolding setBroken imageRules rule2
+  unfolding setBroken imageRulesIn rule2In
   set-ready = not-false (readyForCall img) (unbroken _ 2 accepted)
 
   pub put-key : (v : Value) → changeIn r (valuesOf img) ≡ put v → keyOf v ≡ requestKey r
@@ -191,10 +193,10 @@ module _ (s : Session) (r : Request) (img : List ℕ) (accepted : setBroken s r 
   -- the old stamp is 16 bytes, since the region is sound
   old-stamp : (v : Value) → find (requestKey r) (valuesOf img) ≡ some v → length (v .stamp) ≡ 16
   old-stamp v e =
-      find-holds Valid AllValid (λ w ws h. h) (requestKey r) (valuesOf img) (image-valid img set-length set-ready) v e .stamp
+      find-holds Valid (AllValid authenticated) (λ w ws h. h) (requestKey r) (valuesOf img) (image-valid img set-length set-ready) v e .stamp
 
   pub put-is-valid : (v : Value) → changeIn r (valuesOf img) ≡ put v → length (r .vendor) ≡ 16 → Valid v
-  unfolding setBroken imageRules requestRules standingRules resultRules rule3 rule12 changeIn newValue
+  unfolding setBroken imageRulesIn requestRules standingRules resultRules rule3 rule12 changeIn newValue
   put-is-valid v c g =
       let p = puts r (find (requestKey r) (valuesOf img)) v c in
       let n : rule3 (requestKey r) ≡ false = unbroken _ 3 accepted in
@@ -207,20 +209,21 @@ module _ (s : Session) (r : Request) (img : List ℕ) (accepted : setBroken s r 
         named = not-false (wellNamed (r .name)) n;
         vendor = g;
         stamp = new-stamp (λ (x : List ℕ). length x ≡ 16) r (find (requestKey r) (valuesOf img)) (stamp-length r d) old-stamp;
+        stampless = λ e. absurd (true≢false e);
         attributes = put-attributes s r q (p .kept);
         some-data = some-new r (find (requestKey r) (valuesOf img)) (some-proper r (p .kept) (p .adds));
         few-data = rw (p .made) at few;
       })
 
   pub put-fits : (v : Value) → changeIn r (valuesOf img) ≡ put v → spaceOf (step (put v) (valuesOf img)) ≤ regionSize img
-  unfolding setBroken imageRules requestRules standingRules resultRules roomRules rule13
+  unfolding setBroken imageRulesIn requestRules standingRules resultRules roomRules rule13
   put-fits v c =
       let h : rule13 s r (regionSize img) (valuesOf img) ≡ false = unbroken _ 13 accepted in
       let l : ltb (regionSize img) (spaceOf (step (put v) (valuesOf img)) + reserved s) ≡ false = rw c at h in
       omega (arith, ltb-false)
 
   pub remove-present : (k : Key) → changeIn r (valuesOf img) ≡ remove k → isSome (find k (valuesOf img)) ≡ true
-  unfolding setBroken imageRules requestRules standingRules resultRules rule11 removesAbsent
+  unfolding setBroken imageRulesIn requestRules standingRules resultRules rule11 removesAbsent
   remove-present k c =
       let h : rule11 r (valuesOf img) ≡ false = unbroken _ 11 accepted in
       not-false (isSome (find k (valuesOf img))) (rw c at h)
@@ -243,9 +246,9 @@ startUp-accepted img l h = rw (l, h)
 
 -- a get and a next-name that are accepted find the image ready
 pub get-ready : (s : Session) (k : Key) (buffer img : List ℕ) → getBroken s k buffer img ≡ none → (rightLength img ≡ true) × (readyForCall img ≡ true)
-unfolding getBroken imageRules rule1 rule2
+unfolding getBroken imageRulesIn rule1 rule2In
 get-ready s k buffer img h = (not-false (rightLength img) (unbroken _ 1 h), not-false (readyForCall img) (unbroken _ 2 h))
 
 pub next-ready : (s : Session) (k : Key) (buffer img : List ℕ) → nextBroken s k buffer img ≡ none → (rightLength img ≡ true) × (readyForCall img ≡ true)
-unfolding nextBroken imageRules rule1 rule2
+unfolding nextBroken imageRulesIn rule1 rule2In
 next-ready s k buffer img h = (not-false (rightLength img) (unbroken _ 1 h), not-false (readyForCall img) (unbroken _ 2 h))

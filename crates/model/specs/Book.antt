@@ -3,15 +3,18 @@ use Prim.Native.Nat.{ℕ, _+_}
 use mathlib.Core.Path.{_≡_}
 use mathlib.Core.Bool.{Bool, true, false, _&&_, _||_}
 use mathlib.Core.List.{List, [], _∷_}
+use mathlib.Core.Option.{none}
 use lib.ListN.{length, getD}
 use lib.Dec.{eqb, leb, ltb}
 use lib.Bits.{bitAnd}
 use Rattle.model.specs.declared.Setup.{Setup}
 use Rattle.model.specs.declared.Session.{Session}
+use Rattle.model.specs.declared.Layout.{Layout}
+use Rattle.model.specs.Layout.{authenticated, stateAt}
 use Rattle.model.specs.Lists.{any}
 use Rattle.model.specs.Image.{region, workAt}
 use Rattle.model.specs.Name.{Key}
-use Rattle.model.specs.Entry.{stateAt, Value}
+use Rattle.model.specs.Entry.{Value}
 use Rattle.model.specs.Region.{entries, tailAt, valuesOf}
 use Rattle.model.specs.Work.{recordSpace}
 use Rattle.model.specs.Request.{Request}
@@ -20,6 +23,7 @@ use Rattle.model.specs.Stores.{Store, byte, erase, apply, Bytes, Unclear
 use Rattle.model.specs.Set.{Plan, setPlan, fitsTail}
 use Rattle.model.specs.StartUp.{startUpPlan, formatPlan}
 use Rattle.model.specs.Answers.{Outcome, done, stopped, refused, outcome, imageAfter, storesOf, decided, getPlan, nextPlan}
+use Rattle.model.specs.Move.{moveBroken, imageMoved}
 
 -- "sets (deletes among them), gets, next-names and start-ups": each with its session and arguments, a start-up with custom mode and R
 pub data Call : Type 0 where
@@ -87,6 +91,19 @@ pub record StartedUp (img : List ℕ) : Type 0 where
   pub finished : outcome n (startUpPlan before) ≡ done stores
   pub left : img ≡ imageAfter n (startUpPlan before) before
 
+-- 02 (d), "on what a done one leaves in the new form a run of 01 may begin"
+pub record MovedInto (img : List ℕ) : Type 0 where
+  pub form : Layout
+  pub source : List ℕ
+  pub target : List ℕ
+  pub accepted : moveBroken form authenticated source target ≡ none
+  pub left : img ≡ imageMoved form authenticated source target
+
+-- what a run may begin on
+pub data Begins (img : List ℕ) : Type 0 where
+  started : StartedUp img → Begins img
+  moved-in : MovedInto img → Begins img
+
 -- the claim about one call of a run: a start-up that is done leaves the values of the book
 abbrev pub Agrees : Call → ℕ → List ℕ → List Value → Type 0
 Agrees (set s r) n img book = Unit {0}
@@ -103,7 +120,7 @@ AgreesAll (cut run c sized k left) = AgreesAll run
 
 -- *Demand 3*. It is also 02 (b), "A cut keeps data and stamp together": a cut append leaves the book as it was, or enters `newValue`, which has both
 abbrev pub Demand3 : Type 0
-Demand3 = (start img : List ℕ) (book : List Value) → StartedUp start → (run : Run start img book) → AgreesAll run
+Demand3 = (start img : List ℕ) (book : List Value) → Begins start → (run : Run start img book) → AgreesAll run
 
 -- "it may only clear bits": no byte store of any call, formatting among them, on any image, asks a cleared bit to rise
 abbrev pub NoBitRises : Type 0

@@ -5,9 +5,11 @@ use mathlib.Core.List.{List, [], _∷_, _++_}
 use mathlib.Core.Option.{Option}
 use lib.Dec.{eqb}
 use Rattle.model.specs.Lists.{same, keep, isEmpty, onSome}
+use Rattle.model.specs.declared.Layout.{Layout}
+use Rattle.model.specs.Layout.{authenticated}
 use Rattle.model.specs.Image.{regionHeaderSize}
 use Rattle.model.specs.Name.{Key, sameKey}
-use Rattle.model.specs.Entry.{Value, keyOf, entrySize}
+use Rattle.model.specs.Entry.{Value, keyOf, entrySizeIn}
 use Rattle.model.specs.Region.{find}
 use Rattle.model.specs.Request.{Request, requestKey, timeBased, appends, withoutAppend, dataProper, stampToStore, later}
 
@@ -80,9 +82,15 @@ unfoldable pub changeIn : Request → List Value → Change
 changeIn r vs = changeOf r (find (requestKey r) vs)
 
 -- the space that values take: "28 plus the rounded entry sizes of all values"
-unfoldable pub entrySizes : List Value → ℕ
-entrySizes [] = 0
-entrySizes (v ∷ vs) = entrySize v + entrySizes vs
+unfoldable pub entrySizesIn : Layout → List Value → ℕ
+entrySizesIn y [] = 0
+entrySizesIn y (v ∷ vs) = entrySizeIn y v + entrySizesIn y vs
 
-unfoldable pub spaceOf : List Value → ℕ
-spaceOf vs = regionHeaderSize + entrySizes vs
+unfoldable pub spaceIn : Layout → List Value → ℕ
+spaceIn y vs = regionHeaderSize + entrySizesIn y vs
+
+abbrev pub entrySizes : List Value → ℕ
+entrySizes = entrySizesIn authenticated
+
+abbrev pub spaceOf : List Value → ℕ
+spaceOf = spaceIn authenticated

@@ -5,15 +5,17 @@ use mathlib.Core.List.{List, [], _∷_, _++_}
 use mathlib.Core.Option.{Option, none, some}
 use lib.ListN.{length}
 use lib.Dec.{eqb, leb, ltb}
+use Rattle.model.specs.declared.Layout.{Layout}
 use Rattle.model.specs.declared.Session.{Session}
 use Rattle.model.specs.declared.Rule.{Rule}
 use Rattle.model.specs.declared.Rule.the-variants.{Length, Unready, Name, Attributes, KeyAttributes, Locked, Standing, Descriptor, Verdict, Stamp, Absent, DataSize, Room, Buffer, LockPhase, LockSpace}
+use Rattle.model.specs.Layout.{authenticated}
 use Rattle.model.specs.Lists.{same, keep, among, isEmpty, isSome, onSome, head}
 use Rattle.model.specs.Image.{rightLength, regionSize}
 use Rattle.model.specs.Name.{Key, sameKey, wellNamed, emptyName}
 use Rattle.model.specs.Entry.{Value, keyOf}
 use Rattle.model.specs.Region.{maxData, storedAttributes, valuesOf, find}
-use Rattle.model.specs.Work.{readyForCall, readyForStartUp}
+use Rattle.model.specs.Work.{readyIn, readyForStartUp}
 use Rattle.model.specs.Session.{inBoot, atRuntime, reserved, countedLocks, lockSpace, locked}
 use Rattle.model.specs.Request.{Request, requestKey, runtimeAccess, timeBased, appends, withoutAppend, isKeyName, wantedVerdicts, rightDescriptor, stampToStore, later}
 use Rattle.model.specs.Change.{Change, nothing, remove, put, changeIn, step, spaceOf}
@@ -28,8 +30,11 @@ unfoldable pub rule1 : List ℕ → Bool
 rule1 img = not (rightLength img)
 
 -- 2. "A call finds the region not clean, the spare not all FF, or the work block not well formed or ending in FC;
-unfoldable pub rule2 : List ℕ → Bool
-rule2 img = not (readyForCall img)
+unfoldable pub rule2In : Layout → List ℕ → Bool
+rule2In y img = not (readyIn y img)
+
+abbrev pub rule2 : List ℕ → Bool
+rule2 = rule2In authenticated
 
 --     a start-up finds nothing pending and the region not sound."
 unfoldable pub rule2StartUp : List ℕ → Bool
@@ -118,8 +123,11 @@ unfoldable pub rule16 : Session → Key → Bool
 rule16 s k = leb lockSpace (countedLocks s) && not (locked s k)
 
 -- "Sets, deletes among them, meet 1 to 13": the image, the call itself, what stands, the result, room
-unfoldable pub imageRules : List ℕ → List (Rule × Bool)
-imageRules img = (Length, rule1 img) ∷ (Unready, rule2 img) ∷ []
+unfoldable pub imageRulesIn : Layout → List ℕ → List (Rule × Bool)
+imageRulesIn y img = (Length, rule1 img) ∷ (Unready, rule2In y img) ∷ []
+
+abbrev pub imageRules : List ℕ → List (Rule × Bool)
+imageRules = imageRulesIn authenticated
 
 unfoldable pub requestRules : Session → Request → List (Rule × Bool)
 requestRules s r =

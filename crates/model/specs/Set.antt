@@ -9,7 +9,8 @@ use Rattle.model.specs.declared.Rule.{Rule}
 use Rattle.model.specs.Lists.{onSome}
 use Rattle.model.specs.Image.{region}
 use Rattle.model.specs.Name.{Key}
-use Rattle.model.specs.Entry.{headerSize, stateAt, Value, keyOf, entrySize, headerFront, headerRest}
+use Rattle.model.specs.Layout.{stateAt}
+use Rattle.model.specs.Entry.{headerSize, Value, keyOf, entrySize, headerFront, headerRest}
 use Rattle.model.specs.Walk.{Entry, stateOf}
 use Rattle.model.specs.Region.{entries, tailAt, valuesOf, added, replacing, standing}
 use Rattle.model.specs.Request.{Request}

@@ -12,7 +12,7 @@ use lib.Dec.{eqb}
 use borrow.Author.Tests.{eqb-true}
 use Rattle.model.specs.Lists.{part, first, isSome, onSome, orElse}
 use Rattle.model.specs.Name.{Key, sameKey}
-use Rattle.model.specs.Entry.{Value, keyOf, plainSize, entrySize, headerFront, headerRest, entryBytes}
+use Rattle.model.specs.Entry.{Value, keyOf, plainSize, entrySize, headerFront, headerRest, entryBytes, entryBytesIn, extraBytes, headerRestIn}
 use Rattle.model.specs.Walk as walk
 use Rattle.model.specs.Region.{isEntry, added, replacing, standing}
 use Rattle.model.specs.Set.{markState, leftover, entryStores, tailTo, tailOn, deleteTo}
@@ -154,11 +154,11 @@ tail-on c places v es p q at = rw (retire-is c places (keyOf v) es p q, append-n
 
 -- an entry's bytes at the front of the content hold its value, whatever its state
 rest-long : (v : Value) → length (v .stamp) ≡ 16 → length (v .vendor) ≡ 16 → length (headerRest v) ≡ 57
-unfolding headerRest
+unfolding headerRestIn extraBytes
 rest-long v s g = simp (length-append, length-replicate) (omega arith)
 
 pub entry-holds : (state : ℕ) (v : Value) (behind : List ℕ) → length (v .stamp) ≡ 16 → length (v .vendor) ≡ 16 → Holds (entryBytes state v ++ behind) v
-unfolding entryBytes
+unfolding entryBytesIn
 entry-holds state v behind s g =
     let f : List ℕ = headerFront in
     let r : List ℕ = headerRest v in

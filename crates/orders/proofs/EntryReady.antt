@@ -12,7 +12,8 @@ use borrow.Author.Tests.{eq-eqb}
 use Rattle.model.specs.Lists.{first, any}
 use Rattle.model.specs.Name.{Key}
 use Rattle.model.specs.Image.{region}
-use Rattle.model.specs.Entry.{stateAt, Value, keyOf}
+use Rattle.model.specs.Layout.{stateAt}
+use Rattle.model.specs.Entry.{Value, keyOf}
 use Rattle.model.specs.Walk as walk
 use Rattle.model.specs.Region.{entries, tailAt, isEntry, added, replacing}
 use Rattle.model.specs.Set.{tailTo, tailOn, deleteTo}

@@ -9,7 +9,7 @@ use mathlib.Core.List.{List, [], _∷_, _++_, append-assoc, append-nil}
 use lib.ListN.{length, replicate, length-append, length-replicate}
 use Rattle.model.specs.Lists.{allFF, part}
 use Rattle.model.specs.Image.{block}
-use Rattle.model.specs.Region.{entries, values, valuesOf, tail}
+use Rattle.model.specs.Region.{entries, values, tail, valuesIn}
 use Rattle.model.specs.Work.{records, usedRecords, idle, pending}
 use Rattle.model.specs.Stores.{Store, erase, erases, blank, applyAll}
 use Rattle.model.specs.Compact.{nextRecord, fillSpare, finish, encode, compactTo, compactOn}
@@ -34,7 +34,7 @@ module _ {b : ℕ} {r w s : List ℕ} (p : Parts b r w s) where
 
   tail-stage : tidyTail (r ++ (w ++ s))
       ≡ cond (allFF (tail r)) [] (fillSpare b w (encode (block * b) (values (entries r))) ++ finish b (nextRecord w) (encode (block * b) (values (entries r))))
-  unfolding tidyTail compactTo compactOn valuesOf
+  unfolding tidyTail compactTo compactOn valuesIn
   tail-stage = rw (parts-region p, parts-blocks p, parts-work p, parts-size p)
 
   -- what the first two leave

@@ -1,7 +1,8 @@
 -- The plans of a delete and of a tail write, by what was found of the name.
 use Prim.Native.Nat.{ℕ, _+_, _≤_}
 use mathlib.Core.List.{List, [], _∷_}
-use Rattle.model.specs.Entry.{headerSize, stateAt}
+use Rattle.model.specs.Layout.{stateAt}
+use Rattle.model.specs.Entry.{headerSize}
 use Rattle.layout.specs.declared.Entry.{Entry}
 use Rattle.values.specs.Found.{elseFound}
 use Rattle.values.specs.declared.Found.{Found}

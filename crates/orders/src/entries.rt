@@ -2,6 +2,7 @@
 ghost use mathlib.Core.Path.{_≡_};
 ghost use Prim.Native.Nat.{_+_, _^_, _<_};
 ghost use Rattle.orders.specs.Entries.{Below, markFound, leftoverStep, removeStep, retireStep, deletePlan, tailPlan};
+use model::Layout;
 use plan::Op;
 use plan::Plan;
 use plan::Step;
@@ -15,7 +16,7 @@ fn mark_found(found: Found, v: u8) -> Step
     ensures { λ r. ⌜ r ≡ markFound found v ⌝ }
 {
     match found {
-        Found::At(at, _) => Step::Mark(at + layout::STATE, v),
+        Found::At(at, _) => Step::Mark(at + Layout::STATE, v),
         Found::Nothing => Step::Nothing,
     }
 }
@@ -104,16 +105,16 @@ pub fn tail_write(places: Places, at: usize, name: usize, size: usize) -> Plan
             step: Step::Header(at, 0),
         },
         Op {
-            step: Step::Mark(at + layout::STATE, 0x7F),
+            step: Step::Mark(at + Layout::STATE, 0x7F),
         },
         Op {
-            step: Step::Program(at + layout::HEADER, layout::HEADER, name),
+            step: Step::Program(at + Layout::HEADER, Layout::HEADER, name),
         },
         Op {
-            step: Step::Program(at + layout::HEADER + name, layout::HEADER + name, size),
+            step: Step::Program(at + Layout::HEADER + name, Layout::HEADER + name, size),
         },
         Op {
-            step: Step::Mark(at + layout::STATE, 0x3F),
+            step: Step::Mark(at + Layout::STATE, 0x3F),
         },
         Op {
             step: retire(places),

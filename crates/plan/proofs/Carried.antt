@@ -9,7 +9,8 @@ use mathlib.Core.List.{List, [], _∷_, _++_, append-nil}
 use lib.ListN.{length, getD, take, drop, length-append, take-append-drop}
 use lib.Seq.{split-at, take-suc, take-all, take-take}
 use borrow.Author.Tests.{le-leb, lt-leb, lt-ltb, le-ltb}
-use Rattle.model.specs.Entry.{headerSize, stateAt}
+use Rattle.model.specs.Layout.{stateAt}
+use Rattle.model.specs.Entry.{headerSize}
 use Rattle.model.specs.Stores.{Store, apply, after}
 use Rattle.model.specs.Answers.{done, stopped}
 use Rattle.model.proofs.Stores.{after-all}

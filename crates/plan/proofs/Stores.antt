@@ -12,7 +12,8 @@ use lib.Seq.{length-take-le, getD-take, getD-drop}
 use lib.Dec.{ltb}
 use borrow.Author.Tests.{ltb-true, ltb-false}
 use Rattle.model.specs.Lists.{part}
-use Rattle.model.specs.Entry.{headerSize, stateAt}
+use Rattle.model.specs.Layout.{stateAt}
+use Rattle.model.specs.Entry.{headerSize}
 use Rattle.model.specs.Stores.{Store, byte, erase, apply, applyAll, after, run, erases}
 use Rattle.model.proofs.Stores.{applyAll-append, after-all, after-append}
 use Rattle.plan.specs.declared.Step.{Step}

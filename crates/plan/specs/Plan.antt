@@ -8,7 +8,8 @@ use lib.Bits.{bitAnd}
 use lib.Dec.{leb, ltb}
 use Rattle.model.specs.Lists.{part}
 use Rattle.model.specs.Image.{block}
-use Rattle.model.specs.Entry.{headerSize, stateAt}
+use Rattle.model.specs.Layout.{stateAt}
+use Rattle.model.specs.Entry.{headerSize}
 use Rattle.model.specs.Stores.{Store, byte, erase, apply, applyAll, run, mark, erases, difference}
 use Rattle.model.specs.Answers.{Outcome, done, stopped}
 use Rattle.plan.specs.declared.Step.{Step}

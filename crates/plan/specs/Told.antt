@@ -7,7 +7,8 @@ use lib.ListN.{take, drop}
 use lib.Dec.{eqb}
 use Rattle.model.specs.declared.Rule.{Rule}
 use Rattle.model.specs.Lists.{part}
-use Rattle.model.specs.Entry.{headerSize, stateAt}
+use Rattle.model.specs.Layout.{stateAt}
+use Rattle.model.specs.Entry.{headerSize}
 use Rattle.model.specs.Stores.{Store, run, mark, erases}
 use Rattle.model.specs.Set as set
 use Rattle.model.specs.Answers.{ruleNumber}

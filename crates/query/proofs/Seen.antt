@@ -9,6 +9,7 @@ use mathlib.Core.Option.{none, some}
 use lib.ListN.{length, take, drop}
 use lib.Dec.{eqb}
 use borrow.Author.Tests.{eq-eqb, eqb-false}
+use Rattle.model.specs.Layout.{authenticated}
 use Rattle.model.specs.Lists.{same, keep, first, head}
 use Rattle.model.specs.Name.{Key, keyed, sameKey, emptyName}
 use Rattle.model.specs.Walk as walk
@@ -18,7 +19,7 @@ use Rattle.model.proofs.Tests.{and-split, or-split}
 use Rattle.model.proofs.Walking.{entries-from}
 use Rattle.layout.specs.Head.{nameIn, Unlike}
 use Rattle.layout.specs.declared.Entry as numbers
-use Rattle.region.specs.Walk.{entryAt}
+use Rattle.region.specs.Walk.{entryAt, entryAs}
 use Rattle.region.specs.Judge.{liveState}
 use Rattle.region.proofs.Turns.{rest, Turned}
 use Rattle.values.proofs.Listed.{value-other}
@@ -32,11 +33,11 @@ seenFrom runtime r at = keep (isSeen runtime (entries r)) (from r at)
 
 module _ (runtime : Bool) (r : List ℕ) (at : ℕ) (e : numbers.Entry) where
   pub seen-value : visible runtime (e .attributes) ≡ true → isSeen runtime (entries r) (entryAt r at e) ≡ isValue (entries r) (entryAt r at e)
-  unfolding isSeen entryAt walk.placed
+  unfolding isSeen entryAs walk.placed
   seen-value h = rw h (and-true (isValue (entries r) (entryAt r at e)))
 
   pub not-visible : visible runtime (e .attributes) ≡ false → isSeen runtime (entries r) (entryAt r at e) ≡ false
-  unfolding isSeen entryAt walk.placed
+  unfolding isSeen entryAs walk.placed
   not-visible h = rw h (and-false (isValue (entries r) (entryAt r at e)))
 
   -- an entry that is not live, or of another name, is not sought
@@ -45,11 +46,11 @@ module _ (runtime : Bool) (r : List ℕ) (at : ℕ) (e : numbers.Entry) where
   unfolding isSeen isSought
   sought-dead k h =
       let p = or-split (eqb (e .state) 0x3F) (eqb (e .state) 0x3E) h in
-      let v = value-other r at e (eqb-false (e .state) 0x3F (p .0)) (eqb-false (e .state) 0x3E (p .1)) in
+      let v = value-other authenticated r at e (eqb-false (e .state) 0x3F (p .0)) (eqb-false (e .state) 0x3E (p .1)) in
       rw v (and-false (sameKey (walk.entryKey (entryAt r at e)) k))
 
   own-state : (k : Key) → isEntry (e .state) k (entryAt r at e) ≡ sameKey (walk.entryKey (entryAt r at e)) k
-  unfolding entryAt walk.placed
+  unfolding entryAs walk.placed
   own-state k = rw (eq-eqb (e .state) (e .state) refl)
 
   pub sought-other : (k : Key) → isEntry (e .state) k (entryAt r at e) ≡ false
@@ -58,8 +59,8 @@ module _ (runtime : Bool) (r : List ℕ) (at : ℕ) (e : numbers.Entry) where
   sought-other k h = rw (sym (own-state k) ∙ h)
 
   other-name : (name : List ℕ) → Unlike (take (length r - at) (drop at r)) name → same (entryAt r at e .name) name ≡ false
-  unfolding entryAt nameIn walk.placed
-  other-name name u = ap (λ s. same (nameIn s e) name) (sym (rest r at)) ∙ u e
+  unfolding entryAs nameIn walk.placed
+  other-name name u = ap (λ s. same (nameIn authenticated s e) name) (sym (rest r at)) ∙ u e
 
   pub sought-unlike : (name vendor : List ℕ) → Unlike (take (length r - at) (drop at r)) name
       → isSought runtime (keyed name vendor) (entries r) (entryAt r at e) ≡ false
@@ -75,11 +76,13 @@ module _ (runtime : Bool) (r : List ℕ) (at : ℕ) (e : numbers.Entry) where
 
 pub get-from : (runtime : Bool) (k : Key) (r : List ℕ) → entryToGet runtime k (entries r) ≡ first (λ e. sameKey (walk.entryKey e) k) (seenFrom runtime r 28)
 unfolding entryToGet seenFrom
-get-from runtime k r = ap (λ (es : List walk.Entry). first (λ e. sameKey (walk.entryKey e) k) (keep (isSeen runtime (entries r)) es)) (entries-from r)
+get-from runtime k r = ap (λ (es : List walk.Entry). first (λ e. sameKey (walk.entryKey e) k) (keep (isSeen runtime (entries r)) es))
+    (entries-from authenticated r)
 
 pub name-from : (runtime : Bool) (k : Key) (r : List ℕ) → entryToName runtime k (entries r) ≡ goingOn (same (k .name) emptyName) k (seenFrom runtime r 28)
 unfolding entryToName seenFrom
-name-from runtime k r = ap (λ (es : List walk.Entry). goingOn (same (k .name) emptyName) k (keep (isSeen runtime (entries r)) es)) (entries-from r)
+name-from runtime k r = ap (λ (es : List walk.Entry). goingOn (same (k .name) emptyName) k (keep (isSeen runtime (entries r)) es))
+    (entries-from authenticated r)
 
 pub seen-none : (runtime : Bool) (r : List ℕ) (at : ℕ) → from r at ≡ [] → seenFrom runtime r at ≡ []
 unfolding seenFrom
@@ -90,7 +93,7 @@ unfolding entryFollowing
 going-none true k p = rw p
 going-none false k p = rw p
 
-module _ (runtime : Bool) (r : List ℕ) (at : ℕ) (e : numbers.Entry) (n : ℕ) (w : Turned r at e n) where
+module _ (runtime : Bool) (r : List ℕ) (at : ℕ) (e : numbers.Entry) (n : ℕ) (w : Turned authenticated r at e n) where
   seen-here : isSeen runtime (entries r) (entryAt r at e) ≡ true → seenFrom runtime r at ≡ entryAt r at e ∷ seenFrom runtime r n
   unfolding seenFrom
   seen-here h = ap (keep (isSeen runtime (entries r))) (w .walk) ∙ rw h

@@ -15,7 +15,8 @@ use Rattle.model.specs.declared.Rule.{Rule}
 use Rattle.model.specs.declared.Rule.the-variants.{Length}
 use Rattle.model.specs.Lists.{any, onSome}
 use Rattle.model.specs.Image.{block, rightLength, regionSize, region}
-use Rattle.model.specs.Entry.{stateAt, Value}
+use Rattle.model.specs.Layout.{stateAt}
+use Rattle.model.specs.Entry.{Value}
 use Rattle.model.specs.Region.{entries, tailAt, valuesOf}
 use Rattle.model.specs.Work.{recordSpace}
 use Rattle.model.specs.Request.{Request}

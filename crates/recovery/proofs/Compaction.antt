@@ -14,6 +14,7 @@ use lib.ListN.{length, set, replicate, length-append, length-set, length-replica
 use lib.Seq.{getD-set-same}
 use borrow.Author.Tests.{leb-false}
 use Rattle.model.specs.Lists.{allFF}
+use Rattle.model.specs.Region.{cleanIn}
 use Rattle.model.specs.Image.{block}
 use Rattle.model.specs.Entry.{Value}
 use Rattle.model.specs.Region.{entries, values, sound, clean, tail}
@@ -32,7 +33,7 @@ pub spare-last : (r w s : List ℕ) → r ++ (w ++ s) ≡ (r ++ w) ++ (s ++ [])
 spare-last r w s = sym (append-assoc r w s) ∙ ap (λ (l : List ℕ). (r ++ w) ++ l) (sym (append-nil s))
 
 pub clean-sound : (r : List ℕ) → clean r ≡ true → sound r ≡ true
-unfolding clean
+unfolding cleanIn
 clean-sound r h = and-split (sound r) (allFF (tail r)) h .0
 
 pub mul-add-one : (b : ℕ) → block * (b + 1) ≡ block * b + block

@@ -22,14 +22,15 @@ use Rattle.model.specs.Stores.{Store, applyAll, Cut}
 use Rattle.model.specs.Set.{Plan, refuse, make, setPlan}
 use Rattle.model.specs.StartUp.{startUpPlan, startUpStores}
 use Rattle.model.specs.Answers.{Outcome, done, ruleNumber, outcome, imageAfter, storesOf, decided}
-use Rattle.model.specs.Book.{Call, set, get, next, startUp, planOf, Sized, entered, counts, bookAfter, Run, begin, ran, cut, StartedUp}
+use Rattle.model.specs.Book.{Call, set, get, next, startUp, planOf, Sized, entered, counts, bookAfter, Run, begin, ran, cut, Begins, started}
 use Rattle.model.proofs.Stores.{after-all}
 use Rattle.plan.specs.declared.HostOp.{HostOp}
 use Rattle.plan.specs.declared.HostPlan.{HostPlan}
 use Rattle.plan.specs.Planned.{upTo}
 use Rattle.plan.specs.Told.{storesOfNumbers, expandNumbers, noOperations, refusalOf, Told}
-use Rattle.recovery.specs.Host.{PlannedFor, carriedOut, decidingDone, Hosting, none-yet, carried-out, power-failed, HostKeepsTheBook}
+use Rattle.recovery.specs.Host.{PlannedFor, carriedOut, decidingDone, Hosting, none-yet, carried-out, power-failed, HostBegun, by-start-up, by-move, HostKeepsTheBook}
 use Rattle.recovery.proofs.Invariant.{Holding}
+use Rattle.recovery.proofs.Interface.{move-begins}
 use Rattle.recovery.proofs.Theorem.{set-kept, set-refused, book-cond, run-holds, startUp-values, startUp-plan, holding-accepted}
 
 -- ---- the stores that were told
@@ -84,6 +85,8 @@ no-rule-zero rule.Room = refl
 no-rule-zero rule.Buffer = refl
 no-rule-zero rule.LockPhase = refl
 no-rule-zero rule.LockSpace = refl
+no-rule-zero rule.Source = refl
+no-rule-zero rule.TimeBased = refl
 
 -- given as many stores as it has, an accepted call is done
 made-done : (to on : List Store) → outcome (length (storesOf (make to on))) (make to on) ≡ done (length (storesOf (make to on)))
@@ -164,7 +167,7 @@ told-of (get s k buffer) part content p t = t
 told-of (next s k buffer) part content p t = t
 told-of (startUp setup) part content p t = t
 
-pub hosting-runs : (start : List ℕ) → StartedUp start → {part : List ℕ} {book : List Value} → Hosting start part book → Run start part book
+pub hosting-runs : (start : List ℕ) → Begins start → {part : List ℕ} {book : List Value} → Hosting start part book → Run start part book
 hosting-runs start st none-yet = begin
 hosting-runs start st (carried-out {part} {book} hosting c sized content p planned) =
     let plan = planOf c part in
@@ -184,22 +187,29 @@ hosting-runs start st (power-failed {part} {part′} {book} hosting c sized cont
     (told-decided book part c sized (run-holds start st run) k content p t)
     (cut run c sized k (subst (λ (ss : List Store). Cut ss k part part′) (told-stores (planOf c part) content p t) left))
 
-pub host-keeps-the-book : HostKeepsTheBook
-host-keeps-the-book before part content content′ book p p′ bytes up accepted hosting again =
-    let start = carriedOut content p before in
-    let began : StartedUp start = record {
+-- ---- what it begins on
+
+host-begins : (start : List ℕ) → HostBegun start → Begins start
+host-begins start (by-start-up before content p bytes up accepted) =
+    started
+    (record {
       before = before;
       bytes = bytes;
       n = length (storesOf (startUpPlan before));
       stores = length (storesOf (startUpPlan before));
       finished = told-done (startUpPlan before) content p up accepted;
       left = told-left (startUpPlan before) content p before up;
-    } in
+    })
+host-begins start (by-move from source target m) = move-begins start from source target m
+
+pub host-keeps-the-book : HostKeepsTheBook
+host-keeps-the-book start part content book p begun hosting again =
+    let began = host-begins start begun in
     let holds = run-holds start began (hosting-runs start began hosting) in
-    let told : Told (make [] (startUpStores part)) content′ p′ =
-    subst (λ (plan : Plan). Told plan content′ p′) (startUp-plan part (holding-accepted book part holds)) again in
+    let told : Told (make [] (startUpStores part)) content p =
+    subst (λ (plan : Plan). Told plan content p) (startUp-plan part (holding-accepted book part holds)) again in
     let n = length (storesOf (startUpPlan part)) in (
       told .0,
-      ap valuesOf (told-left (startUpPlan part) content′ p′ part again)
-          ∙ startUp-values book part holds n n (told-done (startUpPlan part) content′ p′ again (told .0)),
+      ap valuesOf (told-left (startUpPlan part) content p part again)
+          ∙ startUp-values book part holds n n (told-done (startUpPlan part) content p again (told .0)),
     )

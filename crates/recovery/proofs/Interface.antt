@@ -1,13 +1,17 @@
 -- What holds of every list of calls to the functions of the interface: by its contract each call is a step of a run, so Demand 3 speaks of it.
 -- Assumes nothing.
 use Prim.Native.Nat.{ℕ}
-use mathlib.Core.Path.{_≡_, sym, ap, _∙_, subst}
+use native.Mathlib.Omega.{arith}
+use mathlib.Core.Path.{_≡_, refl, sym, ap, _∙_, subst}
 use mathlib.Core.List.{List, []}
 use lib.Seq.{take-nil}
+use Rattle.model.specs.declared.Layout.{Layout}
 use Rattle.model.specs.declared.Answer.{Answer}
+use Rattle.model.specs.declared.Answer.the-variants.{Done}
 use Rattle.model.specs.declared.Session.{Session}
 use Rattle.model.specs.declared.Rule.{Rule}
 use mathlib.Core.Option.{Option, none, some}
+use Rattle.model.specs.Layout.{authenticated}
 use Rattle.model.specs.Lists.{onSome}
 use Rattle.model.specs.Name.{Key}
 use Rattle.model.specs.Entry.{Value}
@@ -15,9 +19,10 @@ use Rattle.model.specs.Region.{valuesOf}
 use Rattle.model.specs.Rules.{getBroken, nextBroken}
 use Rattle.model.specs.Stores.{after, applyAll}
 use Rattle.model.specs.Set.{refuse, make}
-use Rattle.model.specs.Answers.{Outcome, answerOf, outcome, imageAfter, storesOf, decided, getPlan, nextPlan}
-use Rattle.model.specs.Book.{Call, set, get, next, startUp, planOf, counts, bookAfter, Run, begin, ran, cut, StartedUp}
-use Rattle.recovery.specs.Interface.{Returned, Calls, none-yet, returned, power-failed, InterfaceKeepsTheBook}
+use Rattle.model.specs.Answers.{Outcome, done, refused, ruleNumber, answerOf, outcome, imageAfter, storesOf, decided, getPlan, nextPlan}
+use Rattle.model.specs.Move.{moveBroken, moveAnswer}
+use Rattle.model.specs.Book.{Call, set, get, next, startUp, planOf, counts, bookAfter, Run, begin, ran, cut, Begins, started, moved-in}
+use Rattle.recovery.specs.Interface.{Returned, MoveReturned, Begun, by-start-up, by-move, Calls, none-yet, returned, power-failed, InterfaceKeepsTheBook}
 use Rattle.recovery.proofs.Theorem.{demand3}
 
 -- get and next-name make no stores
@@ -60,8 +65,28 @@ calls-run {start} (returned {img} {img′} {book} calls c sized n a m) =
     (ran (calls-run calls) c sized n))
 calls-run (power-failed calls c sized k left) = cut (calls-run calls) c sized k left
 
+-- ---- what they begin on
+
+-- a move that returned done broke no rule
+accepted-move : (from to : Layout) (source target : List ℕ) → done 0 ≡ moveAnswer from to source target → moveBroken from to source target ≡ none
+unfolding moveAnswer
+accepted-move from to source target h = go (moveBroken from to source target) refl h
+  where
+    go : (o : Option Rule) → moveBroken from to source target ≡ o → done 0 ≡ onSome o (λ rule. refused (ruleNumber rule)) (done 0)
+        → moveBroken from to source target ≡ none
+    go none e h = e
+    go (some rule) e h = let z : _≡_ {A = ℕ} 0 1 = cc in absurd (omega arith)
+
+pub move-begins : (start : List ℕ) (from : Layout) (source target : List ℕ) → MoveReturned from authenticated source target start (Done 0) → Begins start
+move-begins start from source target m =
+    moved-in (record { form = from; source = source; target = target; accepted = accepted-move from authenticated source target (m .0); left = m .1 })
+
+begun-begins : (start : List ℕ) → Begun start → Begins start
+begun-begins start (by-start-up before bytes setup n stores up) =
+    started (record { before = before; bytes = bytes; n = n; stores = stores; finished = sym (up .0); left = up .1 })
+begun-begins start (by-move from source target m) = move-begins start from source target m
+
 pub interface-keeps-the-book : InterfaceKeepsTheBook
-interface-keeps-the-book before start img img′ book setup setup′ n stores n′ stores′ bytes up calls again =
-    let began : StartedUp start = record { before = before; bytes = bytes; n = n; stores = stores; finished = sym (up .0); left = up .1 } in
-    let all = demand3 start _ _ began (ran (calls-run calls) (startUp setup′) tt n′) in
-    ap valuesOf (again .1) ∙ all .1 stores′ (sym (again .0))
+interface-keeps-the-book start img img′ book setup n stores begun calls again =
+    let all = demand3 start _ _ (begun-begins start begun) (ran (calls-run calls) (startUp setup) tt n) in
+    ap valuesOf (again .1) ∙ all .1 stores (sym (again .0))

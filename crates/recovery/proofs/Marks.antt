@@ -12,10 +12,11 @@ use mathlib.Core.Option.{Option, none, some}
 use lib.ListN.{length, set, length-set}
 use lib.Dec.{eqb}
 use borrow.Author.Tests.{eqb-true}
+use Rattle.model.specs.Layout.{authenticated, stateAt}
 use Rattle.model.specs.Lists.{any, first, orElse, onSome, isSome}
 use Rattle.model.specs.Name.{Key, sameKey}
 use Rattle.model.specs.Image.{regionHeaderSize}
-use Rattle.model.specs.Entry.{stateAt, Value}
+use Rattle.model.specs.Entry.{Value}
 use Rattle.model.specs.Walk.{Entry, stateOf, entryKey}
 use Rattle.model.specs.Region.{entries, sound, isEntry, added, replacing, standing, values, find}
 use Rattle.model.specs.Change.{without}
@@ -30,16 +31,16 @@ use Rattle.recovery.proofs.Cuts.{Goes, goes-nowhere, goes-append, goes-
 
 pub record State (size : ℕ) (r t : List ℕ) (es : List Entry) : Type 0 where
   pub chunks : List (List ℕ)
-  pub made : Made r chunks t
-  pub listed : entriesOf regionHeaderSize chunks ≡ es
+  pub made : Made authenticated r chunks t
+  pub listed : entriesOf authenticated regionHeaderSize chunks ≡ es
   pub judged : soundEntries size es ≡ true
   pub long : length r ≡ size
 
 pub state-sound : {size : ℕ} {r t : List ℕ} {es : List Entry} → State size r t es → sound r ≡ true
-state-sound {size} {r} {t} {es} st = made-sound (st .made) (rw (st .listed, st .long) (st .judged))
+state-sound {size} {r} {t} {es} st = made-sound authenticated (st .made) (rw (st .listed, st .long) (st .judged))
 
 pub state-entries : {size : ℕ} {r t : List ℕ} {es : List Entry} → State size r t es → entries r ≡ es
-state-entries st = made-entries (st .made) ∙ st .listed
+state-entries st = made-entries authenticated (st .made) ∙ st .listed
 
 -- ---- places in a list
 
@@ -92,8 +93,8 @@ module _ (P : List ℕ → Type 0) (K : List Value) (size : ℕ) (rest : List �
       × State size (set r (e .at + stateAt) new) t (q .before ++ (restated new e ∷ q .behind))
   mark-goes {r} {t} {es} st k e q old new h n m one judged =
       let place = st .listed ∙ q .place in
-      let byte = state-byte (st .made) (q .before) (q .behind) e place in
-      let marked = mark-made (st .made) (q .before) (q .behind) e place (λ z. n (sym h ∙ z)) new m in (
+      let byte = state-byte authenticated (st .made) (q .before) (q .behind) e place in
+      let marked = mark-made authenticated (st .made) (q .before) (q .behind) e place (λ z. n (sym h ∙ z)) new m in (
         subst (λ (n : ℕ). Goes P (mark n new) (r ++ rest) (set r (e .at + stateAt) new ++ rest)) (zero-add (e .at + stateAt))
             (goes-mark P 0 [] r rest refl (e .at + stateAt) new (byte .1) old (byte .0 ∙ h) one (holds r t es st k)),
         record {

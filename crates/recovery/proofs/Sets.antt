@@ -10,10 +10,12 @@ use mathlib.Core.List.{List, [], _∷_, _++_, append-assoc, append-nil}
 use lib.ListN.{length, set, length-append}
 use lib.Dec.{eqb, leb}
 use borrow.Author.Tests.{leb-true, le-leb, eq-eqb}
+use Rattle.model.specs.Layout.{authenticated, stateAt}
 use Rattle.model.specs.Lists.{any, allFF, onSome, isSome}
+use Rattle.model.specs.Region.{cleanIn, valuesIn}
 use Rattle.model.specs.Name.{Key, sameKey}
 use Rattle.model.specs.Image.{block}
-use Rattle.model.specs.Entry.{stateAt, Value, keyOf, entrySize, entryBytes}
+use Rattle.model.specs.Entry.{Value, keyOf, entrySize, entryBytes}
 use Rattle.model.specs.Walk.{Entry, stateOf, entryKey, entryValue}
 use Rattle.model.specs.Region.{entries, tailAt, tail, values, valuesOf, sound, clean, within, isEntry, added, find}
 use Rattle.model.specs.Work.{idle}
@@ -80,20 +82,23 @@ module _ (P P′ : List ℕ → Type 0) (K : List Value) (size : ℕ) (rest : Li
       let p = prepare P K size rest holds st kept k in
       let st′ = p .state in
       let at = tailPlace P K size rest holds st′ in
-      let place : tailAt r ≡ at = made-tailAt (st .made) ∙ (let a = size-split P K size rest holds st in let b = size-split P K size rest holds st′ in omega arith) in
-      let e = entryOf at (entryBytes 0x3F v) in
-      let reads = entry-reads at 0x3F v (omega arith) valid in
+      let place : tailAt r ≡ at = made-tailAt authenticated (st .made) ∙
+      (let a = size-split P K size rest holds st in let b = size-split P K size rest holds st′ in omega arith) in
+      let e = entryOf authenticated at (entryBytes 0x3F v) in
+      let reads = entry-reads authenticated at 0x3F v (omega arith) valid in
       let its-key : entryKey e ≡ k = ap keyOf (reads .value) in
       let tail-long : length t ≡ entrySize v + j = ap length blank-tail ∙ ff-length (entrySize v + j) in
       let inside : e .ends ≤ size = rw (reads .ends) (let b = size-split P K size rest holds st′ in omega arith) in
       let clear : any (isEntry 0x3F (entryKey e)) (p .es′) ≡ false = rw its-key (p .clear) in
-      let more = add-added size (p .es′) e (st′ .judged) (reads .state) clear (within-of size e inside) (right-value e v (reads .value) (reads .sized) valid) in
+      let more = add-added size (p .es′) e (st′ .judged) (reads .state) clear (within-of size e inside) (right-value authenticated e v (reads .value)
+      (reads .sized) valid) in
       let long : length (entryBytes 0x3F v ++ [] ++ ff j) ≡ length t =
-      rw append-nil (length-append (entryBytes 0x3F v) (ff j) ∙ rw (length-entry 0x3F v valid, ff-length j, tail-long)) in
+      rw append-nil (length-append (entryBytes 0x3F v) (ff j) ∙ rw (length-entry authenticated 0x3F v valid, ff-length j, tail-long)) in
       let r₁ = front-of P K size rest holds st′ ++ (entryBytes 0x3F v ++ ff j) in
       let es₁ = p .es′ ++ (e ∷ []) in
       let state₁ : State size r₁ (ff j) es₁ =
-      rw append-nil at (with-tail P K size rest holds st′ (entryBytes 0x3F v ∷ []) (ff j) long (entry-framed 0x3F v (omega arith) valid, tt) (blank-stops j) (more .0)) in
+      rw append-nil at (with-tail P K size rest holds st′ (entryBytes 0x3F v ∷ []) (ff j) long (entry-framed authenticated 0x3F v (omega arith) valid, tt)
+      (blank-stops authenticated j) (more .0)) in
       let stands₁ : values es₁ ≡ without k K ++ (v ∷ []) =
       more .1 ∙ ap (λ (x : Key). without x (values (p .es′)) ++ (entryValue e ∷ [])) its-key ∙ ap (λ (l : List Value). without k l ++ (entryValue e ∷ [])) (p .kept) ∙ ap (λ (x : Value). without k K ++ (x ∷ [])) (reads .value) in
       let write = write-goes P K size rest holds st′ (p .kept) v valid j blank-tail in
@@ -151,8 +156,8 @@ module _ {b : ℕ} {r w s : List ℕ} (p : Parts b r w s) (rested : idle w ≡ t
   state-holds K r t es st kept = region-holds b r w s (same-parts (st .long)) (state-sound st) (ap values (state-entries st) ∙ kept) (inl rested)
 
   state-clean : {r : List ℕ} (j : ℕ) {es : List Entry} → State (block * b) r (ff j) es → clean r ≡ true
-  unfolding clean
-  state-clean {r} j st = true-and (state-sound st) (ap allFF (made-tail (st .made)) ∙ blank-allFF j)
+  unfolding cleanIn
+  state-clean {r} j st = true-and (state-sound st) (ap allFF (made-tail authenticated (st .made)) ∙ blank-allFF j)
 
   state-ready : {r : List ℕ} (j : ℕ) {es : List Entry} → State (block * b) r (ff j) es → Ready (r ++ (w ++ s))
   state-ready {r} j st = record {
@@ -168,21 +173,21 @@ module _ {b : ℕ} {r w s : List ℕ} (p : Parts b r w s) (rested : idle w ≡ t
   }
 
   state-values : {r t : List ℕ} {es : List Entry} → State (block * b) r t es → valuesOf (r ++ (w ++ s)) ≡ values es
-  unfolding valuesOf
+  unfolding valuesIn
   state-values st = ap (λ (l : List ℕ). values (entries l)) (parts-region (same-parts (st .long))) ∙ ap values (state-entries st)
 
 -- the state of a clean region
-chunked-state : (size : ℕ) (r : List ℕ) → length r ≡ size → Chunked r → State size r (tail r) (entries r)
+chunked-state : (size : ℕ) (r : List ℕ) → length r ≡ size → Chunked authenticated r → State size r (tail r) (entries r)
 chunked-state size r l c = record {
   chunks = c .chunks;
-  made = subst (λ (x : List ℕ). Made r (c .chunks) x) (sym (made-tail (c .made))) (c .made);
-  listed = sym (made-entries (c .made));
-  judged = subst (λ (n : ℕ). soundEntries n (entries r) ≡ true) l (ap (soundEntries (length r)) (made-entries (c .made)) ∙ c .judged);
+  made = subst (λ (x : List ℕ). (Made authenticated) r (c .chunks) x) (sym (made-tail authenticated (c .made))) (c .made);
+  listed = sym (made-entries authenticated (c .made));
+  judged = subst (λ (n : ℕ). soundEntries n (entries r) ≡ true) l (ap (soundEntries (length r)) (made-entries authenticated (c .made)) ∙ c .judged);
   long = l;
 }
 
 clean-blank : (r : List ℕ) → clean r ≡ true → tail r ≡ ff (length (tail r))
-unfolding clean
+unfolding cleanIn
 clean-blank r h = allFF-blank (tail r) (and-split (sound r) (allFF (tail r)) h .1)
 
 module _ {b : ℕ} {r w s : List ℕ} (p : Parts b r w s) (rested : idle w ≡ true) (free : allFF s ≡ true) (cleaned : clean r ≡ true) where
@@ -190,7 +195,7 @@ module _ {b : ℕ} {r w s : List ℕ} (p : Parts b r w s) (rested : idle w ≡ t
   K₀ = values (entries r)
 
   pub its-state : State (block * b) r (tail r) (entries r)
-  its-state = chunked-state (block * b) r (p .region-long) (region-chunked b (p .region-long) (clean-sound r cleaned))
+  its-state = chunked-state (block * b) r (p .region-long) (region-chunked authenticated b (p .region-long) (clean-sound r cleaned))
 
   -- no change
   pub nothing-kept : Kept K₀ K₀ [] [] (r ++ (w ++ s))
@@ -227,7 +232,8 @@ module _ {b : ℕ} {r w s : List ℕ} (p : Parts b r w s) (rested : idle w ≡ t
   tail-kept v valid fits =
       let j = length (tail r) - entrySize v in
       let room : tailAt r + entrySize v ≤ length r = leb-true (tailAt r + entrySize v) (length r) fits in
-      let long : length r ≡ tailAt r + length (tail r) = made-length (its-state .made) ∙ ap (λ (n : ℕ). n + length (tail r)) (sym (made-tailAt (its-state .made))) in
+      let long : length r ≡ tailAt r + length (tail r) = made-length authenticated (its-state .made) ∙ ap (λ (n : ℕ). n + length (tail r))
+      (sym (made-tailAt authenticated (its-state .made))) in
       let enough : length (tail r) ≡ entrySize v + j = omega arith in
       let K′ = without (keyOf v) K₀ ++ (v ∷ []) in
       let t = tail-written (Holding K₀) (Holding K′) K₀ (block * b) (w ++ s) v valid (state-holds p rested free K₀) (state-holds p rested free K′) its-state refl j
@@ -242,7 +248,7 @@ module _ {b : ℕ} {r w s : List ℕ} (p : Parts b r w s) (rested : idle w ≡ t
       }
 
   -- a compaction
-  pub compact-kept : (vs : List Value) → AllValid vs → Distinct vs → spaceOf vs ≤ block * b
+  pub compact-kept : (vs : List Value) → AllValid authenticated vs → Distinct vs → spaceOf vs ≤ block * b
       → Kept K₀ vs (compactTo (r ++ (w ++ s)) vs) (compactOn (r ++ (w ++ s)) vs) (r ++ (w ++ s))
   compact-kept vs valid distinct fits =
       let c = compacted K₀ vs p rested free (clean-sound r cleaned) refl valid distinct fits in

@@ -12,8 +12,10 @@ use mathlib.Core.Option.{none, some}
 use lib.ListN.{length, replicate, length-append, length-replicate, replicate-append-replicate}
 use lib.Dec.{eqb, leb}
 use borrow.Author.Tests.{le-leb, ne-eqb, eqb-true, eqb-false}
+use Rattle.model.specs.Layout.{authenticated, stateAt}
 use Rattle.model.specs.Image.{regionHeader, regionHeaderSize}
-use Rattle.model.specs.Entry.{Header, headerSize, stateAt, startId, headerFields, readHeader, Value, plainSize, entrySize, headerFront, headerRest, entryBytes}
+use Rattle.model.specs.Entry.{entryBytesIn, headerFieldsIn, readHeaderIn}
+use Rattle.model.specs.Entry.{Header, headerSize, startId, headerFields, readHeader, Value, plainSize, entrySize, headerFront, headerRest, entryBytes}
 use Rattle.model.specs.Walk.{Entry, placed}
 use Rattle.model.specs.Region.{knownState, within, live, values}
 use Rattle.model.specs.Stores.{run, mark}
@@ -36,7 +38,7 @@ ff-join a b = replicate-append-replicate a b 0xFF
 
 -- no entry begins where the first two bytes are no start id
 no-start : (x y : ℕ) (q : List ℕ) → x + 256 * y ≢ startId → readHeader (x ∷ y ∷ q) ≡ none
-unfolding readHeader
+unfolding readHeaderIn
 no-start x y q n = go (leb headerSize (length (x ∷ y ∷ q)))
   where
     go : (t : Bool) → cond (t && eqb (x + 256 * y) startId) (some (headerFields (x ∷ y ∷ q))) none ≡ none
@@ -54,7 +56,7 @@ module _ (P : List ℕ → Type 0) (K : List Value) (size : ℕ) (rest : List �
   tailPlace = regionHeaderSize + length (join (st .chunks))
 
   front-length : length front-of ≡ tailPlace
-  front-length = length-append (regionHeader size) (join (st .chunks)) ∙ rw (header-length size)
+  front-length = length-append (regionHeader size) (join (st .chunks)) ∙ rw (header-length authenticated size)
 
   region-split : r ≡ front-of ++ t
   region-split =
@@ -63,12 +65,12 @@ module _ (P : List ℕ → Type 0) (K : List Value) (size : ℕ) (rest : List �
       ∙ sym (append-assoc (regionHeader size) (join (st .chunks)) t)
 
   pub size-split : size ≡ tailPlace + length t
-  size-split = sym (st .long) ∙ made-length (st .made)
+  size-split = sym (st .long) ∙ made-length authenticated (st .made)
 
   -- the region with another tail of that length, made of chunks and a rest
-  pub with-tail : (ds : List (List ℕ)) (t′ : List ℕ) → length (join ds ++ t′) ≡ length t → AllFramed ds → readHeader t′ ≡ none
-      → soundEntries size (es ++ entriesOf tailPlace ds) ≡ true
-      → State size (front-of ++ (join ds ++ t′)) t′ (es ++ entriesOf tailPlace ds)
+  pub with-tail : (ds : List (List ℕ)) (t′ : List ℕ) → length (join ds ++ t′) ≡ length t → AllFramed authenticated ds → readHeader t′ ≡ none
+      → soundEntries size (es ++ (entriesOf authenticated) tailPlace ds) ≡ true
+      → State size (front-of ++ (join ds ++ t′)) t′ (es ++ (entriesOf authenticated) tailPlace ds)
   with-tail ds t′ l f stops judged =
       let long : length (front-of ++ (join ds ++ t′)) ≡ size = length-append front-of (join ds ++ t′) ∙ rw (front-length, l) (sym size-split) in
       record {
@@ -79,10 +81,11 @@ module _ (P : List ℕ → Type 0) (K : List Value) (size : ℕ) (rest : List �
               ∙ ap (λ (l : List ℕ). regionHeader size ++ l)
               (sym (append-assoc (join (st .chunks)) (join ds) t′) ∙ ap (λ (l : List ℕ). l ++ t′) (sym (join-append (st .chunks) ds)))
               ∙ ap (λ (n : ℕ). regionHeader n ++ (join (st .chunks ++ ds) ++ t′)) (sym long);
-          framed = framed-append (st .chunks) ds (st .made .framed) f;
+          framed = framed-append authenticated (st .chunks) ds (st .made .framed) f;
           stops = stops;
         };
-        listed = entriesOf-append regionHeaderSize (st .chunks) ds ∙ ap (λ (l : List Entry). l ++ entriesOf tailPlace ds) (st .listed);
+        listed = entriesOf-append authenticated regionHeaderSize (st .chunks) ds ∙ ap (λ (l : List Entry). l ++ (entriesOf authenticated) tailPlace ds)
+            (st .listed);
         judged = judged;
         long = long;
       }
@@ -95,14 +98,15 @@ module _ (P : List ℕ → Type 0) (K : List Value) (size : ℕ) (rest : List �
         (holds (front-of ++ t′) t′ (es ++ []) (with-tail [] t′ l tt stops (rw append-nil (st .judged))) (ap values (append-nil es) ∙ kept))
 
     -- one entry there, neither 3F nor 3E, and a blank rest
-    one-holds : (c : List ℕ) (n : ℕ) → length (c ++ ff n) ≡ length t → Framed c
-        → live (entryOf tailPlace c) ≡ false → knownState (entryOf tailPlace c) ≡ true → within size (entryOf tailPlace c) ≡ true
+    one-holds : (c : List ℕ) (n : ℕ) → length (c ++ ff n) ≡ length t → Framed authenticated c
+        → live (entryOf authenticated tailPlace c) ≡ false → knownState (entryOf authenticated tailPlace c) ≡ true → within size
+        (entryOf authenticated tailPlace c) ≡ true
         → P (front-of ++ ((c ++ ff n) ++ rest))
     one-holds c n l f dead known inside =
-        let both = add-dead size es (entryOf tailPlace c) (st .judged) dead known inside in
-        let state = with-tail (c ∷ []) (ff n) (rw append-nil l) (f, tt) (blank-stops n) (both .0) in
+        let both = add-dead size es (entryOf authenticated tailPlace c) (st .judged) dead known inside in
+        let state = with-tail (c ∷ []) (ff n) (rw append-nil l) (f, tt) (blank-stops authenticated n) (both .0) in
         rw (← append-assoc front-of (c ++ ff n) rest)
-        (rw append-nil at (holds (front-of ++ (c ++ [] ++ ff n)) (ff n) (es ++ (entryOf tailPlace c ∷ [])) state (both .1 ∙ kept)))
+        (rw append-nil at (holds (front-of ++ (c ++ [] ++ ff n)) (ff n) (es ++ (entryOf authenticated tailPlace c ∷ [])) state (both .1 ∙ kept)))
 
     -- ---- the stages of the write, each in a segment of the tail
 
@@ -154,13 +158,13 @@ module _ (P : List ℕ → Type 0) (K : List Value) (size : ℕ) (rest : List �
 
       -- the start id with state FF: the entry counts as its header
       fresh-holds : (y : List ℕ) → length y ≡ 57 → P (front-of ++ ((0xAA ∷ 0x55 ∷ 0xFF ∷ (y ++ (ff (length (v .name)) ++ (ff (length (v .bytes)) ++ q)))) ++ rest))
-      unfolding headerFields placed
+      unfolding headerFieldsIn placed
       fresh-holds y l =
           let k = length (v .name) + (length (v .bytes) + (pad + j)) in
           let c : List ℕ = 0xAA ∷ 0x55 ∷ 0xFF ∷ y in
           let long : length c ≡ 60 = omega arith in
           let all : length (c ++ ff k) ≡ length t = length-append c (ff k) ∙ rw (ff-length k, tail-length) (omega arith) in
-          let framed : Framed c = record { long = omega arith; start = refl; whole = sym long } in
+          let framed : Framed authenticated c = record { long = omega arith; start = refl; whole = sym long } in
           rw body (one-holds c k all framed refl refl refl)
 
       -- the header whole, with state 7F: the entry counts as its sizes say, whatever bytes stand behind the header
@@ -170,9 +174,10 @@ module _ (P : List ℕ → Type 0) (K : List Value) (size : ℕ) (rest : List �
           let c : List ℕ = headerFront ++ (0x7F ∷ []) ++ hr ++ (x ++ ff pad) in
           let behind : length (x ++ ff pad) ≡ length (v .name) + length (v .bytes) + pad = length-append x (ff pad) ∙ rw (l, ff-length pad) in
           let size-c : 60 + length (x ++ ff pad) ≡ entrySize v = omega arith in
-          let framed : Framed c = chunk-framed 0x7F v (x ++ ff pad) (omega arith) valid size-c in
-          let fields : headerFields c ≡ headerOf 0x7F v = header-read 0x7F v (x ++ ff pad) valid in
-          let long : length c ≡ entrySize v = length-append (headerFront ++ (0x7F ∷ []) ++ hr) (x ++ ff pad) ∙ rw (length-rest v valid) (omega arith) in
+          let framed : Framed authenticated c = chunk-framed authenticated 0x7F v (x ++ ff pad) (omega arith) valid size-c in
+          let fields : headerFields c ≡ (headerOf authenticated) 0x7F v = header-read authenticated 0x7F v (x ++ ff pad) valid in
+          let long : length c ≡ entrySize v = length-append (headerFront ++ (0x7F ∷ []) ++ hr) (x ++ ff pad) ∙ rw (length-rest authenticated v valid)
+          (omega arith) in
           let all : length (c ++ ff j) ≡ length t = length-append c (ff j) ∙ rw (long, ff-length j, tail-length) in
           let form : c ++ ff j ≡ 0xAA ∷ 0x55 ∷ 0x7F ∷ (hr ++ (x ++ q)) =
           ap (λ (l : List ℕ). 0xAA ∷ 0x55 ∷ 0x7F ∷ l)
@@ -188,12 +193,12 @@ module _ (P : List ℕ → Type 0) (K : List Value) (size : ℕ) (rest : List �
       -- ---- the whole write, up to the 3F
 
       pub write-goes : Goes P (entryStores tailPlace v ++ markState tailPlace 0x3F) (r ++ rest) ((front-of ++ (entryBytes 0x3F v ++ ff j)) ++ rest)
-      unfolding entryStores headerFront run entryBytes
+      unfolding entryStores headerFront run entryBytesIn
       write-goes =
           let n = length (v .name) in
           let d = length (v .bytes) in
           let x₂ : List ℕ = 0xFF ∷ (ff 57 ++ (ff n ++ (ff d ++ q))) in
-          let rest-long = length-rest v valid in
+          let rest-long = length-rest authenticated v valid in
           let a₁ : Goes P (run tailPlace (0xAA ∷ [])) (front-of ++ ((0xFF ∷ 0xFF ∷ x₂) ++ rest)) (front-of ++ ((0xAA ∷ 0xFF ∷ x₂) ++ rest)) =
           stage-run tailPlace [] (0xFF ∷ []) (0xFF ∷ x₂) (0xAA ∷ []) (omega arith) refl first-byte in
           let a₂ : Goes P (run (suc tailPlace) (0x55 ∷ [])) (front-of ++ ((0xAA ∷ 0xFF ∷ x₂) ++ rest)) (front-of ++ ((0xAA ∷ 0x55 ∷ x₂) ++ rest)) =

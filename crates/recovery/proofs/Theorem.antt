@@ -12,15 +12,17 @@ use lib.ListN.{length, length-append}
 use lib.Seq.{take-nil}
 use lib.Dec.{leb}
 use borrow.Author.Tests.{leb-true, leb-false, le-leb}
+use Rattle.model.specs.Layout.{authenticated, stateAt}
 use Rattle.model.specs.declared.Session.{Session}
+use Rattle.model.specs.Region.{valuesIn}
 use Rattle.model.specs.declared.Rule.{Rule}
 use Rattle.model.specs.Lists.{allFF, onSome, isSome, isEmpty}
 use Rattle.model.specs.Name.{Key}
 use Rattle.model.specs.Image.{block, blocks, rightLength, regionSize, region, work}
-use Rattle.model.specs.Entry.{stateAt, Value, keyOf}
+use Rattle.model.specs.Entry.{Value, keyOf}
 use Rattle.model.specs.Walk.{Entry, stateOf, entryValue}
 use Rattle.model.specs.Region.{entries, tailAt, tail, values, valuesOf, sound, clean, find, added, standing}
-use Rattle.model.specs.Work.{wellFormed, endsInFC, idle, pending, readyForStartUp}
+use Rattle.model.specs.Work.{wellFormed, endsInFC, idle, pending, readyForStartUp, readyIn}
 use Rattle.model.specs.Request.{Request}
 use Rattle.model.specs.Change.{Change, nothing, remove, put, changeIn, step, without, spaceOf}
 use Rattle.model.specs.Rules.{setBroken, getBroken, nextBroken, startUpBroken}
@@ -29,7 +31,7 @@ use Rattle.model.specs.Compact.{encode, allUsed, nextRecord, compactTo, compact
 use Rattle.model.specs.Set.{Plan, refuse, make, markState, leftover, entryStores, deleteTo, tailTo, tailOn, fitsTail, putPlan, changePlan, setPlan}
 use Rattle.model.specs.StartUp.{startUpStores, startUpPlan}
 use Rattle.model.specs.Answers.{ruleNumber, done, stopped, refused, outcome, imageAfter, storesOf, decided, getPlan, nextPlan}
-use Rattle.model.specs.Book.{Call, set, get, next, startUp, planOf, Sized, entered, counts, bookAfter, Run, begin, ran, cut, StartedUp, Agrees, AgreesAll, Demand3}
+use Rattle.model.specs.Book.{Call, set, get, next, startUp, planOf, Sized, entered, counts, bookAfter, Run, begin, ran, cut, StartedUp, MovedInto, Begins, started, moved-in, Agrees, AgreesAll, Demand3}
 use Rattle.model.proofs.Tests.{or-left, or-right, true-and}
 use Rattle.model.proofs.Stores.{after-all}
 use Rattle.model.proofs.Chunks.{Chunked, region-chunked}
@@ -41,6 +43,8 @@ use Rattle.model.proofs.Encode.{sound-valid, sound-distinct, put-valid, put-dis
 use Rattle.model.proofs.Requests.{set-length, set-ready, put-is-valid, put-fits, remove-present, startUp-length, startUp-ready, startUp-accepted}
 use Rattle.recovery.proofs.Invariant.{Holding, in-spare, in-region}
 use Rattle.recovery.proofs.Compaction.{clean-sound}
+use Rattle.model.specs.Move.{moved, imageMoved}
+use Rattle.model.proofs.Moving as moves
 use Rattle.recovery.proofs.StartingUp.{Ready, ready-of, ready-holds, startUp-holding, startUp-any}
 use Rattle.recovery.proofs.Marks.{State}
 use Rattle.recovery.proofs.Sets.{Kept, its-state, nothing-kept, delete-kept, tail-kept, compact-kept}
@@ -67,7 +71,7 @@ module _ {b : ℕ} {r w s : List ℕ} (p : Parts b r w s) (rested : idle w ≡ t
   its-list = values (entries r)
 
   its-values : valuesOf joined-image ≡ its-list
-  unfolding valuesOf
+  unfolding valuesIn
   its-values = ap (λ (l : List ℕ). values (entries l)) (parts-region p)
 
   pub record PlanKept (c : Change) : Type 0 where
@@ -137,8 +141,8 @@ module _ {b : ℕ} {r w s : List ℕ} (p : Parts b r w s) (rested : idle w ≡ t
   unfolding changePlan
   put-plan v valid fits = go (fitsTail r v) refl
     where
-      chunked : Chunked r
-      chunked = region-chunked b (p .region-long) (clean-sound r cleaned)
+      chunked : Chunked authenticated r
+      chunked = region-chunked authenticated b (p .region-long) (clean-sound r cleaned)
 
       go : (t : Bool) → fitsTail r v ≡ t → PlanKept (put v)
       go true h = record {
@@ -153,14 +157,15 @@ module _ {b : ℕ} {r w s : List ℕ} (p : Parts b r w s) (rested : idle w ≡ t
         on = compactOn joined-image (step (put v) its-list);
         plan = put-compact v h;
         kept =
-            compact-kept p rested free cleaned (step (put v) its-list) (put-valid v its-list valid (sound-valid r chunked)) (put-distinct v its-list (sound-distinct r chunked)) fits;
+            compact-kept p rested free cleaned (step (put v) its-list) (put-valid authenticated v its-list valid (sound-valid authenticated r chunked))
+            (put-distinct v its-list (sound-distinct authenticated r chunked)) fits;
         decides = λ e. absurd (true≢false (sym e ∙ compact-some joined-image (step (put v) its-list)));
       }
 
 -- ---- the values of a ready image that holds K
 
 pub ready-values : (img : List ℕ) (K : List Value) → Ready img → Holding K img → valuesOf img ≡ K
-unfolding valuesOf idle
+unfolding valuesIn idle
 ready-values img K i (in-region h) = ap (λ (l : List ℕ). values (entries l)) (ap region (h .whole) ∙ parts-region (h .parts)) ∙ h .held
 ready-values img K i (in-spare h) =
     let same : i .w ≡ h .w = sym (ap work (i .whole) ∙ parts-work (i .parts)) ∙ ap work (h .whole) ∙ parts-work (h .parts) in
@@ -420,16 +425,29 @@ counted K img (set s q) sized holds n = go (setBroken s q img) refl
 -- ---- the run
 
 -- what a done start-up leaves is ready, whatever image it began on
-pub started-ready : (start : List ℕ) → StartedUp start → Ready start
+started-ready : (start : List ℕ) → StartedUp start → Ready start
 started-ready start st =
     let f = finished (st .n) (st .stores) (st .before) (st .finished) in
     let up = startUp-any (st .before) (startUp-length (st .before) (f .accepted)) (startUp-ready (st .before) (f .accepted)) .up in
     subst Ready (sym (st .left ∙ f .left ∙ up .goes .left)) (up .ready)
 
+-- and so is what a done move leaves in the authenticated form
+moved-ready : (start : List ℕ) → MovedInto start → Ready start
+unfolding imageMoved readyIn
+moved-ready start m =
+    let whole : start ≡ moved (m .form) authenticated (m .source) (m .target) = m .left ∙ rw (m .accepted) in
+    subst Ready (sym whole) (ready-of (moved (m .form) authenticated (m .source) (m .target))
+    (moves.moved-length (m .form) authenticated (m .source) (m .target) (m .accepted))
+    (moves.moved-ready (m .form) authenticated (m .source) (m .target) (m .accepted)))
+
+pub begins-ready : (start : List ℕ) → Begins start → Ready start
+begins-ready start (started st) = started-ready start st
+begins-ready start (moved-in m) = moved-ready start m
+
 -- in a run the image holds the book
-pub run-holds : (start : List ℕ) → StartedUp start → {img : List ℕ} {book : List Value} → Run start img book → Holding book img
+pub run-holds : (start : List ℕ) → Begins start → {img : List ℕ} {book : List Value} → Run start img book → Holding book img
 unfolding imageAfter
-run-holds start st begin = ready-holds start (started-ready start st)
+run-holds start st begin = ready-holds start (begins-ready start st)
 run-holds start st (ran {img} {book} r c sized n) =
     let holds = run-holds start st r in
     subst (λ (vs : List Value). Holding vs (after n (storesOf (planOf c img)) img)) (counted book img c sized holds n)
@@ -449,7 +467,7 @@ agrees K img holds (get s key buffer) n = tt
 agrees K img holds (next s key buffer) n = tt
 agrees K img holds (startUp setup) n = λ stores h. startUp-values K img holds n stores h
 
-agrees-all : (start : List ℕ) → StartedUp start → {img : List ℕ} {book : List Value} → (r : Run start img book) → AgreesAll r
+agrees-all : (start : List ℕ) → Begins start → {img : List ℕ} {book : List Value} → (r : Run start img book) → AgreesAll r
 agrees-all start st begin = tt
 agrees-all start st (ran {img} {book} r c sized n) = (agrees-all start st r, agrees book img (run-holds start st r) c n)
 agrees-all start st (cut r c sized k left) = agrees-all start st r

@@ -6,6 +6,9 @@ use mathlib.Core.Bool.{Bool, _&&_}
 use mathlib.Core.List.{List}
 use lib.ListN.{length, take}
 use lib.Dec.{eqb, leb, ltb}
+use Rattle.model.specs.declared.Layout.{Layout}
+use Rattle.model.specs.declared.Answer.the-variants.{Done}
+use Rattle.model.specs.Layout.{authenticated}
 use Rattle.model.specs.Entry.{Value}
 use Rattle.model.specs.Region.{valuesOf}
 use Rattle.model.specs.Stores.{Bytes, applyAll, Cut}
@@ -15,6 +18,7 @@ use Rattle.model.specs.Answers.{getPlan, nextPlan}
 use Rattle.model.specs.Book.{Call, set, get, next, startUp, Sized, bookAfter}
 use Rattle.plan.specs.declared.HostPlan.{HostPlan}
 use Rattle.plan.specs.Told.{expandNumbers, Told}
+use Rattle.recovery.specs.Interface.{MoveReturned}
 
 -- A start-up was planned over these bytes: the plan and the content tell what the definitions plan. Custom mode and R make its session and are no part of its plan.
 -- `vs_plan_start_up` of the C interface ensures it of its own arguments, for every image.
@@ -65,14 +69,21 @@ pub data Hosting (start : List ℕ) : List ℕ → List Value → Type 0 where
       → Cut (expandNumbers content (p .ops)) k part part′
       → Hosting start part′ (bookAfter c (decidingDone k content p) book)
 
--- Begun on a part that a start-up left, told with rule 0 and carried out, on whatever bytes it found, and however often the power failed since: a start-up is not
--- refused, and carried out it leaves exactly the values of the book.
+-- What a host begins on: a part that a start-up left, told with rule 0 and carried out, on whatever bytes it found; or one with the bytes that a move into the
+-- form in which calls store left in its target, done.
+pub data HostBegun : List ℕ → Type 0 where
+  by-start-up : (before content : List ℕ) (p : HostPlan)
+      → Bytes before
+      → StartUpPlanned before content p
+      → p .rule ≡ 0
+      → HostBegun (carriedOut content p before)
+  by-move : {start : List ℕ} (from : Layout) (source target : List ℕ) → MoveReturned from authenticated source target start (Done 0) → HostBegun start
+
+-- Begun so, and however often the power failed since: a start-up is not refused, and carried out it leaves exactly the values of the book.
 abbrev pub HostKeepsTheBook : Type 0
 HostKeepsTheBook =
-    (before part content content′ : List ℕ) (book : List Value) (p p′ : HostPlan)
-    → Bytes before
-    → StartUpPlanned before content p
-    → p .rule ≡ 0
-    → Hosting (carriedOut content p before) part book
-    → StartUpPlanned part content′ p′
-    → (p′ .rule ≡ 0) × (valuesOf (carriedOut content′ p′ part) ≡ book)
+    (start part content : List ℕ) (book : List Value) (p : HostPlan)
+    → HostBegun start
+    → Hosting start part book
+    → StartUpPlanned part content p
+    → (p .rule ≡ 0) × (valuesOf (carriedOut content p part) ≡ book)

@@ -2,15 +2,18 @@
 use Prim.Native.Nat.{ℕ}
 use mathlib.Core.Path.{_≡_}
 use mathlib.Core.List.{List}
+use Rattle.model.specs.declared.Layout.{Layout}
 use Rattle.model.specs.declared.Setup.{Setup}
 use Rattle.model.specs.declared.Answer.{Answer}
 use Rattle.model.specs.declared.Answer.the-variants.{Done}
+use Rattle.model.specs.Layout.{authenticated}
 use Rattle.model.specs.Entry.{Value}
 use Rattle.model.specs.Region.{valuesOf}
 use Rattle.model.specs.Stores.{Bytes, Cut}
 use Rattle.model.specs.Set.{setPlan}
 use Rattle.model.specs.StartUp.{startUpPlan}
 use Rattle.model.specs.Answers.{answerOf, outcome, imageAfter, storesOf, decided, getPlan, nextPlan}
+use Rattle.model.specs.Move.{moveAnswer, imageMoved}
 use Rattle.model.specs.Book.{Call, set, get, next, startUp, planOf, Sized, counts, bookAfter}
 
 -- A call of the interface has returned: its arguments, n, the image before and after, and the answer. `engine::write::set`, `engine::read::get` and `next_name`, which
@@ -21,6 +24,21 @@ Returned (get s k buffer) n img img′ a = (answerOf a ≡ outcome n (getPlan s 
 Returned (next s k buffer) n img img′ a = (answerOf a ≡ outcome n (nextPlan s k buffer img)) × (img′ ≡ img)
 Returned (startUp setup) n img img′ a =
     (answerOf a ≡ outcome n (startUpPlan img)) × (img′ ≡ imageAfter n (startUpPlan img) img)
+
+-- 02 (d): a move from one form to another has returned: the source, the target before and after, and the answer. `convert::move_values` ensures it of its own
+-- arguments, for any two forms and every input; it is lent the source shared.
+abbrev pub MoveReturned : Layout → Layout → List ℕ → List ℕ → List ℕ → Answer → Type 0
+MoveReturned from to img target target′ a =
+    (answerOf a ≡ moveAnswer from to img target) × (target′ ≡ imageMoved from to img target)
+
+-- What calls begin on: an image that a start-up left, done, on whatever bytes it found; or one that a move into the form in which calls store left, done.
+pub data Begun (start : List ℕ) : Type 0 where
+  by-start-up : (before : List ℕ)
+      → Bytes before
+      → (setup : Setup) (n stores : ℕ)
+      → Returned (startUp setup) n before start (Done stores)
+      → Begun start
+  by-move : (from : Layout) (source target : List ℕ) → MoveReturned from authenticated source target start (Done 0) → Begun start
 
 -- Calls one after the other on one image, each returned or cut by a power failure; beside them the book, from the calls' arguments and answers, and of a stopped or cut
 -- one whether its deciding store was complete.
@@ -44,13 +62,12 @@ pub data Calls (start : List ℕ) : List ℕ → List Value → Type 0 where
       → Cut (storesOf (planOf c img)) k img img′
       → Calls start img′ (bookAfter c (decided k (planOf c img)) book)
 
--- These are the functions of the interface, and this holds of every list of calls to them: begun on an image that a start-up left, done, on whatever bytes it found, and
--- however many of the calls were stopped or cut, a start-up that returns done leaves exactly the values of the book.
+-- These are the functions of the interface, and this holds of every list of calls to them: begun so, and however many of the calls were stopped or cut, a
+-- start-up that returns done leaves exactly the values of the book.
 abbrev pub InterfaceKeepsTheBook : Type 0
 InterfaceKeepsTheBook =
-    (before start img img′ : List ℕ) (book : List Value) (setup setup′ : Setup) (n stores n′ stores′ : ℕ)
-    → Bytes before
-    → Returned (startUp setup) n before start (Done stores)
+    (start img img′ : List ℕ) (book : List Value) (setup : Setup) (n stores : ℕ)
+    → Begun start
     → Calls start img book
-    → Returned (startUp setup′) n′ img img′ (Done stores′)
+    → Returned (startUp setup) n img img′ (Done stores)
     → valuesOf img′ ≡ book

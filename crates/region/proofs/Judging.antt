@@ -10,6 +10,8 @@ use mathlib.Core.List.{List}
 use lib.ListN.{length, take, drop, length-drop}
 use lib.Dec.{eqb, leb}
 use borrow.Author.Tests.{ne-eqb, le-leb, lt-leb, leb-true, leb-false}
+use Rattle.model.specs.declared.Layout.{Layout}
+use Rattle.model.specs.Layout.{headerLength}
 use Rattle.model.specs.Lists.{among}
 use Rattle.model.specs.Name.{wellNamed}
 use Rattle.model.specs.Entry.{states}
@@ -17,59 +19,59 @@ use Rattle.model.specs.Walk as walk
 use Rattle.model.specs.Region.{storedAttributes, rightLive}
 use Rattle.layout.specs.Head.{nameIn}
 use Rattle.layout.specs.declared.Entry as numbers
-use Rattle.region.specs.Walk.{entryAt}
+use Rattle.region.specs.Walk.{entryAs}
 use Rattle.region.specs.Judge.{liveState, entrySound}
 use Rattle.region.proofs.Turns.{rest}
 
-module _ (r : List ℕ) (at : ℕ) (e : numbers.Entry) where
+module _ (y : Layout) (r : List ℕ) (at : ℕ) (e : numbers.Entry) where
   -- ---- right if it is live
 
-  pub right-dead : liveState (e .state) ≡ false → rightLive (entryAt r at e) ≡ true
-  unfolding rightLive entryAt walk.placed
+  pub right-dead : liveState (e .state) ≡ false → rightLive (entryAs y r at e) ≡ true
+  unfolding rightLive entryAs walk.placed
   right-dead d = rw d
 
   right-parts : liveState (e .state) ≡ true
-      → rightLive (entryAt r at e)
-      ≡ (wellNamed (entryAt r at e .name) && (leb 1 (e .size) && leb (e .size) 2048) && among storedAttributes (e .attributes))
-  unfolding rightLive entryAt walk.placed
+      → rightLive (entryAs y r at e)
+      ≡ (wellNamed (entryAs y r at e .name) && (leb 1 (e .size) && leb (e .size) 2048) && among storedAttributes (e .attributes))
+  unfolding rightLive entryAs walk.placed
   right-parts l = rw l
 
-  pub right-empty : liveState (e .state) ≡ true → e .size < 1 → rightLive (entryAt r at e) ≡ false
-  right-empty l h = rw (right-parts l, lt-leb 1 (e .size) h, and-false (wellNamed (entryAt r at e .name)))
+  pub right-empty : liveState (e .state) ≡ true → e .size < 1 → rightLive (entryAs y r at e) ≡ false
+  right-empty l h = rw (right-parts l, lt-leb 1 (e .size) h, and-false (wellNamed (entryAs y r at e .name)))
 
-  pub right-large : liveState (e .state) ≡ true → 2048 < e .size → rightLive (entryAt r at e) ≡ false
+  pub right-large : liveState (e .state) ≡ true → 2048 < e .size → rightLive (entryAs y r at e) ≡ false
   right-large l h =
-      rw (right-parts l, lt-leb (e .size) 2048 h, and-false (leb 1 (e .size)), and-false (wellNamed (entryAt r at e .name)))
+      rw (right-parts l, lt-leb (e .size) 2048 h, and-false (leb 1 (e .size)), and-false (wellNamed (entryAs y r at e .name)))
 
   pub right-name : liveState (e .state) ≡ true → 1 ≤ e .size → e .size ≤ 2048 → (t : Bool) → among storedAttributes (e .attributes) ≡ t
-      → rightLive (entryAt r at e) ≡ (wellNamed (entryAt r at e .name) && t)
-  right-name l h k t q = rw (right-parts l, le-leb 1 (e .size) h, le-leb (e .size) 2048 k, q, and-true (wellNamed (entryAt r at e .name)))
+      → rightLive (entryAs y r at e) ≡ (wellNamed (entryAs y r at e .name) && t)
+  right-name l h k t q = rw (right-parts l, le-leb 1 (e .size) h, le-leb (e .size) 2048 k, q, and-true (wellNamed (entryAs y r at e .name)))
 
   -- ---- sound by itself
 
   module _ (size : ℕ) where
-    pub sound-unfinished : e .state ≡ 0xFF → entrySound size (entryAt r at e) ≡ true
-    unfolding entrySound rightLive entryAt walk.placed
+    pub sound-unfinished : e .state ≡ 0xFF → entrySound size (entryAs y r at e) ≡ true
+    unfolding entrySound rightLive entryAs walk.placed
     sound-unfinished h = rw h
 
-    pub sound-unknown : among states (e .state) ≡ false → entrySound size (entryAt r at e) ≡ false
-    unfolding entrySound entryAt walk.placed
+    pub sound-unknown : among states (e .state) ≡ false → entrySound size (entryAs y r at e) ≡ false
+    unfolding entrySound entryAs walk.placed
     sound-unknown h = rw h
 
-    pub sound-over : e .state ≢ 0xFF → size < at + (60 + e .name + e .size) → entrySound size (entryAt r at e) ≡ false
-    unfolding entrySound entryAt walk.placed
-    sound-over h k = simp (ne-eqb (e .state) 0xFF h, lt-leb (at + (60 + e .name + e .size)) size k, and-false)
+    pub sound-over : e .state ≢ 0xFF → size < at + (headerLength y + e .name + e .size) → entrySound size (entryAs y r at e) ≡ false
+    unfolding entrySound entryAs walk.placed
+    sound-over h k = simp (ne-eqb (e .state) 0xFF h, lt-leb (at + (headerLength y + e .name + e .size)) size k, and-false)
 
-    pub sound-within : among states (e .state) ≡ true → e .state ≢ 0xFF → at + (60 + e .name + e .size) ≤ size
-        → entrySound size (entryAt r at e) ≡ rightLive (entryAt r at e)
-    unfolding entrySound entryAt walk.placed
-    sound-within k h l = rw (k, ne-eqb (e .state) 0xFF h, le-leb (at + (60 + e .name + e .size)) size l)
+    pub sound-within : among states (e .state) ≡ true → e .state ≢ 0xFF → at + (headerLength y + e .name + e .size) ≤ size
+        → entrySound size (entryAs y r at e) ≡ rightLive (entryAs y r at e)
+    unfolding entrySound entryAs walk.placed
+    sound-within k h l = rw (k, ne-eqb (e .state) 0xFF h, le-leb (at + (headerLength y + e .name + e .size)) size l)
 
 -- ---- an entry at the front of the part that `&r[at..]` lends
 
-pub front-name : (s : List ℕ) (e : numbers.Entry) → nameIn s e ≡ entryAt s 0 e .name
-unfolding nameIn entryAt walk.placed
-front-name s e = refl
+pub front-name : (y : Layout) (s : List ℕ) (e : numbers.Entry) → nameIn y s e ≡ entryAs y s 0 e .name
+unfolding nameIn entryAs walk.placed
+front-name y s e = refl
 
 shifted : (at k n : ℕ) → at ≤ n → leb (0 + k) (n - at) ≡ leb (at + k) n
 shifted at k n h = go (leb (at + k) n) refl
@@ -79,26 +81,26 @@ shifted at k n h = go (leb (at + k) n) refl
     go false q = let l = leb-false (at + k) n q in lt-leb (0 + k) (n - at) (omega arith) ∙ sym q
 
 -- the bytes of an entry that are stored
-abbrev filled : numbers.Entry → ℕ
-filled e = cond (eqb (e .state) 0xFF) 60 (60 + e .name + e .size)
+abbrev filled : Layout → numbers.Entry → ℕ
+filled y e = cond (eqb (e .state) 0xFF) (headerLength y) (headerLength y + e .name + e .size)
 
-sound-parts : (r : List ℕ) (at : ℕ) (e : numbers.Entry) (size : ℕ)
-    → entrySound size (entryAt r at e)
-    ≡ (among states (e .state) && (eqb (e .state) 0xFF || leb (at + filled e) size) && rightLive (entryAt r at e))
-unfolding entrySound entryAt walk.placed
-sound-parts r at e size = refl
+sound-parts : (y : Layout) (r : List ℕ) (at : ℕ) (e : numbers.Entry) (size : ℕ)
+    → entrySound size (entryAs y r at e)
+    ≡ (among states (e .state) && (eqb (e .state) 0xFF || leb (at + filled y e) size) && rightLive (entryAs y r at e))
+unfolding entrySound entryAs walk.placed
+sound-parts y r at e size = refl
 
-front-right : (r : List ℕ) (at : ℕ) (e : numbers.Entry) → rightLive (entryAt (drop at r) 0 e) ≡ rightLive (entryAt r at e)
-unfolding rightLive entryAt walk.placed
-front-right r at e = refl
+front-right : (y : Layout) (r : List ℕ) (at : ℕ) (e : numbers.Entry) → rightLive (entryAs y (drop at r) 0 e) ≡ rightLive (entryAs y r at e)
+unfolding rightLive entryAs walk.placed
+front-right y r at e = refl
 
 -- it is sound by itself just if it is so in the region
-pub front-sound : (r : List ℕ) (at : ℕ) (e : numbers.Entry) → at ≤ length r
-    → entrySound (length (take (length r - at) (drop at r))) (entryAt (take (length r - at) (drop at r)) 0 e) ≡ entrySound (length r) (entryAt r at e)
-front-sound r at e h =
-    ap (λ s. entrySound (length s) (entryAt s 0 e)) (rest r at)
-    ∙ sound-parts (drop at r) 0 e (length (drop at r))
+pub front-sound : (y : Layout) (r : List ℕ) (at : ℕ) (e : numbers.Entry) → at ≤ length r
+    → entrySound (length (take (length r - at) (drop at r))) (entryAs y (take (length r - at) (drop at r)) 0 e) ≡ entrySound (length r) (entryAs y r at e)
+front-sound y r at e h =
+    ap (λ s. entrySound (length s) (entryAs y s 0 e)) (rest r at)
+    ∙ sound-parts y (drop at r) 0 e (length (drop at r))
     ∙ ap₂ (λ (b c : Bool). among states (e .state) && (eqb (e .state) 0xFF || b) && c)
-    (ap (leb (0 + filled e)) (length-drop at r) ∙ shifted at (filled e) (length r) h)
-    (front-right r at e)
-    ∙ sym (sound-parts r at e (length r))
+    (ap (leb (0 + filled y e)) (length-drop at r) ∙ shifted at (filled y e) (length r) h)
+    (front-right y r at e)
+    ∙ sym (sound-parts y r at e (length r))

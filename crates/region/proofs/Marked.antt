@@ -11,19 +11,20 @@ use lib.ListN.{length, getD, set, take, drop, length-set}
 use lib.Dec.{eqb, leb}
 use lib.Seq.{getD-set-same, getD-set-other}
 use borrow.Author.Tests.{eq-eqb, ne-eqb, eqb-true, eqb-false, le-leb, lt-leb}
+use Rattle.model.specs.declared.Layout.{Layout}
 use Rattle.model.specs.Lists.{any}
 use Rattle.model.specs.Name.{Key, sameKey, keyed}
 use Rattle.model.specs.Image.{regionHeaderSize}
-use Rattle.model.specs.Entry.{headerFields}
+use Rattle.model.specs.Entry.{headerFieldsIn}
 use Rattle.model.specs.Walk as walk
 use Rattle.model.specs.Walk.{stateOf, entryKey}
-use Rattle.model.specs.Region.{entries, live, isEntry, undoubled}
-use Rattle.model.specs.Beside.{from}
+use Rattle.model.specs.Region.{entriesIn, live, isEntry, undoubled}
+use Rattle.model.specs.Beside.{fromIn}
 use Rattle.model.proofs.Tests.{and-split, true-and, both-ways, key-refl, key-eq}
 use Rattle.model.proofs.Walking.{entries-from}
 use Rattle.layout.specs.Head.{nameIn}
 use Rattle.layout.specs.declared.Entry as numbers
-use Rattle.region.specs.Walk.{entryAt, turnOf}
+use Rattle.region.specs.Walk.{entryAs, turnIn}
 use Rattle.region.specs.Judge.{liveState, doubledIn}
 use Rattle.region.specs.Marks.{keyMark, deadMark, markOf, markAt, markIn, noMarks, isNoted, note, upTo}
 use Rattle.region.specs.declared.Mark.{Mark}
@@ -33,19 +34,19 @@ use Rattle.region.proofs.Turns.{rest, turned, stopped}
 
 -- ---- the mark of an entry
 
-module _ (s : List ℕ) (e : numbers.Entry) where
-  pub live-mark : liveState (e .state) ≡ true → markIn s e ≡ keyMark (headerFields s .vendor ++ nameIn s e)
+module _ (form : Layout) (s : List ℕ) (e : numbers.Entry) where
+  pub live-mark : liveState (e .state) ≡ true → markIn form s e ≡ keyMark (headerFieldsIn form s .vendor ++ nameIn form s e)
   unfolding markIn markOf
   live-mark l = rw l
 
-  pub dead-mark : liveState (e .state) ≡ false → markIn s e ≡ deadMark
+  pub dead-mark : liveState (e .state) ≡ false → markIn form s e ≡ deadMark
   unfolding markIn markOf
   dead-mark l = rw l
 
 -- the mark made of the part that `&r[at..]` lends is that of the entry
-pub here-mark : (r : List ℕ) (at : ℕ) (e : numbers.Entry) → markIn (take (length r - at) (drop at r)) e ≡ markAt (entryAt r at e)
-unfolding markIn markAt entryAt nameIn walk.placed
-here-mark r at e = ap (λ s. markIn s e) (rest r at)
+pub here-mark : (form : Layout) (r : List ℕ) (at : ℕ) (e : numbers.Entry) → markIn form (take (length r - at) (drop at r)) e ≡ markAt (entryAs form r at e)
+unfolding markIn markAt entryAs nameIn walk.placed
+here-mark form r at e = ap (λ s. markIn form s e) (rest r at)
 
 signed : (state : ℕ) (k : Key) → markOf state k .sign ≢ 0
 unfolding markOf keyMark deadMark
@@ -88,18 +89,18 @@ module _ (end : ℕ) {l es : List walk.Entry} {x : walk.Entry} (first : l ≡ x 
   unfolding upTo
   up-stop h = ap (upTo end) first ∙ rw (le-leb end (x .at) h)
 
-pub at-place : (r : List ℕ) (at : ℕ) (e : numbers.Entry) → entryAt r at e .at ≡ at
-unfolding entryAt walk.placed
-at-place r at e = refl
+pub at-place : (form : Layout) (r : List ℕ) (at : ℕ) (e : numbers.Entry) → entryAs form r at e .at ≡ at
+unfolding entryAs walk.placed
+at-place form r at e = refl
 
 -- from an offset on none begins before it
-pub up-past : (r : List ℕ) (at end : ℕ) → end ≤ at → upTo end (from r at) ≡ []
+pub up-past : (form : Layout) (r : List ℕ) (at end : ℕ) → end ≤ at → upTo end (fromIn form r at) ≡ []
 unfolding upTo
-up-past r at end h = go (turnOf r at) refl
+up-past form r at end h = go (turnIn form r at) refl
   where
-    go : (t : Turn) → turnOf r at ≡ t → upTo end (from r at) ≡ []
-    go (Entry e k) p = up-stop end (turned r at e k p .walk) (rw (at-place r at e) h)
-    go Stop p = ap (upTo end) (stopped r at p)
+    go : (t : Turn) → turnIn form r at ≡ t → upTo end (fromIn form r at) ≡ []
+    go (Entry e k) p = up-stop end (turned form r at e k p .walk) (rw (at-place form r at e) h)
+    go Stop p = ap (upTo end) (stopped form r at p)
 
 -- ---- being doubled by goes both ways
 
@@ -253,65 +254,65 @@ noting-own noted m h k =
 -- ---- the loop
 
 -- the entries passed, which make up the walk with those to come; each is noted; no name is doubled just if none to come is
-pub record Passed (r noted : List ℕ) (at : ℕ) : Type 0 where
+pub record Passed (form : Layout) (r noted : List ℕ) (at : ℕ) : Type 0 where
   pub passed : List walk.Entry
-  pub whole : entries r ≡ passed ++ from r at
+  pub whole : entriesIn form r ≡ passed ++ fromIn form r at
   pub each : Each (Noted noted at) passed
-  pub judge : undoubled (entries r) ≡ judged passed (from r at)
+  pub judge : undoubled (entriesIn form r) ≡ judged passed (fromIn form r at)
   pub size : length noted ≡ 1280
 
-pub begin : (r : List ℕ) → Passed r noMarks regionHeaderSize
+pub begin : (form : Layout) (r : List ℕ) → Passed form r noMarks regionHeaderSize
 unfolding noMarks
-begin r = record {
+begin form r = record {
   passed = [];
-  whole = entries-from r;
+  whole = entries-from form r;
   each = tt;
-  judge = ap undoubled (entries-from r) ∙ judged-begin (from r regionHeaderSize);
+  judge = ap undoubled (entries-from form r) ∙ judged-begin (fromIn form r regionHeaderSize);
   size = refl;
 }
 
-module _ (r noted : List ℕ) (at : ℕ) (c : Passed r noted at) where
-  before : upTo at (entries r) ≡ c .passed
-  before = ap (upTo at) (c .whole) ∙ up-noted noted at (c .passed) (from r at) (c .each) (up-past r at at (omega arith))
+module _ (form : Layout) (r noted : List ℕ) (at : ℕ) (c : Passed form r noted at) where
+  before : upTo at (entriesIn form r) ≡ c .passed
+  before = ap (upTo at) (c .whole) ∙ up-noted noted at (c .passed) (fromIn form r at) (c .each) (up-past form r at at (omega arith))
 
-  pub ended : turnOf r at ≡ Stop → undoubled (entries r) ≡ true
+  pub ended : turnIn form r at ≡ Stop → undoubled (entriesIn form r) ≡ true
   unfolding undoubled
-  ended s = c .judge ∙ ap (judged (c .passed)) (stopped r at s)
+  ended s = c .judge ∙ ap (judged (c .passed)) (stopped form r at s)
 
-  module _ (e : numbers.Entry) (k : ℕ) (found : turnOf r at ≡ Entry e k) where
-    pub doubled : (v g : ℕ) → (isNoted v g && doubledIn (entryAt r at e) (upTo at (entries r))) ≡ true → undoubled (entries r) ≡ false
+  module _ (e : numbers.Entry) (k : ℕ) (found : turnIn form r at ≡ Entry e k) where
+    pub doubled : (v g : ℕ) → (isNoted v g && doubledIn (entryAs form r at e) (upTo at (entriesIn form r))) ≡ true → undoubled (entriesIn form r) ≡ false
     doubled v g h =
-        let w = turned r at e k found in
-        let d = and-split (isNoted v g) (doubledIn (entryAt r at e) (upTo at (entries r))) h in
+        let w = turned form r at e k found in
+        let d = and-split (isNoted v g) (doubledIn (entryAs form r at e) (upTo at (entriesIn form r))) h in
         c .judge ∙ ap (judged (c .passed)) (w .walk)
-        ∙ judged-stop (c .passed) (entryAt r at e) (from r k) (ap (doubledIn (entryAt r at e)) (sym before) ∙ d .1)
+        ∙ judged-stop (c .passed) (entryAs form r at e) (fromIn form r k) (ap (doubledIn (entryAs form r at e)) (sym before) ∙ d .1)
 
-    fresh : (m : Mark) → m ≡ markAt (entryAt r at e)
-        → (isNoted (getD noted (m .place) 0) (m .sign) && doubledIn (entryAt r at e) (upTo at (entries r))) ≡ false
-        → doubledIn (entryAt r at e) (c .passed) ≡ false
+    fresh : (m : Mark) → m ≡ markAt (entryAs form r at e)
+        → (isNoted (getD noted (m .place) 0) (m .sign) && doubledIn (entryAs form r at e) (upTo at (entriesIn form r))) ≡ false
+        → doubledIn (entryAs form r at e) (c .passed) ≡ false
     fresh m q h = go (isNoted (getD noted (m .place) 0) (m .sign)) refl
       where
-        go : (t : Bool) → isNoted (getD noted (m .place) 0) (m .sign) ≡ t → doubledIn (entryAt r at e) (c .passed) ≡ false
+        go : (t : Bool) → isNoted (getD noted (m .place) 0) (m .sign) ≡ t → doubledIn (entryAs form r at e) (c .passed) ≡ false
         go false z =
-            unseen noted at (entryAt r at e) (ap (λ (n : Mark). isNoted (getD noted (n .place) 0) (n .sign)) (sym q) ∙ z) (c .passed) (c .each)
-        go true z = ap (doubledIn (entryAt r at e)) (sym before) ∙ (rw z at h)
+            unseen noted at (entryAs form r at e) (ap (λ (n : Mark). isNoted (getD noted (n .place) 0) (n .sign)) (sym q) ∙ z) (c .passed) (c .each)
+        go true z = ap (doubledIn (entryAs form r at e)) (sym before) ∙ (rw z at h)
 
-    pub next : (m : Mark) → m ≡ markAt (entryAt r at e) → m .place < 1280
-        → (isNoted (getD noted (m .place) 0) (m .sign) && doubledIn (entryAt r at e) (upTo at (entries r))) ≡ false
-        → Passed r (noting noted m) k
+    pub next : (m : Mark) → m ≡ markAt (entryAs form r at e) → m .place < 1280
+        → (isNoted (getD noted (m .place) 0) (m .sign) && doubledIn (entryAs form r at e) (upTo at (entriesIn form r))) ≡ false
+        → Passed form r (noting noted m) k
     unfolding markAt
     next m q b h =
-        let w = turned r at e k found in
-        let x = entryAt r at e in
+        let w = turned form r at e k found in
+        let x = entryAs form r at e in
         let room : m .place < length noted = rw (c .size) b in
         let more : at < k = omega arith in
         let sign : m .sign ≢ 0 = rw q (signed (stateOf x) (entryKey x)) in
         record {
           passed = c .passed ++ (x ∷ []);
-          whole = c .whole ∙ ap (λ l. c .passed ++ l) (w .walk) ∙ sym (append-assoc (c .passed) (x ∷ []) (from r k));
+          whole = c .whole ∙ ap (λ l. c .passed ++ l) (w .walk) ∙ sym (append-assoc (c .passed) (x ∷ []) (fromIn form r k));
           each = each-last (Noted noted at) (Noted (noting noted m) k)
               (λ y n. (omega arith, noting-keeps noted m (markAt y) room (n .1))) (c .passed) x (c .each)
-              (rw (at-place r at e) more, rw (← q) (noting-own noted m room sign));
-          judge = c .judge ∙ ap (judged (c .passed)) (w .walk) ∙ judged-next (c .passed) x (from r k) (fresh m q h);
+              (rw (at-place form r at e) more, rw (← q) (noting-own noted m room sign));
+          judge = c .judge ∙ ap (judged (c .passed)) (w .walk) ∙ judged-next (c .passed) x (fromIn form r k) (fresh m q h);
           size = length-set noted (m .place) (note (getD noted (m .place) 0) (m .sign)) ∙ c .size;
         }

@@ -6,15 +6,16 @@ use mathlib.Core.Path.{_≡_, refl, ap, _∙_}
 use mathlib.Core.Bool.{Bool, true, false, cond, _&&_}
 use mathlib.Core.List.{List, [], _∷_}
 use lib.ListN.{length}
+use Rattle.model.specs.declared.Layout.{Layout}
 use Rattle.model.specs.Lists.{all, any}
 use Rattle.model.specs.Name.{keyed}
 use Rattle.model.specs.Image.{regionHeaderSize}
 use Rattle.model.specs.Walk as walk
-use Rattle.model.specs.Region.{tailAt, knownState, within, rightLive, isEntry}
+use Rattle.model.specs.Region.{tailAtIn, knownState, within, rightLive, isEntry}
 use Rattle.model.proofs.Walking.{entries-from}
-use Rattle.model.specs.Beside.{from}
+use Rattle.model.specs.Beside.{fromIn}
 use Rattle.layout.specs.declared.Entry as numbers
-use Rattle.region.specs.Walk.{entryAt, vendorAt}
+use Rattle.region.specs.Walk.{entryAs, vendorAs}
 use Rattle.region.specs.Judge.{liveState, entrySound, entriesSound, doubledIn, scanOf}
 use Rattle.region.specs.declared.Scan.{Scan}
 
@@ -44,15 +45,15 @@ each size (e ∷ es) =
     regroup true false c false y z = refl
     regroup false b c x y z = refl
 
-pub scan-begin : (r : List ℕ) → scanOf r ≡ scanned (length r) regionHeaderSize (from r regionHeaderSize)
-unfolding scanOf entriesSound tailAt
-scan-begin r =
+pub scan-begin : (y : Layout) (r : List ℕ) → scanOf y r ≡ scanned (length r) regionHeaderSize (fromIn y r regionHeaderSize)
+unfolding scanOf entriesSound tailAtIn
+scan-begin y r =
     ap (λ (es : List walk.Entry). record {
       sound = all knownState es && all (within (length r)) es && all rightLive es;
       tail = cond (all knownState es && all (within (length r)) es && all rightLive es) (walk.walkEnd regionHeaderSize es) 0;
-    }) (entries-from r)
-    ∙ ap (λ (b : Bool). record { sound = b; tail = cond b (walk.walkEnd regionHeaderSize (from r regionHeaderSize)) 0 })
-    (each (length r) (from r regionHeaderSize))
+    }) (entries-from y r)
+    ∙ ap (λ (b : Bool). record { sound = b; tail = cond b (walk.walkEnd regionHeaderSize (fromIn y r regionHeaderSize)) 0 })
+    (each (length r) (fromIn y r regionHeaderSize))
 
 module _ {l es : List walk.Entry} {x : walk.Entry} (first : l ≡ x ∷ es) where
   pub scan-next : (size at k : ℕ) → entrySound size x ≡ true → x .next ≡ k → scanned size at l ≡ scanned size k es
@@ -72,12 +73,12 @@ module _ {l es : List walk.Entry} {x : walk.Entry} (first : l ≡ x ∷ es) wher
 
 -- ---- doubled names
 
-module _ (r : List ℕ) (at : ℕ) (e : numbers.Entry) (es : List walk.Entry) where
+module _ (y : Layout) (r : List ℕ) (at : ℕ) (e : numbers.Entry) (es : List walk.Entry) where
   pub doubled-live : liveState (e .state) ≡ true
-      → doubledIn (entryAt r at e) es ≡ any (isEntry (e .state) (keyed (entryAt r at e .name) (vendorAt r at))) es
-  unfolding doubledIn entryAt walk.placed vendorAt
+      → doubledIn (entryAs y r at e) es ≡ any (isEntry (e .state) (keyed (entryAs y r at e .name) (vendorAs y r at))) es
+  unfolding doubledIn entryAs walk.placed vendorAs
   doubled-live l = rw l
 
-  pub doubled-dead : liveState (e .state) ≡ false → doubledIn (entryAt r at e) es ≡ false
-  unfolding doubledIn entryAt walk.placed
+  pub doubled-dead : liveState (e .state) ≡ false → doubledIn (entryAs y r at e) es ≡ false
+  unfolding doubledIn entryAs walk.placed
   doubled-dead l = rw l

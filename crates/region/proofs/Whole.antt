@@ -9,46 +9,47 @@ use mathlib.Core.List.{List}
 use lib.ListN.{length, drop, length-drop}
 use lib.Seq.{take-all}
 use Rattle.model.specs.Lists.{part, allFF}
-use Rattle.model.specs.Region.{entries, tailAt, tail, rightHeader, undoubled, sound, clean}
-use Rattle.region.specs.Judge.{entriesSound, scanOf, judgedOf}
+use Rattle.model.specs.declared.Layout.{Layout}
+use Rattle.model.specs.Region.{entriesIn, tailAtIn, tailIn, rightHeaderIn, undoubled, soundIn, cleanIn}
+use Rattle.region.specs.Judge.{entriesSound, scanOf, judgedIn}
 use Rattle.region.specs.declared.Scan.{Scan}
 
-module _ (r : List ℕ) where
-  sound-parts : sound r ≡ (rightHeader r && entriesSound r && undoubled (entries r))
-  unfolding sound entriesSound
+module _ (y : Layout) (r : List ℕ) where
+  sound-parts : soundIn y r ≡ (rightHeaderIn y r && entriesSound y r && undoubled (entriesIn y r))
+  unfolding soundIn entriesSound
   sound-parts = simp and-assoc
 
-  pub wrong-header : rightHeader r ≡ false → sound r ≡ false
+  pub wrong-header : rightHeaderIn y r ≡ false → soundIn y r ≡ false
   wrong-header h = rw (sound-parts, h)
 
-  pub wrong-entry : entriesSound r ≡ false → sound r ≡ false
-  wrong-entry s = rw (sound-parts, s, and-false (rightHeader r))
+  pub wrong-entry : entriesSound y r ≡ false → soundIn y r ≡ false
+  wrong-entry s = rw (sound-parts, s, and-false (rightHeaderIn y r))
 
-  pub doubled-name : undoubled (entries r) ≡ false → sound r ≡ false
-  doubled-name u = rw (sound-parts, u, and-false (rightHeader r && entriesSound r))
+  pub doubled-name : undoubled (entriesIn y r) ≡ false → soundIn y r ≡ false
+  doubled-name u = rw (sound-parts, u, and-false (rightHeaderIn y r && entriesSound y r))
 
-  pub all-right : rightHeader r ≡ true → entriesSound r ≡ true → undoubled (entries r) ≡ true → sound r ≡ true
+  pub all-right : rightHeaderIn y r ≡ true → entriesSound y r ≡ true → undoubled (entriesIn y r) ≡ true → soundIn y r ≡ true
   all-right h s u = rw (sound-parts, h, s, u)
 
   -- ---- what is answered
 
-  pub unsound : sound r ≡ false → judgedOf r ≡ record { sound = false; clean = false; tail = 0 }
-  unfolding judgedOf clean
+  pub unsound : soundIn y r ≡ false → judgedIn y r ≡ record { sound = false; clean = false; tail = 0 }
+  unfolding judgedIn cleanIn
   unsound s = rw s
 
-  tail-part : part (tailAt r) (length r) r ≡ tail r
-  unfolding tail
-  tail-part = take-all (length r) (drop (tailAt r) r) (simp length-drop (omega arith))
+  tail-part : part (tailAtIn y r) (length r) r ≡ tailIn y r
+  unfolding tailIn
+  tail-part = take-all (length r) (drop (tailAtIn y r) r) (simp length-drop (omega arith))
 
-  pub sounds : sound r ≡ true → judgedOf r ≡ record { sound = true; clean = allFF (part (tailAt r) (length r) r); tail = tailAt r }
-  unfolding judgedOf clean
+  pub sounds : soundIn y r ≡ true → judgedIn y r ≡ record { sound = true; clean = allFF (part (tailAtIn y r) (length r) r); tail = tailAtIn y r }
+  unfolding judgedIn cleanIn
   sounds s = rw (s, tail-part)
 
   -- what the scan tells
-  pub scan-sound : (s : Scan) → s ≡ scanOf r → entriesSound r ≡ s .sound
+  pub scan-sound : (s : Scan) → s ≡ scanOf y r → entriesSound y r ≡ s .sound
   unfolding scanOf
   scan-sound s e = rw e
 
-  pub scan-tail : (s : Scan) → s ≡ scanOf r → entriesSound r ≡ true → s .tail ≡ tailAt r
+  pub scan-tail : (s : Scan) → s ≡ scanOf y r → entriesSound y r ≡ true → s .tail ≡ tailAtIn y r
   unfolding scanOf
   scan-tail s e h = rw (e, h)

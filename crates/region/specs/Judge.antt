@@ -6,7 +6,9 @@ use lib.ListN.{length}
 use lib.Dec.{eqb}
 use Rattle.model.specs.Lists.{all, any}
 use Rattle.model.specs.Walk.{Entry, stateOf, entryKey}
-use Rattle.model.specs.Region.{entries, tailAt, knownState, within, live, rightLive, isEntry, sound, clean}
+use Rattle.model.specs.declared.Layout.{Layout}
+use Rattle.model.specs.Layout.{authenticated}
+use Rattle.model.specs.Region.{entriesIn, tailAtIn, knownState, within, live, rightLive, isEntry, soundIn, cleanIn}
 use Rattle.region.specs.declared.Scan.{Scan}
 use Rattle.region.specs.declared.Judged.{Judged}
 
@@ -19,17 +21,21 @@ unfoldable pub entrySound : ℕ → Entry → Bool
 entrySound size e = knownState e && within size e && rightLive e
 
 -- what it asks of every entry by itself
-unfoldable pub entriesSound : List ℕ → Bool
-entriesSound r = all knownState (entries r) && all (within (length r)) (entries r) && all rightLive (entries r)
+unfoldable pub entriesSound : Layout → List ℕ → Bool
+entriesSound y r = all knownState (entriesIn y r) && all (within (length r)) (entriesIn y r) && all rightLive (entriesIn y r)
 
 -- an entry is live, and its state, name and GUID come again in a list
 unfoldable pub doubledIn : Entry → List Entry → Bool
 doubledIn e es = live e && any (isEntry (stateOf e) (entryKey e)) es
 
 -- whether it holds of all; if so the offset of the tail, else 0
-unfoldable pub scanOf : List ℕ → Scan
-scanOf r = record { sound = entriesSound r; tail = cond (entriesSound r) (tailAt r) 0 }
+unfoldable pub scanOf : Layout → List ℕ → Scan
+scanOf y r = record { sound = entriesSound y r; tail = cond (entriesSound y r) (tailAtIn y r) 0 }
 
 -- *sound*, *clean*; if sound the offset of the tail, else 0
-unfoldable pub judgedOf : List ℕ → Judged
-judgedOf r = record { sound = sound r; clean = clean r; tail = cond (sound r) (tailAt r) 0 }
+unfoldable pub judgedIn : Layout → List ℕ → Judged
+judgedIn y r = record { sound = soundIn y r; clean = cleanIn y r; tail = cond (soundIn y r) (tailAtIn y r) 0 }
+
+-- the same of the authenticated form
+abbrev pub judgedOf : List ℕ → Judged
+judgedOf = judgedIn authenticated

@@ -5,8 +5,9 @@ use mathlib.Core.Bool.{Bool, cond, not, _&&_, _||_}
 use mathlib.Core.List.{List, [], _∷_, _++_}
 use lib.ListN.{length, replicate}
 use lib.Dec.{eqb, leb}
+use Rattle.model.specs.declared.Layout.{Layout}
 use Rattle.model.specs.Name.{Key, keyed}
-use Rattle.model.specs.Entry.{headerFields}
+use Rattle.model.specs.Entry.{headerFieldsIn}
 use Rattle.model.specs.Walk.{Entry, stateOf, entryKey}
 use Rattle.slices.specs.Agree.{eightAt}
 use Rattle.layout.specs.Head.{nameIn}
@@ -53,8 +54,8 @@ unfoldable pub markAt : Entry → Mark
 markAt e = markOf (stateOf e) (entryKey e)
 
 -- the mark of the entry of these numbers at the front of a part of the region
-unfoldable pub markIn : List ℕ → numbers.Entry → Mark
-markIn s e = markOf (e .state) (keyed (nameIn s e) (headerFields s .vendor))
+unfoldable pub markIn : Layout → List ℕ → numbers.Entry → Mark
+markIn y s e = markOf (e .state) (keyed (nameIn y s e) (headerFieldsIn y s .vendor))
 
 -- by what is noted at its place, a name of a sign may have been met
 unfoldable pub isNoted : ℕ → ℕ → Bool

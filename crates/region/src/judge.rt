@@ -1,13 +1,13 @@
-// When a region is sound and clean.
+// When a region is sound and clean, in every stored form.
 ghost use mathlib.Core.Path.{_≡_};
 ghost use mathlib.Core.Bool.{_&&_};
 ghost use lib.ListN.{length};
 ghost use Rattle.model.specs.Lists.{any, among};
 ghost use Rattle.model.specs.Name.{keyed};
 ghost use Rattle.model.specs.Entry.{states};
-ghost use Rattle.model.specs.Region.{entries, storedAttributes, rightLive, isEntry, undoubled};
-ghost use Rattle.region.specs.Walk.{entryAt};
-ghost use Rattle.region.specs.Judge.{liveState, entrySound, doubledIn, scanOf, judgedOf};
+ghost use Rattle.model.specs.Region.{entriesIn, storedAttributes, rightLive, isEntry, undoubled};
+ghost use Rattle.region.specs.Walk.{entryAs};
+ghost use Rattle.region.specs.Judge.{liveState, entrySound, doubledIn, scanOf, judgedIn, judgedOf};
 ghost use Rattle.region.specs.Marks.{isNoted, upTo};
 use crate::Judged;
 use crate::Scan;
@@ -15,6 +15,7 @@ use crate::Turn;
 use crate::marks;
 use crate::walk;
 use layout::Entry;
+use model::Layout;
 
 // Whether a state is one of the six.
 fn known_state(state: u8) -> bool
@@ -52,8 +53,8 @@ pub fn is_live(state: u8) -> bool
 }
 
 // Whether the entry at the front of `s`, if it is live, has a well-formed name, data of a right size, and attributes that are stored.
-fn right_live(s: &[u8], e: Entry) -> bool
-    ensures { λ r. ⌜ r ≡ rightLive (entryAt (now (s .entry)) 0 e) ⌝ }
+fn right_live(y: Layout, s: &[u8], e: Entry) -> bool
+    ensures { λ r. ⌜ r ≡ rightLive (entryAs y (now (s .entry)) 0 e) ⌝ }
 {
     if is_live(e.state) {
         if e.size < 1 {
@@ -63,7 +64,7 @@ fn right_live(s: &[u8], e: Entry) -> bool
             return false;
         }
         if stored_attributes(e.attributes) {
-            slices::is_named(layout::name_of(s, e))
+            slices::is_named(layout::name_of(y, s, e))
         } else {
             false
         }
@@ -73,36 +74,36 @@ fn right_live(s: &[u8], e: Entry) -> bool
 }
 
 // Whether the entry at the front of `s` is sound by itself: a known state, an end within the region, and right if it is live.
-fn entry_sound(s: &[u8], e: Entry) -> bool
-    ensures { λ r. ⌜ r ≡ entrySound (length (now (s .entry))) (entryAt (now (s .entry)) 0 e) ⌝ }
+fn entry_sound(y: Layout, s: &[u8], e: Entry) -> bool
+    ensures { λ r. ⌜ r ≡ entrySound (length (now (s .entry))) (entryAs y (now (s .entry)) 0 e) ⌝ }
 {
     if e.state == 0xFF {
         return true;
     }
     if known_state(e.state) {
-        if s.len() < layout::HEADER + e.name as usize + e.size as usize {
+        if s.len() < y.header() + e.name as usize + e.size as usize {
             return false;
         }
-        right_live(s, e)
+        right_live(y, s, e)
     } else {
         false
     }
 }
 
 // One pass over the entries.
-fn scan(region: &[u8]) -> Scan
-    ensures { λ r. ⌜ r ≡ scanOf (now (region .entry)) ⌝ }
+fn scan(y: Layout, region: &[u8]) -> Scan
+    ensures { λ r. ⌜ r ≡ scanOf y (now (region .entry)) ⌝ }
 {
     let mut at: usize = layout::REGION_HEADER;
     loop {
-        let t = walk::turn(region, at);
+        let t = walk::turn_in(y, region, at);
         let Turn::Entry(e, next) = t else {
             return Scan {
                 sound: true,
                 tail: at,
             };
         };
-        if entry_sound(&region[at..], e) {
+        if entry_sound(y, &region[at..], e) {
             at = next;
         } else {
             return Scan {
@@ -114,16 +115,16 @@ fn scan(region: &[u8]) -> Scan
 }
 
 // Whether an entry before an offset has this state, name and GUID.
-fn came_before(region: &[u8], end: usize, state: u8, name: &[u8], vendor: &[u8]) -> bool
-    ensures { λ r. ⌜ r ≡ any (isEntry state (keyed (now (name .entry)) (now (vendor .entry)))) (upTo end (entries (now (region .entry)))) ⌝ }
+fn came_before(y: Layout, region: &[u8], end: usize, state: u8, name: &[u8], vendor: &[u8]) -> bool
+    ensures { λ r. ⌜ r ≡ any (isEntry state (keyed (now (name .entry)) (now (vendor .entry)))) (upTo end (entriesIn y (now (region .entry)))) ⌝ }
 {
     let mut at: usize = layout::REGION_HEADER;
     while at < end {
-        let t = walk::turn(region, at);
+        let t = walk::turn_in(y, region, at);
         let Turn::Entry(e, next) = t else {
             return false;
         };
-        if walk::is_entry(region, at, e, state, name, vendor) {
+        if walk::is_entry_in(y, region, at, e, state, name, vendor) {
             return true;
         }
         at = next;
@@ -132,14 +133,14 @@ fn came_before(region: &[u8], end: usize, state: u8, name: &[u8], vendor: &[u8])
 }
 
 // Whether an entry is live and its state, name and GUID came before. They are looked for only where its sign is noted.
-fn is_doubled(region: &[u8], at: usize, e: Entry, noted: u8, sign: u8) -> bool
-    ensures { λ r. ⌜ r ≡ (isNoted noted sign && doubledIn (entryAt (now (region .entry)) at e) (upTo at (entries (now (region .entry))))) ⌝ }
+fn is_doubled(y: Layout, region: &[u8], at: usize, e: Entry, noted: u8, sign: u8) -> bool
+    ensures { λ r. ⌜ r ≡ (isNoted noted sign && doubledIn (entryAs y (now (region .entry)) at e) (upTo at (entriesIn y (now (region .entry))))) ⌝ }
 {
     if marks::is_noted(noted, sign) {
         if is_live(e.state) {
-            let name = walk::name_of(region, at, e);
-            let vendor = walk::vendor_of(region, at);
-            came_before(region, at, e.state, name, vendor)
+            let name = walk::name_of_in(y, region, at, e);
+            let vendor = walk::vendor_of_in(y, region, at);
+            came_before(y, region, at, e.state, name, vendor)
         } else {
             false
         }
@@ -149,19 +150,19 @@ fn is_doubled(region: &[u8], at: usize, e: Entry, noted: u8, sign: u8) -> bool
 }
 
 // Whether no name with its GUID has two 3F or two 3E entries. An entry whose mark is not noted is the first of its name.
-fn undoubled(region: &[u8]) -> bool
-    ensures { λ r. ⌜ r ≡ undoubled (entries (now (region .entry))) ⌝ }
+fn undoubled(y: Layout, region: &[u8]) -> bool
+    ensures { λ r. ⌜ r ≡ undoubled (entriesIn y (now (region .entry))) ⌝ }
 {
     let mut noted = marks::no_marks();
     let mut at: usize = layout::REGION_HEADER;
     loop {
-        let t = walk::turn(region, at);
+        let t = walk::turn_in(y, region, at);
         let Turn::Entry(e, next) = t else {
             return true;
         };
-        let m = marks::mark_of(&region[at..], e);
+        let m = marks::mark_of(y, &region[at..], e);
         let i = m.place;
-        if is_doubled(region, at, e, noted[i], m.sign) {
+        if is_doubled(y, region, at, e, noted[i], m.sign) {
             return false;
         }
         noted[i] = marks::note(noted[i], m.sign);
@@ -170,13 +171,13 @@ fn undoubled(region: &[u8]) -> bool
 }
 
 // Whether the region is sound and clean, and where its tail begins.
-pub fn judge(region: &[u8]) -> Judged
-    ensures { λ r. ⌜ r ≡ judgedOf (now (region .entry)) ⌝ }
+pub fn judge_in(y: Layout, region: &[u8]) -> Judged
+    ensures { λ r. ⌜ r ≡ judgedIn y (now (region .entry)) ⌝ }
 {
-    if layout::fixed::right_header(region) {
-        let s = scan(region);
+    if layout::fixed::right_header(y, region) {
+        let s = scan(y, region);
         if s.sound {
-            if undoubled(region) {
+            if undoubled(y, region) {
                 let tail = s.tail;
                 return Judged {
                     sound: true,
@@ -191,4 +192,11 @@ pub fn judge(region: &[u8]) -> Judged
         clean: false,
         tail: 0,
     }
+}
+
+// The same in the form in which calls store.
+pub fn judge(region: &[u8]) -> Judged
+    ensures { λ r. ⌜ r ≡ judgedOf (now (region .entry)) ⌝ }
+{
+    judge_in(Layout::authenticated(), region)
 }

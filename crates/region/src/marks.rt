@@ -6,6 +6,7 @@ ghost use Rattle.region.specs.Marks.{noMarks, plus, outerWords, innerWor
 use crate::Mark;
 use crate::judge;
 use layout::Entry;
+use model::Layout;
 
 // How many places names have: a prime, so that a character tells wherever it stands in its word. The compiler divides by this one without a correction.
 const PLACES: u64 = 1279;
@@ -68,11 +69,11 @@ fn weighed(key: &[u8]) -> u64
 }
 
 // The mark of the entry at the front of `s`: that of its GUID and name if it is live, else one at a place that no name has.
-pub(crate) fn mark_of(s: &[u8], e: Entry) -> Mark
-    ensures { λ r. ⌜ (r ≡ markIn (now (s .entry)) e) × (r .place < 1280) ⌝ }
+pub(crate) fn mark_of(y: Layout, s: &[u8], e: Entry) -> Mark
+    ensures { λ r. ⌜ (r ≡ markIn y (now (s .entry)) e) × (r .place < 1280) ⌝ }
 {
     if judge::is_live(e.state) {
-        let w = weighed(layout::key_of(s, e));
+        let w = weighed(layout::key_of(y, s, e));
         return Mark {
             place: (w % PLACES) as usize,
             sign: (w / PLACES % SIGNS + 1) as u8,

@@ -6,33 +6,34 @@ use native.Mathlib.Omega.{arith}
 use mathlib.Core.Path.{_≡_}
 use mathlib.Core.List.{List, _++_}
 use lib.ListN.{length}
+use Rattle.model.specs.declared.Layout.{Layout}
 use Rattle.model.specs.Lists.{part}
 use Rattle.model.specs.Image.{block, regionSize, region}
-use Rattle.model.specs.Region.{entries, values, valuesOf}
+use Rattle.model.specs.Region.{entriesIn, values, valuesIn}
 use Rattle.model.specs.Answers.{ruleNumber}
 use Rattle.model.specs.declared.Rule.{Rule}
-use Rattle.image.specs.Check.{callOf}
+use Rattle.image.specs.Check.{callIn}
 use Rattle.image.specs.declared.Check.the-variants.{Ready, Refused}
 use Rattle.image.proofs.Ready.{refused-rule, is-ready}
-use Rattle.report.specs.Varlist.{summaryLine, valueLines, refusedLine, storeText, varlistText}
+use Rattle.report.specs.Varlist.{summaryLine, valueLines, refusedLine, storeText, listText}
 
 -- a refused image
-pub refused-text : (img : List ℕ) (rule : Rule) → callOf img ≡ Refused rule → refusedLine (ruleNumber rule) ≡ varlistText img
-unfolding varlistText
-refused-text img rule p = rw (refused-rule img rule p)
+pub refused-text : (y : Layout) (img : List ℕ) (rule : Rule) → callIn y img ≡ Refused rule → refusedLine (ruleNumber rule) ≡ listText y img
+unfolding listText
+refused-text y img rule p = rw (refused-rule y img rule p)
 
 -- an accepted one
-pub record Accepted (img : List ℕ) (b t : ℕ) : Type 0 where
+pub record Accepted (y : Layout) (img : List ℕ) (b t : ℕ) : Type 0 where
   pub few : b ≤ 7
   pub cut : part 0 (4096 * b) img ≡ region img
   pub long : length (region img) ≡ 4096 * b
   pub tail-low : t ≤ 28672
-  pub text : summaryLine (length (region img)) t (length (values (entries (region img)))) ++ valueLines (values (entries (region img))) ≡ varlistText img
+  pub text : summaryLine (length (region img)) t (length (values (entriesIn y (region img)))) ++ valueLines (values (entriesIn y (region img))) ≡ listText y img
 
-pub accepted : (img : List ℕ) (b t : ℕ) → callOf img ≡ Ready b t → Accepted img b t
-unfolding varlistText storeText valuesOf regionSize block
-accepted img b t p =
-    let r = is-ready img b t p in
+pub accepted : (y : Layout) (img : List ℕ) (b t : ℕ) → callIn y img ≡ Ready b t → Accepted y img b t
+unfolding listText storeText valuesIn regionSize block
+accepted y img b t p =
+    let r = is-ready y img b t p in
     record {
       few = r .few;
       cut = r .cut;

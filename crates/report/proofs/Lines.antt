@@ -7,13 +7,15 @@ use native.Mathlib.Omega.{arith}
 use mathlib.Core.Path.{_≡_, refl, sym, ap, _∙_}
 use mathlib.Core.List.{List, [], _∷_, _++_, append-assoc, append-nil}
 use lib.ListN.{length, drop, length-take}
+use Rattle.model.specs.declared.Layout.{Layout}
+use Rattle.model.specs.Layout.{headerLength, vendorAt}
 use Rattle.model.specs.Entry.{Value, rounded}
 use Rattle.model.specs.Walk as walk
-use Rattle.model.specs.Region.{entries, values}
+use Rattle.model.specs.Region.{entriesIn, values}
 use Rattle.layout.specs.declared.Entry as numbers
-use Rattle.region.specs.Walk.{entryAt, vendorAt}
+use Rattle.region.specs.Walk.{entryAs, vendorAs}
 use Rattle.region.proofs.Entries.{vendor as vendor-part}
-use Rattle.values.proofs.Listed.{listed, listed-all}
+use Rattle.values.proofs.Listed.{listedIn, listed-all}
 use Rattle.values.proofs.Sizes.{lengths}
 use Rattle.output.specs.Text.{Wrote}
 use Rattle.output.proofs.Writing.{wrote-none, wrote-append, wrote-as}
@@ -25,48 +27,52 @@ unfolding valueLines
 lines-append [] ys = refl
 lines-append (x ∷ xs) ys = rw (append-assoc, lines-append xs ys)
 
--- the line of an entry's value, by what is read of the entry
-module _ (r : List ℕ) (a : ℕ) (e : numbers.Entry) {vendor name bytes : List ℕ}
-    (v : vendor ≡ vendorAt r a) (n : name ≡ entryAt r a e .name) (b : bytes ≡ entryAt r a e .bytes) where
-  pub entry-line : entryLine vendor name (e .attributes) (length bytes) ≡ valueLine (walk.entryValue (entryAt r a e))
-  unfolding valueLine entryAt walk.placed vendorAt
-  entry-line = rw (v, n, b)
+module _ (y : Layout) where
+  -- the line of an entry's value, by what is read of the entry
+  module _ (r : List ℕ) (a : ℕ) (e : numbers.Entry) {vendor name bytes : List ℕ}
+      (v : vendor ≡ vendorAs y r a) (n : name ≡ entryAs y r a e .name) (b : bytes ≡ entryAs y r a e .bytes) where
+    pub entry-line : entryLine vendor name (e .attributes) (length bytes) ≡ valueLine (walk.entryValue (entryAs y r a e))
+    unfolding valueLine entryAs walk.placed vendorAs
+    entry-line = rw (v, n, b)
 
-  -- and how long its parts can be
-  pub record Short : Type 0 where
-    pub vendor-short : length vendor ≤ 16
-    pub name-short : length name ≤ length r
-    pub name-same : length name ≡ length (entryAt r a e .name)
-    pub bytes-short : length bytes ≤ length r
+    -- and how long its parts can be
+    pub record Short : Type 0 where
+      pub vendor-short : length vendor ≤ 16
+      pub name-short : length name ≤ length r
+      pub name-same : length name ≡ length (entryAs y r a e .name)
+      pub bytes-short : length bytes ≤ length r
 
-  pub short : Short
-  short =
-      let l = lengths r a e in
-      let g = ap length v in
-      let k = ap length n in
-      let d = ap length b in
-      let m : length (vendorAt r a) ≤ 16 = rw (vendor-part r a, length-take 16 (drop (a + 44) r)) (min-le-left 16 (length (drop (a + 44) r))) in
-      record { vendor-short = omega arith; name-short = omega (arith, l .whole); name-same = k; bytes-short = omega (arith, l .whole) }
+    pub short : Short
+    short =
+        let l = lengths y r a e in
+        let g = ap length v in
+        let k = ap length n in
+        let d = ap length b in
+        let m : length (vendorAs y r a) ≤ 16 = rw (vendor-part y r a, length-take 16 (drop (a + vendorAt y) r))
+        (min-le-left 16 (length (drop (a + vendorAt y) r))) in
+        record { vendor-short = omega arith; name-short = omega (arith, l .whole); name-same = k; bytes-short = omega (arith, l .whole) }
 
--- the lines of the values before an offset are written, from a place of a buffer on
-pub record Written (r : List ℕ) (at : ℕ) (out out′ : List ℕ) (next here : ℕ) : Type 0 where
-  pub text : List ℕ
-  pub whole : valueLines (values (entries r)) ≡ text ++ valueLines (listed r here)
-  pub wrote : Wrote text at out out′ next
+  -- the lines of the values before an offset are written, from a place of a buffer on
+  pub record Written (r : List ℕ) (at : ℕ) (out out′ : List ℕ) (next here : ℕ) : Type 0 where
+    pub text : List ℕ
+    pub whole : valueLines (values (entriesIn y r)) ≡ text ++ valueLines (listedIn y r here)
+    pub wrote : Wrote text at out out′ next
 
-pub written-none : (r : List ℕ) (at : ℕ) (out : List ℕ) → Written r at out out at 28
-written-none r at out = record { text = []; whole = ap valueLines (listed-all r); wrote = wrote-none at out }
+  pub written-none : (r : List ℕ) (at : ℕ) (out : List ℕ) → Written r at out out at 28
+  written-none r at out = record { text = []; whole = ap valueLines (listed-all y r); wrote = wrote-none at out }
 
-pub written-line : {r : List ℕ} {at here a : ℕ} {e : numbers.Entry} {n n′ : ℕ} {l l′ l″ : List ℕ}
-    → Written r at l l′ n here → Next r here a e → Wrote (valueLine (walk.entryValue (entryAt r a e))) n l′ l″ n′
-    → Written r at l l″ n′ (a + rounded (60 + e .name + e .size))
-unfolding valueLines
-written-line {r} {a = a} {e} w x p = record {
-  text = w .text ++ valueLine (walk.entryValue (entryAt r a e));
-  whole = w .whole ∙ ap (λ (vs : List Value). w .text ++ valueLines vs) (x .list) ∙ sym (append-assoc (w .text) (valueLine (walk.entryValue (entryAt r a e))) (valueLines (listed r (a + rounded (60 + e .name + e .size)))));
-  wrote = wrote-append (w .wrote) p;
-}
+  pub written-line : {r : List ℕ} {at here a : ℕ} {e : numbers.Entry} {n n′ : ℕ} {l l′ l″ : List ℕ}
+      → Written r at l l′ n here → Next y r here a e → Wrote (valueLine (walk.entryValue (entryAs y r a e))) n l′ l″ n′
+      → Written r at l l″ n′ (a + rounded (headerLength y + e .name + e .size))
+  unfolding valueLines
+  written-line {r} {a = a} {e} w x p = record {
+    text = w .text ++ valueLine (walk.entryValue (entryAs y r a e));
+    whole = w .whole ∙ ap (λ (vs : List Value). w .text ++ valueLines vs) (x .list) ∙ sym
+        (append-assoc (w .text) (valueLine (walk.entryValue (entryAs y r a e))) (valueLines (listedIn y r (a + rounded (headerLength y + e .name + e .size)))));
+    wrote = wrote-append (w .wrote) p;
+  }
 
-pub written-all : {r : List ℕ} {at here n : ℕ} {l l′ : List ℕ} → Written r at l l′ n here → listed r here ≡ [] → Wrote (valueLines (values (entries r))) at l l′ n
-unfolding valueLines
-written-all {r} {here = here} w p = wrote-as (sym (w .whole ∙ rw (p, append-nil))) (w .wrote)
+  pub written-all : {r : List ℕ} {at here n : ℕ} {l l′ : List ℕ} → Written r at l l′ n here → listedIn y r here ≡ [] → Wrote
+      (valueLines (values (entriesIn y r))) at l l′ n
+  unfolding valueLines
+  written-all {r} {here = here} w p = wrote-as (sym (w .whole ∙ rw (p, append-nil))) (w .wrote)

@@ -1,25 +1,27 @@
--- What `varlist` prints of the paper's first case, of the empty store that it begins with, and of two refused images: all by computing.
+-- What `varlist` prints of the paper's first case, of the empty store that it begins with, and of two refused images, and what is printed of the first case in
+-- the plain form: all by computing.
 -- Assumes nothing.
 use Prim.Native.Nat.{ℕ, _*_, _-_}
 use mathlib.Core.Path.{_≡_, refl}
 use mathlib.Core.List.{List, [], _∷_, _++_}
 use lib.ListN.{replicate}
 use Rattle.model.specs.Lists.{same, allFF}
-use Rattle.model.specs.Image.{block, blocks, rightLength, regionSize, region, work, spare, signature, regionHeader}
+use Rattle.model.specs.Layout.{plain, signature, plainSignature}
+use Rattle.model.specs.Image.{block, blocks, rightLength, regionSize, region, work, spare, regionHeader, regionHeaderIn}
 use Rattle.model.specs.Name.{zeroEnded, wellNamed}
-use Rattle.model.specs.Entry.{headerFields, readHeader, headerFront, headerRest}
+use Rattle.model.specs.Entry.{headerFront, extraBytes, headerFieldsIn, headerRestIn, readHeaderIn}
 use Rattle.model.specs.Walk.{placed, walk, walkEnd}
-use Rattle.model.specs.Region.{entries, tailAt, tail, rightHeader, rightLive, undoubled, sound, clean, added, replacing, standing, isValue, values, valuesOf, find}
-use Rattle.model.specs.Work.{records, usedFirst, spareLast, wellFormed, lastUsed, endsInFC, idle, readyForCall}
+use Rattle.model.specs.Region.{rightLive, undoubled, added, replacing, standing, isValue, values, find, cleanIn, entriesIn, rightHeaderIn, soundIn, tailAtIn, tailIn, valuesIn}
+use Rattle.model.specs.Work.{records, usedFirst, spareLast, wellFormed, lastUsed, endsInFC, idle, readyIn}
 use Rattle.model.specs.Session.{inBoot, atRuntime, customMode, reserved, lockAt, locked, noLocks, noSizes, kept, freshSession}
 use Rattle.model.specs.Request.{Request, globalVendor, databaseVendor, keyPK, keyKEK, keydb, keydbx, keydbt, isDatabase, isKeyName, userMode, keyVerdicts, otherVerdicts, wantedVerdicts, rightDescriptor, dataProper, stampToStore, later}
-use Rattle.model.specs.Change.{deletes, emptyAppend, equalTo, newData, laterOf, newStamp, newValue, changeOf, without, step, changeIn, entrySizes, spaceOf}
-use Rattle.model.specs.Rules.{firstBroken, rule1, rule2, rule3, rule4, rule5, rule6, rule7Over, rule7, rule8, verdictWanted, rule9, rule10, removesAbsent, rule11, rule12, rule13, imageRules, requestRules, standingRules, resultRules, roomRules, setBroken}
+use Rattle.model.specs.Change.{deletes, emptyAppend, equalTo, newData, laterOf, newStamp, newValue, changeOf, without, step, changeIn, entrySizesIn, spaceIn}
+use Rattle.model.specs.Rules.{firstBroken, rule1, rule3, rule4, rule5, rule6, rule7Over, rule7, rule8, verdictWanted, rule9, rule10, removesAbsent, rule11, rule12, rule13, requestRules, standingRules, resultRules, roomRules, setBroken, imageRulesIn, rule2In}
 use Rattle.model.specs.Stores.{apply, applyAll, after, run}
 use Rattle.model.specs.Set.{leftover, entryStores, tailTo, tailOn, fitsTail, putPlan, changePlan, setPlan}
 use Rattle.model.specs.Answers.{storesOf, imageAfter}
 use Rattle.output.specs.Text.{ascii, digit, hexOf, leading, decimalOf}
-use Rattle.report.specs.Varlist.{field, summaryLine, keyText, entryLine, valueLine, valueLines, refusedLine, storeText, varlistText}
+use Rattle.report.specs.Varlist.{field, summaryLine, keyText, entryLine, valueLine, valueLines, refusedLine, storeText, varlistText, listText}
 
 -- an empty store, b = 1
 unfoldable pub emptyStore : List ℕ
@@ -41,18 +43,44 @@ unfoldable pub rateStore : List ℕ
 rateStore = imageAfter 75 (setPlan (freshSession (record { custom = 0; reserve = 0 })) setRate emptyStore) emptyStore
 
 empty-text : varlistText emptyStore ≡ ascii "region 4096 used 28 live 0\n"
-unfolding same allFF block blocks rightLength regionSize region work spare signature regionHeader zeroEnded wellNamed headerFields readHeader placed walk walkEnd entries tailAt tail rightHeader rightLive undoubled sound clean isValue values valuesOf records usedFirst spareLast wellFormed lastUsed endsInFC idle readyForCall firstBroken rule1 rule2 imageRules ascii digit hexOf leading decimalOf field summaryLine keyText entryLine valueLine valueLines refusedLine storeText varlistText emptyStore
+unfolding same allFF block blocks rightLength regionSize region work spare signature regionHeaderIn zeroEnded wellNamed headerFieldsIn readHeaderIn placed walk walkEnd entriesIn tailAtIn tailIn rightHeaderIn rightLive undoubled soundIn cleanIn isValue values valuesIn records usedFirst spareLast wellFormed lastUsed endsInFC idle readyIn firstBroken rule1 rule2In imageRulesIn ascii digit hexOf leading decimalOf field summaryLine keyText entryLine valueLine valueLines refusedLine storeText listText emptyStore
 empty-text = refl
 
 rate-text : varlistText rateStore ≡ ascii "region 4096 used 104 live 1\n0102030405060708090A0B0C0D0E0F10 52004100540045000000 07 4\n"
-unfolding same allFF block blocks rightLength regionSize region work spare signature regionHeader zeroEnded wellNamed headerFields readHeader headerFront headerRest placed walk walkEnd entries tailAt tail rightHeader rightLive undoubled sound clean added replacing standing isValue values valuesOf find records usedFirst spareLast wellFormed lastUsed endsInFC idle readyForCall inBoot atRuntime customMode reserved lockAt locked noLocks noSizes kept freshSession globalVendor databaseVendor keyPK keyKEK keydb keydbx keydbt isDatabase isKeyName userMode keyVerdicts otherVerdicts wantedVerdicts rightDescriptor dataProper stampToStore later deletes emptyAppend equalTo newData laterOf newStamp newValue changeOf without step changeIn entrySizes spaceOf firstBroken rule1 rule2 rule3 rule4 rule5 rule6 rule7Over rule7 rule8 verdictWanted rule9 rule10 removesAbsent rule11 rule12 rule13 imageRules requestRules standingRules resultRules roomRules setBroken apply applyAll after run leftover entryStores tailTo tailOn fitsTail putPlan changePlan setPlan storesOf imageAfter emptyStore setRate ascii digit hexOf leading decimalOf field summaryLine keyText entryLine valueLine valueLines refusedLine storeText varlistText rateStore
+unfolding same allFF block blocks rightLength regionSize region work spare signature regionHeaderIn zeroEnded wellNamed headerFieldsIn readHeaderIn headerFront headerRestIn extraBytes placed walk walkEnd entriesIn tailAtIn tailIn rightHeaderIn rightLive undoubled soundIn cleanIn added replacing standing isValue values valuesIn find records usedFirst spareLast wellFormed lastUsed endsInFC idle readyIn inBoot atRuntime customMode reserved lockAt locked noLocks noSizes kept freshSession globalVendor databaseVendor keyPK keyKEK keydb keydbx keydbt isDatabase isKeyName userMode keyVerdicts otherVerdicts wantedVerdicts rightDescriptor dataProper stampToStore later deletes emptyAppend equalTo newData laterOf newStamp newValue changeOf without step changeIn entrySizesIn spaceIn firstBroken rule1 rule2In rule3 rule4 rule5 rule6 rule7Over rule7 rule8 verdictWanted rule9 rule10 removesAbsent rule11 rule12 rule13 imageRulesIn requestRules standingRules resultRules roomRules setBroken apply applyAll after run leftover entryStores tailTo tailOn fitsTail putPlan changePlan setPlan storesOf imageAfter emptyStore setRate ascii digit hexOf leading decimalOf field summaryLine keyText entryLine valueLine valueLines refusedLine storeText listText rateStore
 rate-text = refl
 
 none-text : varlistText [] ≡ ascii "refused 1\n"
-unfolding block blocks rightLength firstBroken rule1 imageRules ascii digit leading decimalOf field refusedLine varlistText
+unfolding block blocks rightLength firstBroken rule1 imageRulesIn ascii digit leading decimalOf field refusedLine listText
 none-text = refl
 
 -- no region header
 blank-text : varlistText (replicate (3 * 4096) 0xFF) ≡ ascii "refused 2\n"
-unfolding same allFF block blocks rightLength regionSize region work spare signature regionHeader rightHeader sound clean readyForCall firstBroken rule1 rule2 imageRules ascii digit leading decimalOf field refusedLine varlistText
+unfolding same allFF block blocks rightLength regionSize region work spare signature regionHeaderIn rightHeaderIn soundIn cleanIn readyIn firstBroken rule1 rule2In imageRulesIn ascii digit leading decimalOf field refusedLine listText
 blank-text = refl
+
+-- ---- the plain form
+
+-- the same value there: its entry has 28 bytes less, 28 to 76 with padding
+unfoldable pub plainStore : List ℕ
+plainStore =
+    regionHeaderIn plain 4096
+    ++ (0xAA ∷ 0x55 ∷ 0x3F ∷ 0 ∷ 0x07 ∷ 0 ∷ 0 ∷ 0 ∷ 0x0A ∷ 0 ∷ 0 ∷ 0 ∷ 0x04 ∷ 0 ∷ 0 ∷ 0 ∷ [])
+    ++ setRate .vendor
+    ++ setRate .name
+    ++ setRate .bytes
+    ++ replicate (3 * 4096 - 74) 0xFF
+
+plain-text : listText plain plainStore ≡ ascii "region 4096 used 76 live 1\n0102030405060708090A0B0C0D0E0F10 52004100540045000000 07 4\n"
+unfolding same allFF block blocks rightLength regionSize region work spare signature plainSignature regionHeaderIn zeroEnded wellNamed headerFieldsIn readHeaderIn placed walk walkEnd entriesIn tailAtIn tailIn rightHeaderIn rightLive undoubled soundIn cleanIn isValue values valuesIn records usedFirst spareLast wellFormed lastUsed endsInFC idle readyIn firstBroken rule1 rule2In imageRulesIn ascii digit hexOf leading decimalOf field summaryLine keyText entryLine valueLine valueLines refusedLine storeText listText setRate plainStore
+plain-text = refl
+
+-- `varlist` refuses it
+plain-refused : varlistText plainStore ≡ ascii "refused 2\n"
+unfolding same allFF block blocks rightLength regionSize region work spare signature plainSignature regionHeaderIn rightHeaderIn soundIn cleanIn readyIn firstBroken rule1 rule2In imageRulesIn ascii digit leading decimalOf field refusedLine listText setRate plainStore
+plain-refused = refl
+
+-- and `plainlist` a store of the authenticated form
+authenticated-refused : listText plain emptyStore ≡ ascii "refused 2\n"
+unfolding same allFF block blocks rightLength regionSize region work spare signature plainSignature regionHeaderIn rightHeaderIn soundIn cleanIn readyIn firstBroken rule1 rule2In imageRulesIn ascii digit leading decimalOf field refusedLine listText emptyStore
+authenticated-refused = refl

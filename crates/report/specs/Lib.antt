@@ -1,2 +1,2 @@
--- What `varlist` prints.
+-- What `varlist` and `plainlist` print.
 pub mod Varlist

@@ -1,12 +1,14 @@
--- 01, "Values to try": what the program `varlist` prints of an image.
+-- 01, "Values to try": what the program `varlist` prints of an image; and `plainlist`, in the same form of text, of one in the plain form of 02 (d).
 use Prim.Native.Nat.{ℕ, _%_}
 use mathlib.Core.List.{List, [], _∷_, _++_}
 use lib.ListN.{length}
+use Rattle.model.specs.declared.Layout.{Layout}
+use Rattle.model.specs.Layout.{authenticated}
 use Rattle.model.specs.Lists.{onSome}
 use Rattle.model.specs.Image.{regionSize, region}
 use Rattle.model.specs.Entry.{Value}
-use Rattle.model.specs.Region.{tailAt, valuesOf}
-use Rattle.model.specs.Rules.{firstBroken, imageRules}
+use Rattle.model.specs.Region.{tailAtIn, valuesIn}
+use Rattle.model.specs.Rules.{firstBroken, imageRulesIn}
 use Rattle.model.specs.Answers.{ruleNumber}
 use Rattle.output.specs.Text.{ascii, hexOf, decimalOf}
 
@@ -40,10 +42,14 @@ unfoldable pub refusedLine : ℕ → List ℕ
 refusedLine n = field (ascii "refused ") n ++ ascii "\n"
 
 -- a store that is accepted: the summary, then a line for each value in flash order
-unfoldable pub storeText : List ℕ → List ℕ
-storeText img =
-    summaryLine (regionSize img) (tailAt (region img)) (length (valuesOf img)) ++ valueLines (valuesOf img)
+unfoldable pub storeText : Layout → List ℕ → List ℕ
+storeText y img =
+    summaryLine (regionSize img) (tailAtIn y (region img)) (length (valuesIn y img)) ++ valueLines (valuesIn y img)
 
--- "checks it as a call does (rules 1 and 2)"
-unfoldable pub varlistText : List ℕ → List ℕ
-varlistText img = onSome (firstBroken (imageRules img)) (λ rule. refusedLine (ruleNumber rule)) (storeText img)
+-- "checks it as a call does (rules 1 and 2)", in a stored form
+unfoldable pub listText : Layout → List ℕ → List ℕ
+listText y img = onSome (firstBroken (imageRulesIn y img)) (λ rule. refusedLine (ruleNumber rule)) (storeText y img)
+
+-- `varlist`: in the form in which calls store
+abbrev pub varlistText : List ℕ → List ℕ
+varlistText = listText authenticated

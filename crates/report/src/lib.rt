@@ -1,15 +1,16 @@
-// The report that `varlist` prints, written into a lent buffer.
+// The reports that `varlist` and `plainlist` print, written into a lent buffer.
 ghost use mathlib.Core.Path.{_≡_};
 ghost use Prim.Native.Nat.{_+_, _*_, _%_, _^_, _<_, _≤_};
 ghost use mathlib.Core.List.{_++_};
 ghost use lib.ListN.{length};
 ghost use Rattle.model.specs.Walk.{entryValue};
-ghost use Rattle.model.specs.Region.{entries, values};
-ghost use Rattle.region.specs.Walk.{entryAt};
+ghost use Rattle.model.specs.Region.{entriesIn, values};
+ghost use Rattle.region.specs.Walk.{entryAs};
 ghost use Rattle.output.specs.Text.{Wrote};
-ghost use Rattle.report.specs.Varlist.{field, summaryLine, keyText, entryLine, valueLine, valueLines, refusedLine, varlistText};
+ghost use Rattle.report.specs.Varlist.{field, summaryLine, keyText, entryLine, valueLine, valueLines, refusedLine, listText, varlistText};
 use image::Check;
 use layout::Entry;
+use model::Layout;
 use region::walk;
 use values::Found;
 use values::list;
@@ -82,54 +83,61 @@ fn put_value(
 }
 
 // The line of the value that an entry holds.
-fn put_entry(out: &mut [u8], at: usize, region: &[u8], place: usize, e: Entry) -> usize
+fn put_entry(y: Layout, out: &mut [u8], at: usize, region: &[u8], place: usize, e: Entry) -> usize
     requires { ⌜ (at < 2 ^ 40) × (length (now region) ≤ 28672) ⌝ }
-    ensures { λ r. ⌜ Wrote (valueLine (entryValue (entryAt (now (region .entry)) place e))) at (now (out .entry)) (now (out .exit)) r
-        × (r ≤ at + 48 + 2 * length (entryAt (now (region .entry)) place e .name)) ⌝ }
+    ensures { λ r. ⌜ Wrote (valueLine (entryValue (entryAs y (now (region .entry)) place e))) at (now (out .entry)) (now (out .exit)) r
+        × (r ≤ at + 48 + 2 * length (entryAs y (now (region .entry)) place e .name)) ⌝ }
 {
-    let vendor = walk::vendor_of(region, place);
-    let name = walk::name_of(region, place, e);
-    let data = walk::data_of(region, place, e);
+    let vendor = walk::vendor_of_in(y, region, place);
+    let name = walk::name_of_in(y, region, place, e);
+    let data = walk::data_of_in(y, region, place, e);
     put_value(out, at, vendor, name, e.attributes, data.len() as u32)
 }
 
 // A line for each value in flash order.
-fn put_lines(region: &[u8], out: &mut [u8], at: usize) -> usize
+fn put_lines(y: Layout, region: &[u8], out: &mut [u8], at: usize) -> usize
     requires { ⌜ (at < 2 ^ 32) × (length (now region) ≤ 28672) ⌝ }
-    ensures { λ r. ⌜ Wrote (valueLines (values (entries (now (region .entry))))) at (now (out .entry)) (now (out .exit)) r ⌝ }
+    ensures { λ r. ⌜ Wrote (valueLines (values (entriesIn y (now (region .entry))))) at (now (out .entry)) (now (out .exit)) r ⌝ }
 {
     let mut next = at;
     let mut here: usize = layout::REGION_HEADER;
     loop {
-        let f = list::next_value(region, here);
+        let f = list::next_value_in(y, region, here);
         let Found::At(place, e) = f else {
             return next;
         };
-        next = put_entry(out, next, region, place, e);
-        here = list::behind(place, e);
+        next = put_entry(y, out, next, region, place, e);
+        here = list::behind_in(y, place, e);
     }
 }
 
 // The report on an accepted store: the summary, then the values.
-fn put_store(region: &[u8], tail: usize, out: &mut [u8]) -> usize
+fn put_store(y: Layout, region: &[u8], tail: usize, out: &mut [u8]) -> usize
     requires { ⌜ (tail ≤ 28672) × (length (now region) ≤ 28672) ⌝ }
     ensures { λ r.
         ⌜ Wrote
-        (summaryLine (length (now (region .entry))) tail (length (values (entries (now (region .entry))))) ++ valueLines
-        (values (entries (now (region .entry))))) 0 (now (out .entry)) (now (out .exit)) r ⌝ }
+        (summaryLine (length (now (region .entry))) tail (length (values (entriesIn y (now (region .entry))))) ++ valueLines
+        (values (entriesIn y (now (region .entry))))) 0 (now (out .entry)) (now (out .exit)) r ⌝ }
 {
-    let live = list::count(region);
+    let live = list::count_in(y, region);
     let next = put_summary(out, 0, region.len() as u32, tail as u32, live as u32);
-    put_lines(region, out, next)
+    put_lines(y, region, out, next)
 }
 
-// What `varlist` prints of an image, checked as a call checks it.
+// What is printed of an image in a stored form, checked in it as a call checks: `plainlist` prints this of the plain form.
+pub fn report_in(y: Layout, image: &[u8], out: &mut [u8]) -> usize
+    ensures { λ r. ⌜ Wrote (listText y (now (image .entry))) 0 (now (out .entry)) (now (out .exit)) r ⌝ }
+{
+    let c = image::check_in(y, image);
+    match c {
+        Check::Ready(b, tail) => put_store(y, slices::cut(image, 0, layout::BLOCK * b), tail, out),
+        Check::Refused(rule) => put_refused(out, 0, model::number(rule)),
+    }
+}
+
+// What `varlist` prints: the same in the form in which calls store.
 pub fn report(image: &[u8], out: &mut [u8]) -> usize
     ensures { λ r. ⌜ Wrote (varlistText (now (image .entry))) 0 (now (out .entry)) (now (out .exit)) r ⌝ }
 {
-    let c = image::check_call(image);
-    match c {
-        Check::Ready(b, tail) => put_store(slices::cut(image, 0, layout::BLOCK * b), tail, out),
-        Check::Refused(rule) => put_refused(out, 0, model::number(rule)),
-    }
+    report_in(Layout::authenticated(), image, out)
 }

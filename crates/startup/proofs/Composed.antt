@@ -7,11 +7,12 @@ use mathlib.Core.Path.{_≡_, sym, ap, _∙_}
 use mathlib.Core.Bool.{true}
 use mathlib.Core.List.{List, [], _++_}
 use lib.ListN.{length, take, replicate, length-append, length-replicate}
+use Rattle.model.specs.Layout.{authenticated}
 use Rattle.model.specs.Lists.{part}
 use Rattle.model.specs.Name.{keyed}
 use Rattle.model.specs.Image.{block, regionHeader, region}
 use Rattle.model.specs.Entry.{Value}
-use Rattle.model.specs.Region.{entries, values, valuesOf, sound}
+use Rattle.model.specs.Region.{entries, values, valuesOf, sound, valuesIn}
 use Rattle.model.specs.Change.{without}
 use Rattle.model.specs.Compact.{joined, encode}
 use Rattle.model.proofs.Chunks.{Chunked, region-chunked}
@@ -27,23 +28,23 @@ abbrev pub content : List ℕ → ℕ → List ℕ
 content img b = regionHeader (block * b) ++ joined (valuesOf img)
 
 module _ (img : List ℕ) (b : ℕ) (low : 1 ≤ b) (high : b ≤ 7) (long : length img ≡ block * (2 * b + 1)) (sounds : sound (region img) ≡ true) where
-  chunked : Chunked (region img)
-  chunked = region-chunked b (region-long img b low high long) sounds
+  chunked : Chunked authenticated (region img)
+  chunked = region-chunked authenticated b (region-long img b low high long) sounds
 
-  valid : AllValid (valuesOf img)
-  unfolding valuesOf
-  valid = sound-valid (region img) chunked
+  valid : AllValid authenticated (valuesOf img)
+  unfolding valuesIn
+  valid = sound-valid authenticated (region img) chunked
 
   content-fits : length (content img b) ≤ block * b
-  unfolding valuesOf
+  unfolding valuesIn
   content-fits =
       let n = content-length (block * b) (valuesOf img) valid in
       let m = region-long img b low high long in
-      omega (arith, sound-fits (region img) chunked)
+      omega (arith, sound-fits authenticated (region img) chunked)
 
   all-carried : {s : List ℕ} → s ≡ part 0 (block * b) img
       → regionHeader (length s) ++ joined (without (keyed [] []) (values (entries s))) ≡ content img b
-  unfolding valuesOf
+  unfolding valuesIn
   all-carried {s} e =
       ap (λ (x : List ℕ). regionHeader (length x) ++ joined (without (keyed [] []) (values (entries x)))) (e ∙ its-region img b low high long)
       ∙ ap (λ (k : ℕ). regionHeader k ++ joined (without (keyed [] []) (values (entries (region img))))) (region-long img b low high long)
@@ -64,7 +65,7 @@ module _ (img : List ℕ) (b : ℕ) (low : 1 ≤ b) (high : b ≤ 7) (long : len
 
     -- what is composed
     pub composed : {c : List ℕ} {m : ℕ} → Wrote (replicate (4096 * b - n) 0xFF) n l₁ c m → part 0 (block * b) c ≡ encode (block * b) (values (entries (region img)))
-    unfolding block valuesOf
+    unfolding block valuesIn
     composed {c} {m} x =
         let h = pad-asked in
         let at : n ≡ length (content img b) = omega (arith, front .place) in

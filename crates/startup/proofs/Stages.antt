@@ -10,7 +10,7 @@ use lib.ListN.{length, drop, length-drop}
 use lib.Seq.{length-take-le, take-all}
 use Rattle.model.specs.Lists.{part, allFF}
 use Rattle.model.specs.Image.{block, blocks, regionSize, region, work, spare}
-use Rattle.model.specs.Region.{tail, tailAt, clean}
+use Rattle.model.specs.Region.{tail, tailAt, clean, tailIn}
 use Rattle.model.specs.Work.{wellFormed, usedRecords, endsInFC, idle, pending}
 use Rattle.model.specs.Compact.{finish}
 use Rattle.model.specs.StartUp.{resume}
@@ -103,7 +103,7 @@ module _ (img : List ℕ) (b : ℕ) (low : 1 ≤ b) (high : b ≤ 7) (long : len
 
   -- the tail as it is cut
   pub tail-cut : {s t : List ℕ} {n : ℕ} → s ≡ part 0 (block * b) img → n ≡ tailAt s → t ≡ part n (block * b) s → allFF t ≡ allFF (tail (region img))
-  unfolding tail
+  unfolding tailIn
   tail-cut {s} {t} {n} e f g =
       let r : s ≡ region img = e ∙ its-region in
       let short : length s ≡ block * b = ap length r ∙ region-long in

@@ -19,7 +19,7 @@ use Rattle.model.specs.Rules.{startUpBroken}
 use Rattle.model.specs.Set.{Plan, refuse, make}
 use Rattle.model.specs.StartUp.{resume, tidySpare, tidyWork, tidyTail, andThen, startUpStores, startUpPlan}
 use Rattle.model.specs.Answers.{done, outcome, imageAfter, storesOf, decided}
-use Rattle.model.specs.Book.{Call, startUp, planOf, Sized, bookAfter, Run, begin, ran, cut, StartedUp, Demand3}
+use Rattle.model.specs.Book.{Call, startUp, planOf, Sized, bookAfter, Run, begin, ran, cut, StartedUp, started, Demand3}
 use Rattle.model.proofs.Stores.{after-all, after-append}
 use Rattle.table.proofs.Pieces.{Piece, flat, laidAll, allInside, flat-laid}
 use Rattle.table.proofs.Row.{plain, ff, zeros, header, image, guid, rateEntry, behindState, startId, setting}
@@ -79,8 +79,8 @@ pub lost : {start img : List ℕ}
     → (valuesOf left ≡ book → ⊥)
     → Demand3
     → ⊥
-lost started run n stores finished left same other demand =
-    other (ap valuesOf (sym same) ∙ demand _ _ _ started (ran run (startUp plain) tt n) .1 stores finished)
+lost up run n stores finished left same other demand =
+    other (ap valuesOf (sym same) ∙ demand _ _ _ (started up) (ran run (startUp plain) tt n) .1 stores finished)
 
 -- what follows a resumption is judged on the image that it leaves, found by laying its pieces over the image before
 pub resumption : (img : List ℕ) (ps : List Piece)
@@ -109,10 +109,10 @@ pub lost-laid : {start img : List ℕ}
     → Demand3
     → ⊥
 unfolding outcome imageAfter storesOf
-lost-laid {img = img} started run ps plan inside other =
+lost-laid {img = img} up run ps plan inside other =
     let n = length (flat ps ++ []) in
     lost
-    started
+    up
     run
     n
     n

@@ -8,15 +8,17 @@ use mathlib.Core.Bool.{Bool, true, false, not, cond, _||_}
 use mathlib.Core.List.{List, [], _∷_, map}
 use mathlib.Core.Option.{some}
 use borrow.Author.Tests.{eq-eqb, ne-eqb}
+use Rattle.model.specs.declared.Layout.{Layout}
+use Rattle.model.specs.Layout.{authenticated}
 use Rattle.model.specs.Lists.{any, keep, first}
+use Rattle.model.specs.Region.{entriesIn, isEntry, isValue, values}
 use Rattle.model.specs.Name.{keyed}
 use Rattle.model.specs.Entry.{Value}
 use Rattle.model.specs.Walk as walk
-use Rattle.model.specs.Region.{entries, isEntry, isValue, values}
 use Rattle.model.proofs.Walking.{entries-from}
-use Rattle.model.specs.Beside.{from}
+use Rattle.model.specs.Beside.{fromIn}
 use Rattle.layout.specs.declared.Entry as numbers
-use Rattle.region.specs.Walk.{entryAt, vendorAt}
+use Rattle.region.specs.Walk.{entryAs, vendorAs}
 use Rattle.region.proofs.Turns.{Turned}
 use Rattle.values.specs.Found.{foundOf}
 use Rattle.values.specs.declared.Found.{Found}
@@ -34,39 +36,44 @@ any-found f (e ∷ es) = go (f e) (any-found f es)
     go true i = refl
     go false i = i
 
-module _ (r : List ℕ) (at : ℕ) (e : numbers.Entry) where
-  pub value-added : e .state ≡ 0x3F → isValue (entries r) (entryAt r at e) ≡ true
-  unfolding isValue entryAt walk.placed
-  value-added h = rw (eq-eqb (e .state) 0x3F h)
-
-  pub value-other : e .state ≢ 0x3F → e .state ≢ 0x3E → isValue (entries r) (entryAt r at e) ≡ false
-  unfolding isValue entryAt walk.placed
-  value-other h k = rw (ne-eqb (e .state) 0x3F h, ne-eqb (e .state) 0x3E k)
-
-  pub value-replacing : e .state ≢ 0x3F → e .state ≡ 0x3E
-      → isValue (entries r) (entryAt r at e) ≡ not (isFound (foundOf (first (isEntry 0x3F (keyed (entryAt r at e .name) (vendorAt r at))) (from r 28))))
-  unfolding isValue entryAt walk.placed vendorAt
-  value-replacing h k =
-      rw (ne-eqb (e .state) 0x3F h, eq-eqb (e .state) 0x3E k, entries-from r)
-      (ap not (any-found (isEntry 0x3F (keyed (entryAt r at e .name) (vendorAt r at))) (from r 28)))
-
 -- the values from an offset on
-unfoldable pub listed : List ℕ → ℕ → List Value
-listed r at = map walk.entryValue (keep (isValue (entries r)) (from r at))
+unfoldable pub listedIn : Layout → List ℕ → ℕ → List Value
+listedIn y r at = map walk.entryValue (keep (isValue (entriesIn y r)) (fromIn y r at))
 
-pub listed-all : (r : List ℕ) → values (entries r) ≡ listed r 28
-unfolding values listed entries from
-listed-all r = refl
+abbrev pub listed : List ℕ → ℕ → List Value
+listed = listedIn authenticated
 
-pub listed-none : (r : List ℕ) (at : ℕ) → from r at ≡ [] → listed r at ≡ []
-unfolding listed
-listed-none r at p = ap (λ (es : List walk.Entry). map walk.entryValue (keep (isValue (entries r)) es)) p
+module _ (y : Layout) where
+  module _ (r : List ℕ) (at : ℕ) (e : numbers.Entry) where
+    pub value-added : e .state ≡ 0x3F → isValue (entriesIn y r) (entryAs y r at e) ≡ true
+    unfolding isValue entryAs walk.placed
+    value-added h = rw (eq-eqb (e .state) 0x3F h)
 
-module _ (r : List ℕ) (at : ℕ) (e : numbers.Entry) (k : ℕ) (w : Turned r at e k) where
-  pub listed-value : isValue (entries r) (entryAt r at e) ≡ true → listed r at ≡ walk.entryValue (entryAt r at e) ∷ listed r k
-  unfolding listed
-  listed-value h = ap (λ (es : List walk.Entry). map walk.entryValue (keep (isValue (entries r)) es)) (w .walk) ∙ rw h
+    pub value-other : e .state ≢ 0x3F → e .state ≢ 0x3E → isValue (entriesIn y r) (entryAs y r at e) ≡ false
+    unfolding isValue entryAs walk.placed
+    value-other h k = rw (ne-eqb (e .state) 0x3F h, ne-eqb (e .state) 0x3E k)
 
-  pub listed-next : isValue (entries r) (entryAt r at e) ≡ false → listed r at ≡ listed r k
-  unfolding listed
-  listed-next h = ap (λ (es : List walk.Entry). map walk.entryValue (keep (isValue (entries r)) es)) (w .walk) ∙ rw h
+    pub value-replacing : e .state ≢ 0x3F → e .state ≡ 0x3E
+        → isValue (entriesIn y r) (entryAs y r at e) ≡ not (isFound (foundOf (first (isEntry 0x3F (keyed (entryAs y r at e .name) (vendorAs y r at)))
+        (fromIn y r 28))))
+    unfolding isValue entryAs walk.placed vendorAs
+    value-replacing h k =
+        rw (ne-eqb (e .state) 0x3F h, eq-eqb (e .state) 0x3E k, entries-from y r)
+        (ap not (any-found (isEntry 0x3F (keyed (entryAs y r at e .name) (vendorAs y r at))) (fromIn y r 28)))
+
+  pub listed-all : (r : List ℕ) → values (entriesIn y r) ≡ listedIn y r 28
+  unfolding values listedIn entriesIn fromIn
+  listed-all r = refl
+
+  pub listed-none : (r : List ℕ) (at : ℕ) → fromIn y r at ≡ [] → listedIn y r at ≡ []
+  unfolding listedIn
+  listed-none r at p = ap (λ (es : List walk.Entry). map walk.entryValue (keep (isValue (entriesIn y r)) es)) p
+
+  module _ (r : List ℕ) (at : ℕ) (e : numbers.Entry) (k : ℕ) (w : Turned y r at e k) where
+    pub listed-value : isValue (entriesIn y r) (entryAs y r at e) ≡ true → listedIn y r at ≡ walk.entryValue (entryAs y r at e) ∷ listedIn y r k
+    unfolding listedIn
+    listed-value h = ap (λ (es : List walk.Entry). map walk.entryValue (keep (isValue (entriesIn y r)) es)) (w .walk) ∙ rw h
+
+    pub listed-next : isValue (entriesIn y r) (entryAs y r at e) ≡ false → listedIn y r at ≡ listedIn y r k
+    unfolding listedIn
+    listed-next h = ap (λ (es : List walk.Entry). map walk.entryValue (keep (isValue (entriesIn y r)) es)) (w .walk) ∙ rw h

@@ -13,66 +13,69 @@ use lib.ListN.{length, take, drop, length-take, length-drop}
 use lib.Seq.{drop-drop}
 use lib.Dec.{eqb}
 use borrow.Author.Tests.{eq-eqb, ne-eqb, eqb-true, eqb-false}
+use Rattle.model.specs.declared.Layout.{Layout}
+use Rattle.model.specs.Layout.{headerLength}
 use Rattle.model.specs.Lists.{part}
-use Rattle.model.specs.Entry.{entrySize}
+use Rattle.model.specs.Change.{entrySizesIn}
+use Rattle.model.specs.Entry.{entrySizeIn}
 use Rattle.model.specs.Walk as walk
-use Rattle.model.specs.Region.{entries, isValue}
-use Rattle.model.specs.Change.{entrySizes}
+use Rattle.model.specs.Region.{entriesIn, isValue}
 use Rattle.layout.specs.declared.Entry as numbers
-use Rattle.region.specs.Walk.{strideOf, entryAt}
+use Rattle.region.specs.Walk.{entryAs, strideIn}
 use Rattle.region.proofs.Turns.{Turned}
 use Rattle.region.proofs.Entries.{unnamed, named}
-use Rattle.values.proofs.Listed.{listed, listed-value}
+use Rattle.values.proofs.Listed.{listedIn, listed-value}
 
 part-fits : (r : List ℕ) (i n : ℕ) → (length (part i n r) ≤ n) × (length (part i n r) ≤ length r - i)
 part-fits r i n =
     rw (length-take n (drop i r), length-drop i r) (min-le-left n (length r - i), min-le-right n (length r - i))
 
-module _ (r : List ℕ) (at : ℕ) (e : numbers.Entry) where
-  pub no-data : e .state ≡ 0xFF → entryAt r at e .bytes ≡ []
-  unfolding entryAt walk.placed
-  no-data h = rw (eq-eqb (e .state) 0xFF h)
+module _ (y : Layout) where
+  module _ (r : List ℕ) (at : ℕ) (e : numbers.Entry) where
+    pub no-data : e .state ≡ 0xFF → entryAs y r at e .bytes ≡ []
+    unfolding entryAs walk.placed
+    no-data h = rw (eq-eqb (e .state) 0xFF h)
 
-  pub data-part : e .state ≢ 0xFF → entryAt r at e .bytes ≡ part (at + 60 + e .name) (e .size) r
-  unfolding entryAt walk.placed
-  data-part h =
-      let place : at + (60 + e .name) ≡ at + 60 + e .name = omega arith in
-      rw (ne-eqb (e .state) 0xFF h) (ap (take (e .size)) (drop-drop (60 + e .name) at r ∙ ap (λ (i : ℕ). drop i r) place))
+    pub data-part : e .state ≢ 0xFF → entryAs y r at e .bytes ≡ part (at + headerLength y + e .name) (e .size) r
+    unfolding entryAs walk.placed
+    data-part h =
+        let place : at + (headerLength y + e .name) ≡ at + headerLength y + e .name = omega arith in
+        rw (ne-eqb (e .state) 0xFF h) (ap (take (e .size)) (drop-drop (headerLength y + e .name) at r ∙ ap (λ (i : ℕ). drop i r) place))
 
-  -- the two lengths, by what the region has left, and the size of the value's entry by the entry's
-  pub record Lengths : Type 0 where
-    pub whole : length (entryAt r at e .name) + length (entryAt r at e .bytes) ≤ length r - (at + 60)
-    pub stride : entrySize (walk.entryValue (entryAt r at e)) ≤ strideOf e
+    -- the two lengths, by what the region has left, and the size of the value's entry by the entry's
+    pub record Lengths : Type 0 where
+      pub whole : length (entryAs y r at e .name) + length (entryAs y r at e .bytes) ≤ length r - (at + headerLength y)
+      pub stride : entrySizeIn y (walk.entryValue (entryAs y r at e)) ≤ strideIn y e
 
-  pub lengths : Lengths
-  lengths = go (eqb (e .state) 0xFF) refl
-    where
-      go : (t : Bool) → eqb (e .state) 0xFF ≡ t → Lengths
-      go true h =
-          let s = eqb-true (e .state) 0xFF h in
-          let n = ap length (unnamed r at e s) in
-          let d = ap length (no-data s) in
-          record { whole = omega arith; stride = rw h (omega arith) }
-      go false h =
-          let s = eqb-false (e .state) 0xFF h in
-          let n = ap length (named r at e s) in
-          let d = ap length (data-part s) in
-          let a = part-fits r (at + 60) (e .name) in
-          let b = part-fits r (at + 60 + e .name) (e .size) in
-          record { whole = omega arith; stride = rw h (omega arith) }
+    pub lengths : Lengths
+    lengths = go (eqb (e .state) 0xFF) refl
+      where
+        go : (t : Bool) → eqb (e .state) 0xFF ≡ t → Lengths
+        go true h =
+            let s = eqb-true (e .state) 0xFF h in
+            let n = ap length (unnamed y r at e s) in
+            let d = ap length (no-data s) in
+            record { whole = omega arith; stride = rw h (omega arith) }
+        go false h =
+            let s = eqb-false (e .state) 0xFF h in
+            let n = ap length (named y r at e s) in
+            let d = ap length (data-part s) in
+            let a = part-fits r (at + headerLength y) (e .name) in
+            let b = part-fits r (at + headerLength y + e .name) (e .size) in
+            record { whole = omega arith; stride = rw h (omega arith) }
 
-module _ (r : List ℕ) (at : ℕ) (e : numbers.Entry) (k : ℕ) (w : Turned r at e k) where
-  behind : at + strideOf e ≡ k
-  unfolding entryAt walk.placed
-  behind = w .next
+  module _ (r : List ℕ) (at : ℕ) (e : numbers.Entry) (k : ℕ) (w : Turned y r at e k) where
+    behind : at + strideIn y e ≡ k
+    unfolding entryAs walk.placed
+    behind = w .next
 
-  pub size-next : at + entrySize (walk.entryValue (entryAt r at e)) ≤ k
-  size-next = let l = lengths r at e in omega (arith, behind)
+    pub size-next : at + entrySizeIn y (walk.entryValue (entryAs y r at e)) ≤ k
+    size-next = let l = lengths r at e in omega (arith, behind)
 
-  pub size-within : at + entrySize (walk.entryValue (entryAt r at e)) ≤ length r + 3
-  size-within = let l = lengths r at e in omega arith
+    pub size-within : at + entrySizeIn y (walk.entryValue (entryAs y r at e)) ≤ length r + 3
+    size-within = let l = lengths r at e in omega arith
 
-  pub sizes-value : isValue (entries r) (entryAt r at e) ≡ true
-      → entrySizes (listed r at) ≡ entrySize (walk.entryValue (entryAt r at e)) + entrySizes (listed r k)
-  unfolding entrySizes
-  sizes-value h = ap entrySizes (listed-value r at e k w h)
+    pub sizes-value : isValue (entriesIn y r) (entryAs y r at e) ≡ true
+        → entrySizesIn y (listedIn y r at) ≡ entrySizeIn y (walk.entryValue (entryAs y r at e)) + entrySizesIn y (listedIn y r k)
+    unfolding entrySizesIn
+    sizes-value h = ap (entrySizesIn y) ((listed-value y) r at e k w h)

@@ -1,24 +1,27 @@
-// The values of a region in flash order, their number and their space.
+// The values of a region in flash order, their number and their space. What ends in `_in` is given the stored form; the others are the same in the form in
+// which calls store.
 ghost use mathlib.Core.Path.{_≡_};
 ghost use Prim.Native.Nat.{_+_, _^_, _<_};
 ghost use lib.ListN.{length};
+ghost use Rattle.model.specs.Layout.{headerLength};
 ghost use Rattle.model.specs.Lists.{first};
-ghost use Rattle.model.specs.Entry.{rounded, entrySize};
+ghost use Rattle.model.specs.Entry.{rounded, headerSize, entrySize};
 ghost use Rattle.model.specs.Walk.{entryValue};
-ghost use Rattle.model.specs.Region.{entries, isValue, values};
+ghost use Rattle.model.specs.Region.{entries, entriesIn, isValue, values};
 ghost use Rattle.model.specs.Change.{spaceOf};
-ghost use Rattle.model.specs.Beside.{from};
-ghost use Rattle.region.specs.Walk.{entryAt};
+ghost use Rattle.model.specs.Beside.{from, fromIn};
+ghost use Rattle.region.specs.Walk.{entryAs, entryAt};
 ghost use Rattle.values.specs.Found.{foundOf};
 use crate::Found;
 use crate::lookup;
 use layout::Entry;
+use model::Layout;
 use region::Turn;
 use region::walk;
 
 // Whether an entry is its name's value: a 3F entry, or a 3E entry beside no 3F entry.
-pub fn is_value(region: &[u8], at: usize, e: Entry) -> bool
-    ensures { λ r. ⌜ r ≡ isValue (entries (now (region .entry))) (entryAt (now (region .entry)) at e) ⌝ }
+pub fn is_value_in(y: Layout, region: &[u8], at: usize, e: Entry) -> bool
+    ensures { λ r. ⌜ r ≡ isValue (entriesIn y (now (region .entry))) (entryAs y (now (region .entry)) at e) ⌝ }
 {
     if e.state == 0x3F {
         return true;
@@ -26,52 +29,71 @@ pub fn is_value(region: &[u8], at: usize, e: Entry) -> bool
     if e.state != 0x3E {
         return false;
     }
-    let name = walk::name_of(region, at, e);
-    let vendor = walk::vendor_of(region, at);
-    let f = lookup::find_from(region, layout::REGION_HEADER, 0x3F, name, vendor);
+    let name = walk::name_of_in(y, region, at, e);
+    let vendor = walk::vendor_of_in(y, region, at);
+    let f = lookup::find_from(y, region, layout::REGION_HEADER, 0x3F, name, vendor);
     match f {
         Found::At(_, _) => false,
         Found::Nothing => true,
     }
 }
 
+pub fn is_value(region: &[u8], at: usize, e: Entry) -> bool
+    ensures { λ r. ⌜ r ≡ isValue (entries (now (region .entry))) (entryAt (now (region .entry)) at e) ⌝ }
+{
+    is_value_in(Layout::authenticated(), region, at, e)
+}
+
 // The first value at or behind an offset.
-pub fn next_value(region: &[u8], at: usize) -> Found
-    ensures { λ r. ⌜ r ≡ foundOf (first (isValue (entries (now (region .entry)))) (from (now (region .entry)) at)) ⌝ }
+pub fn next_value_in(y: Layout, region: &[u8], at: usize) -> Found
+    ensures { λ r. ⌜ r ≡ foundOf (first (isValue (entriesIn y (now (region .entry)))) (fromIn y (now (region .entry)) at)) ⌝ }
 {
     let mut here = at;
     loop {
-        let t = walk::turn(region, here);
+        let t = walk::turn_in(y, region, here);
         let Turn::Entry(e, next) = t else {
             return Found::Nothing;
         };
-        if is_value(region, here, e) {
+        if is_value_in(y, region, here, e) {
             return Found::At(here, e);
         }
         here = next;
     }
 }
 
+pub fn next_value(region: &[u8], at: usize) -> Found
+    ensures { λ r. ⌜ r ≡ foundOf (first (isValue (entries (now (region .entry)))) (from (now (region .entry)) at)) ⌝ }
+{
+    next_value_in(Layout::authenticated(), region, at)
+}
+
 // The offset behind a value's entry, which is never an unfinished one.
+pub fn behind_in(y: Layout, place: usize, e: Entry) -> usize
+    requires { ⌜ place < 2 ^ 40 ⌝ }
+    ensures { λ r. ⌜ r ≡ place + rounded (headerLength y + e .name + e .size) ⌝ }
+{
+    place + layout::entry_size_in(y, e.name as usize, e.size as usize)
+}
+
 pub fn behind(place: usize, e: Entry) -> usize
     requires { ⌜ place < 2 ^ 40 ⌝ }
-    ensures { λ r. ⌜ r ≡ place + rounded (60 + e .name + e .size) ⌝ }
+    ensures { λ r. ⌜ r ≡ place + rounded (headerSize + e .name + e .size) ⌝ }
 {
     place + layout::entry_size(e.name as usize, e.size as usize)
 }
 
 // How many values there are.
-pub fn count(region: &[u8]) -> usize
-    ensures { λ r. ⌜ r ≡ length (values (entries (now (region .entry)))) ⌝ }
+pub fn count_in(y: Layout, region: &[u8]) -> usize
+    ensures { λ r. ⌜ r ≡ length (values (entriesIn y (now (region .entry)))) ⌝ }
 {
     let mut n: usize = 0;
     let mut at: usize = layout::REGION_HEADER;
     loop {
-        let t = walk::turn(region, at);
+        let t = walk::turn_in(y, region, at);
         let Turn::Entry(e, next) = t else {
             return n;
         };
-        if is_value(region, at, e) {
+        if is_value_in(y, region, at, e) {
             n += 1;
         }
         at = next;

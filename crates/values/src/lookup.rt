@@ -3,25 +3,33 @@ ghost use mathlib.Core.Path.{_≡_};
 ghost use Rattle.model.specs.Lists.{first};
 ghost use Rattle.model.specs.Name.{keyed};
 ghost use Rattle.model.specs.Region.{entries, isEntry, added, replacing, standing};
-ghost use Rattle.model.specs.Beside.{from};
+ghost use Rattle.model.specs.Beside.{fromIn};
 ghost use Rattle.values.specs.Found.{foundOf, elseFound};
 use crate::Found;
 use crate::Places;
 use layout::Entry;
+use model::Layout;
 use region::Turn;
 use region::walk;
 
 // The first entry at or behind an offset in this state, under this name and GUID.
-pub(crate) fn find_from(region: &[u8], at: usize, state: u8, name: &[u8], vendor: &[u8]) -> Found
-    ensures { λ r. ⌜ r ≡ foundOf (first (isEntry state (keyed (now (name .entry)) (now (vendor .entry)))) (from (now (region .entry)) at)) ⌝ }
+pub(crate) fn find_from(
+    y: Layout,
+    region: &[u8],
+    at: usize,
+    state: u8,
+    name: &[u8],
+    vendor: &[u8],
+) -> Found
+    ensures { λ r. ⌜ r ≡ foundOf (first (isEntry state (keyed (now (name .entry)) (now (vendor .entry)))) (fromIn y (now (region .entry)) at)) ⌝ }
 {
     let mut here = at;
     loop {
-        let t = walk::turn(region, here);
+        let t = walk::turn_in(y, region, here);
         let Turn::Entry(e, next) = t else {
             return Found::Nothing;
         };
-        if walk::is_entry(region, here, e, state, name, vendor) {
+        if walk::is_entry_in(y, region, here, e, state, name, vendor) {
             return Found::At(here, e);
         }
         here = next;

@@ -3,6 +3,7 @@
 use native.Mathlib.Omega.{arith}
 use mathlib.Core.Path.{sym, _∙_}
 use denote.Ref.{now}
+use Rattle.model.specs.Layout.{authenticated}
 use Rattle.image.proofs.Ready.{is-ready}
 use Rattle.capi.proofs.Told.{ready-told, broken-told}
 use borrow.Author.Needs.{needs}
@@ -21,13 +22,15 @@ numbers-requires c κs = search needs
 cast-t9 : tie.Need-cast-t9
 cast-t9 c =
     let t = c .before .before .c .given in
-    let x = is-ready (now (c .before .before .before .before .before .before .args .image)) (t .0 .0) (t .0 .1 .0) (sym (c .before .before .before .before .check-call .ensures) ∙ t .1) in
+    let x = is-ready authenticated (now (c .before .before .before .before .before .before .args .image)) (t .0 .0) (t .0 .1 .0)
+    (sym (c .before .before .before .before .check-call .ensures) ∙ t .1) in
     record { fits = omega (arith, x .few) }
 
 cast-t10 : tie.Need-cast-t10
 cast-t10 c =
     let t = c .before .before .c .given in
-    let x = is-ready (now (c .before .before .before .before .before .before .args .image)) (t .0 .0) (t .0 .1 .0) (sym (c .before .before .before .before .check-call .ensures) ∙ t .1) in
+    let x = is-ready authenticated (now (c .before .before .before .before .before .before .args .image)) (t .0 .0) (t .0 .1 .0)
+    (sym (c .before .before .before .before .check-call .ensures) ∙ t .1) in
     record { fits = omega (arith, x .few, x .long, x .tail-within) }
 
 enum-known-c-2 : tie.Need-enum-known-c-2

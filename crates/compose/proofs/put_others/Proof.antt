@@ -6,6 +6,7 @@ use native.Mathlib.Omega.{arith}
 use mathlib.Core.Path.{_≡_, refl, sym, _∙_}
 use lib.ListN.{length}
 use denote.Ref.{now}
+use Rattle.model.specs.Layout.{authenticated}
 use Rattle.model.specs.Name.{keyed}
 use Rattle.values.proofs.Stands.{listed-nothing}
 use Rattle.values.proofs.Next.{next-value}
@@ -40,7 +41,7 @@ returns : tie.Need-returns Inv-loop μ-loop
 returns c =
     let l = c .before .before .before in
     let r = now (c .before .before .before .before .before .before .before .before .args .region) in
-    carried-all (l .loop .inv .2) (listed-nothing r (l .loop .here) (sym (c .before .before .next-value .ensures) ∙ c .enum-told .given .1))
+    carried-all (l .loop .inv .2) (listed-nothing authenticated r (l .loop .here) (sym (c .before .before .next-value .ensures) ∙ c .enum-told .given .1))
 
 put-other-requires : tie.Need-put-other-requires Inv-loop μ-loop
 put-other-requires c κs =
@@ -48,7 +49,7 @@ put-other-requires c κs =
     let a = c .before .before .before .before .before .before .before .before .before .before .args in
     let r = now (a .region) in
     let t = c .before .before .f .given in
-    let x = next-value r (l .loop .here) (t .0 .0) (t .0 .1 .0) (sym (c .before .before .before .before .next-value .ensures) ∙ t .1) in
+    let x = next-value authenticated r (l .loop .here) (t .0 .0) (t .0 .1 .0) (sym (c .before .before .before .before .next-value .ensures) ∙ t .1) in
     (omega (arith, l .loop .inv .0, x .from-here, x .fits), omega arith)
 
 behind-requires : tie.Need-behind-requires Inv-loop μ-loop
@@ -57,7 +58,8 @@ behind-requires c κs =
     let a = c .before .before .before .before .before .before .before .before .before .before .before .before .before .args in
     let r = now (a .region) in
     let t = c .before .before .before .before .before .f .given in
-    let x = next-value r (l .loop .here) (t .0 .0) (t .0 .1 .0) (sym (c .before .before .before .before .before .before .before .next-value .ensures) ∙ t .1) in
+    let x = next-value authenticated r (l .loop .here) (t .0 .0) (t .0 .1 .0)
+    (sym (c .before .before .before .before .before .before .before .next-value .ensures) ∙ t .1) in
     omega (arith, x .fits)
 
 loop-less : tie.Need-loop-less Inv-loop μ-loop
@@ -66,7 +68,8 @@ loop-less c =
     let a = c .before .before .before .before .before .before .before .before .before .before .before .before .before .before .args in
     let r = now (a .region) in
     let t = c .before .before .before .before .before .before .f .given in
-    let x = next-value r (l .loop .here) (t .0 .0) (t .0 .1 .0) (sym (c .before .before .before .before .before .before .before .before .next-value .ensures) ∙ t .1) in
+    let x = next-value authenticated r (l .loop .here) (t .0 .0) (t .0 .1 .0)
+    (sym (c .before .before .before .before .before .before .before .before .next-value .ensures) ∙ t .1) in
     omega (arith, c .behind .ensures, x .from-here, x .fits)
 
 loop-again : tie.Need-loop-again Inv-loop μ-loop
@@ -75,7 +78,8 @@ loop-again c =
     let a = c .before .before .before .before .before .before .before .before .before .before .before .before .before .before .args in
     let r = now (a .region) in
     let t = c .before .before .before .before .before .before .f .given in
-    let x = next-value r (l .loop .here) (t .0 .0) (t .0 .1 .0) (sym (c .before .before .before .before .before .before .before .before .next-value .ensures) ∙ t .1) in
+    let x = next-value authenticated r (l .loop .here) (t .0 .0) (t .0 .1 .0)
+    (sym (c .before .before .before .before .before .before .before .before .next-value .ensures) ∙ t .1) in
     let w = c .before .before .before .put-other in (
       omega (arith, l .loop .inv .0, w .ensures .1, c .behind .ensures, x .from-here, x .size),
       w .kept .0 ∙ l .loop .inv .1,

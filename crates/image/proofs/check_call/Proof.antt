@@ -1,102 +1,22 @@
--- `image::check_call` meets its contract: each look tells what rule 2 asks of one part. Assumes nothing.
-use Prim.Native.Nat.{ℕ}
-use mathlib.Core.Path.{sym, ap, _∙_}
-use Rattle.image.specs.declared.Check.the-variants.{Ready}
+-- `image::check_call` meets its contract: an instance of `check_in`. Assumes nothing.
+use mathlib.Core.Path.{ap, _∙_}
 use denote.Ref.{now}
-use Rattle.model.specs.Lists.{allFF}
-use Rattle.image.proofs.Cut.{none-refused, parted, call-ready, call-not-idle, call-not-blank, call-not-clean}
-use Rattle.image.proofs.Look.{told-idle, told-clean, told-clean-tail}
 use borrow.Author.Needs.{needs}
+use Rattle.model.specs.declared.Layout.{Layout}
+use Rattle.image.specs.Check.{callIn}
 use Rattle.image.proofs.check_call.Statement.{statement}
 use Rattle.image.proofs.check_call.Tie as tie
 
-blocks-requires : tie.Need-blocks-requires
-blocks-requires c κs = search needs
+authenticated-requires : tie.Need-authenticated-requires
+authenticated-requires c κs = search needs
+
+check-in-requires : tie.Need-check-in-requires
+check-in-requires c κs = search needs
 
 returns : tie.Need-returns
 returns c =
-    let img = now (c .before .before .before .args .image) in
-    sym (none-refused img (sym (c .before .blocks2 .ensures .0) ∙ c .if1 .taken) .0)
-
-mul-size : tie.Need-mul-size
-mul-size c = search needs
-
-cut-requires : tie.Need-cut-requires
-cut-requires c κs = search needs
-
-look-at-requires : tie.Need-look-at-requires
-look-at-requires c κs = search needs
-
-is-idle-requires : tie.Need-is-idle-requires
-is-idle-requires c κs = search needs
-
-add-cut : tie.Need-add-cut
-add-cut c = search needs
-
-cut-requires-2 : tie.Need-cut-requires-2
-cut-requires-2 c κs = search needs
-
-is-blank-requires : tie.Need-is-blank-requires
-is-blank-requires c κs = search needs
-
-cut-requires-3 : tie.Need-cut-requires-3
-cut-requires-3 c κs = search needs
-
-judge-requires : tie.Need-judge-requires
-judge-requires c κs = search needs
-
-returns-2 : tie.Need-returns-2
-returns-2 c =
-    let img = now (c .before .before .before .before .before .before .before .before .before .before .before .before .before .args .image) in
-    let n = c .before .before .before .before .before .before .before .before .before .before .before .blocks2 .result in
-    let p = parted img n (c .before .before .before .before .before .before .before .before .before .before .before .blocks2 .ensures .0) (c .before .before .before .before .before .before .before .before .before .before .if1 .left) in
-    let i = told-idle (c .before .before .before .before .before .before .before .before .before .cut .ensures ∙ p .its-work) (c .before .before .before .before .before .before .before .before .look-at .ensures) (c .before .before .before .before .before .before .before .is-idle .ensures) in
-    let s = ap allFF (sym (c .before .before .before .before .before .cut2 .ensures ∙ p .its-spare)) ∙ sym (c .before .before .before .before .is-blank .ensures) in
-    let k = told-clean (c .before .before .cut3 .ensures ∙ p .its-region) (c .before .judge .ensures) in
-    let t = told-clean-tail (c .before .before .cut3 .ensures ∙ p .its-region) (c .before .judge .ensures) (c .if4 .taken) in
-    ap (λ (at : ℕ). Ready n at) t
-    ∙ sym (call-ready img n p (i ∙ c .before .before .before .before .before .before .if2 .taken) (s ∙ c .before .before .before .if3 .taken) (k ∙ c .if4 .taken))
-
-returns-3 : tie.Need-returns-3
-returns-3 c =
-    let img = now (c .before .before .before .before .before .before .before .before .before .before .before .before .before .args .image) in
-    let n = c .before .before .before .before .before .before .before .before .before .before .before .blocks2 .result in
-    let p = parted img n (c .before .before .before .before .before .before .before .before .before .before .before .blocks2 .ensures .0) (c .before .before .before .before .before .before .before .before .before .before .if1 .left) in
-    let k = told-clean (c .before .before .cut3 .ensures ∙ p .its-region) (c .before .judge .ensures) in
-    sym (call-not-clean img n p (k ∙ c .if4 .left))
-
-returns-4 : tie.Need-returns-4
-returns-4 c =
-    let img = now (c .before .before .before .before .before .before .before .before .before .before .args .image) in
-    let n = c .before .before .before .before .before .before .before .before .blocks2 .result in
-    let p = parted img n (c .before .before .before .before .before .before .before .before .blocks2 .ensures .0) (c .before .before .before .before .before .before .before .if1 .left) in
-    let s = ap allFF (sym (c .before .before .cut2 .ensures ∙ p .its-spare)) ∙ sym (c .before .is-blank .ensures) in
-    sym (call-not-blank img n p (s ∙ c .if3 .left))
-
-returns-5 : tie.Need-returns-5
-returns-5 c =
-    let img = now (c .before .before .before .before .before .before .before .args .image) in
-    let n = c .before .before .before .before .before .blocks2 .result in
-    let p = parted img n (c .before .before .before .before .before .blocks2 .ensures .0) (c .before .before .before .before .if1 .left) in
-    let i = told-idle (c .before .before .before .cut .ensures ∙ p .its-work) (c .before .before .look-at .ensures) (c .before .is-idle .ensures) in
-    sym (call-not-idle img n p (i ∙ c .if2 .left))
+    let a = c .before .before .before .args in
+    c .check-in .ensures ∙ ap (λ (y : Layout). callIn y (now (a .image))) (c .before .authenticated .ensures)
 
 pub check-call-spec : {M : Type 1} → statement M
-check-call-spec =
-    tie.close
-    (tie.spec
-    blocks-requires
-    returns
-    mul-size
-    cut-requires
-    look-at-requires
-    is-idle-requires
-    add-cut
-    cut-requires-2
-    is-blank-requires
-    cut-requires-3
-    judge-requires
-    returns-2
-    returns-3
-    returns-4
-    returns-5)
+check-call-spec = tie.close (tie.spec authenticated-requires check-in-requires returns)

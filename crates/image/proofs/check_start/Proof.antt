@@ -6,6 +6,7 @@ use denote.Ref.{now}
 use Rattle.records.specs.Look.{lookAt}
 use Rattle.image.specs.declared.Start.the-variants.{Pending, Sound}
 use Rattle.image.proofs.Cut.{none-refused, parted, start-pending, start-sound, start-refused}
+use Rattle.model.specs.Layout.{authenticated}
 use Rattle.image.proofs.Look.{told-sound}
 use borrow.Author.Needs.{needs}
 use Rattle.image.proofs.check_start.Statement.{statement}
@@ -17,7 +18,7 @@ blocks-requires c κs = search needs
 returns : tie.Need-returns
 returns c =
     let img = now (c .before .before .before .args .image) in
-    sym (none-refused img (sym (c .before .blocks2 .ensures .0) ∙ c .if1 .taken) .1)
+    sym (none-refused authenticated img (sym (c .before .blocks2 .ensures .0) ∙ c .if1 .taken) .1)
 
 mul-size : tie.Need-mul-size
 mul-size c = search needs
@@ -57,7 +58,7 @@ returns-3 c =
     let n = c .before .before .before .before .before .before .before .before .blocks2 .result in
     let p = parted img n (c .before .before .before .before .before .before .before .before .blocks2 .ensures .0) (c .before .before .before .before .before .before .before .if1 .left) in
     let l = c .before .before .before .before .before .look-at .ensures ∙ ap lookAt (c .before .before .before .before .before .before .cut .ensures ∙ p .its-work) in
-    let s = told-sound (c .before .before .cut2 .ensures ∙ p .its-region) (c .before .judge .ensures) in
+    let s = told-sound authenticated (c .before .before .cut2 .ensures ∙ p .its-region) (c .before .judge .ensures) in
     ap (Sound n) l ∙ sym (start-sound img n p (sym (c .before .before .before .before .is-pending .ensures) ∙ c .before .before .before .if2 .left) (s ∙ c .if3 .taken))
 
 returns-4 : tie.Need-returns-4
@@ -65,7 +66,7 @@ returns-4 c =
     let img = now (c .before .before .before .before .before .before .before .before .before .before .args .image) in
     let n = c .before .before .before .before .before .before .before .before .blocks2 .result in
     let p = parted img n (c .before .before .before .before .before .before .before .before .blocks2 .ensures .0) (c .before .before .before .before .before .before .before .if1 .left) in
-    let s = told-sound (c .before .before .cut2 .ensures ∙ p .its-region) (c .before .judge .ensures) in
+    let s = told-sound authenticated (c .before .before .cut2 .ensures ∙ p .its-region) (c .before .judge .ensures) in
     sym (start-refused img n p (sym (c .before .before .before .before .is-pending .ensures) ∙ c .before .before .before .if2 .left) (s ∙ c .if3 .left))
 
 pub check-start-spec : {M : Type 1} → statement M

@@ -3,6 +3,7 @@ use native.Mathlib.Omega.{arith}
 use mathlib.Core.Path.{refl, sym, _∙_}
 use denote.Ref.{now}
 use Rattle.image.proofs.Cut.{parted, pending-of, not-pending}
+use Rattle.model.specs.Layout.{authenticated}
 use Rattle.image.proofs.Look.{told-closed, told-clean}
 use borrow.Author.Needs.{needs}
 use Rattle.image.proofs.is_pending.Statement.{statement}
@@ -28,7 +29,7 @@ returns c =
     let s = c .before .before .before .before .before in
     let p = parted (now (s .args .image)) (s .args .b) (s .pre .0) (λ e. omega (arith, s .pre .1)) in
     let closed = told-closed refl (s .pre .3) (c .before .before .before .ends-in-fc .ensures) in
-    sym (pending-of (now (s .args .image)) (s .args .b) p (closed ∙ c .before .before .if1 .taken) ∙ told-clean (c .before .cut .ensures ∙ p .its-spare) (c .judge .ensures))
+    sym (pending-of (now (s .args .image)) (s .args .b) p (closed ∙ c .before .before .if1 .taken) ∙ told-clean authenticated (c .before .cut .ensures ∙ p .its-spare) (c .judge .ensures))
 
 returns-2 : tie.Need-returns-2
 returns-2 c =

@@ -1,18 +1,25 @@
 -- `layout::key_of` meets its contract: GUID and name are one part of the bytes. Assumes nothing.
-use mathlib.Core.Path.{_∙_}
+use Prim.Native.Nat.{ℕ, _+_}
+use mathlib.Core.Path.{ap, _∙_}
 use denote.Ref.{now}
 use borrow.Author.Needs.{needs}
+use Rattle.model.specs.Lists.{part}
 use Rattle.layout.proofs.Named.{unnamed-key, named-key}
 use Rattle.layout.proofs.key_of.Statement.{statement}
 use Rattle.layout.proofs.key_of.Tie as tie
+
+vendor-requires : tie.Need-vendor-requires
+vendor-requires c κs = search needs
 
 cut-requires : tie.Need-cut-requires
 cut-requires c κs = search needs
 
 returns : tie.Need-returns
 returns c =
-    let a = c .before .before .before .before .args in
-    c .cut .ensures ∙ unnamed-key (now (a .s)) (a .e) (c .before .if1 .taken)
+    let a = c .before .before .before .before .before .args in
+    c .cut .ensures
+    ∙ ap (λ (i : ℕ). part i 16 (now (a .s))) (c .before .before .before .vendor .ensures .0)
+    ∙ unnamed-key (a .y) (now (a .s)) (a .e) (c .before .if1 .taken)
 
 cast-cut : tie.Need-cast-cut
 cast-cut c = search needs
@@ -25,8 +32,10 @@ cut-requires-2 c κs = search needs
 
 returns-2 : tie.Need-returns-2
 returns-2 c =
-    let a = c .before .before .before .before .before .args in
-    c .cut2 .ensures ∙ named-key (now (a .s)) (a .e) (c .before .before .if1 .left)
+    let a = c .before .before .before .before .before .before .args in
+    c .cut2 .ensures
+    ∙ ap (λ (i : ℕ). part i (16 + a .e .name) (now (a .s))) (c .before .before .before .before .vendor .ensures .0)
+    ∙ named-key (a .y) (now (a .s)) (a .e) (c .before .before .if1 .left)
 
 pub key-of-spec : {M : Type 1} → statement M
-key-of-spec = tie.close (tie.spec cut-requires returns cast-cut add-cut cut-requires-2 returns-2)
+key-of-spec = tie.close (tie.spec vendor-requires cut-requires returns cast-cut add-cut cut-requires-2 returns-2)

@@ -1,10 +1,13 @@
--- `layout::name_of` meets its contract: the test of the state picks the same case as the definition's, and what is cut out is what it cuts out.
+-- `layout::name_of` meets its contract: it cuts the name out of the entry's own part.
 -- Assumes nothing.
-use mathlib.Core.Path.{sym, _∙_}
-use borrow.Author.Needs.{needs}
+use Prim.Native.Nat.{ℕ, _+_}
+use mathlib.Core.Path.{ap, _∙_, sym}
+use denote.Ref.{now}
 use borrow.Author.Tests.{eq-eqb, ne-eqb}
+use Rattle.model.specs.Lists.{part}
 use Rattle.model.specs.Walk.{placed}
 use Rattle.layout.specs.Head.{nameIn}
+use borrow.Author.Needs.{needs}
 use Rattle.layout.proofs.name_of.Statement.{statement}
 use Rattle.layout.proofs.name_of.Tie as tie
 
@@ -13,7 +16,11 @@ slice-aggregate-result c = search needs
 
 returns : tie.Need-returns
 unfolding nameIn placed
-returns c = simp (eq-eqb _ _ (c .before .if1 .taken))
+returns c = let a = c .before .before .before .before .args in
+    rw (eq-eqb (a .e .state) 0xFF (c .before .if1 .taken))
+
+header-requires : tie.Need-header-requires
+header-requires c κs = search needs
 
 cast-cut : tie.Need-cast-cut
 cast-cut c = search needs
@@ -23,7 +30,12 @@ cut-requires c κs = search needs
 
 returns-2 : tie.Need-returns-2
 unfolding nameIn placed
-returns-2 c = simp (ne-eqb _ _ (c .before .before .if1 .left), c .cut .ensures)
+returns-2 c = let b = c .before .before .before in
+    let a = b .before .before .before .args in
+    rw (ne-eqb (a .e .state) 0xFF (b .if1 .left))
+    (c .cut .ensures ∙ ap (λ (i : ℕ). part i (a .e .name) (now (a .s))) (c .before .before .header .ensures .0))
 
 pub name-of-spec : {M : Type 1} → statement M
-name-of-spec = tie.close (tie.spec slice-aggregate-result returns cast-cut cut-requires returns-2)
+name-of-spec =
+    tie.close
+    (tie.spec slice-aggregate-result returns header-requires cast-cut cut-requires returns-2)

@@ -1,6 +1,6 @@
 -- `layout::stamp_of` meets its contract: it cuts out what the definition does. Assumes nothing.
 use borrow.Author.Needs.{needs}
-use Rattle.model.specs.Entry.{headerFields}
+use Rattle.model.specs.Entry.{headerFieldsIn}
 use Rattle.layout.proofs.stamp_of.Statement.{statement}
 use Rattle.layout.proofs.stamp_of.Tie as tie
 
@@ -8,7 +8,7 @@ cut-requires : tie.Need-cut-requires
 cut-requires c κs = search needs
 
 returns : tie.Need-returns
-unfolding headerFields
+unfolding headerFieldsIn
 returns c = c .cut .ensures
 
 pub stamp-of-spec : {M : Type 1} → statement M

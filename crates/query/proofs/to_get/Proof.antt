@@ -6,6 +6,7 @@ use native.Mathlib.Omega.{arith}
 use mathlib.Core.Path.{_≡_, sym, ap, _∙_}
 use lib.ListN.{length}
 use denote.Ref.{now}
+use Rattle.model.specs.Layout.{authenticated}
 use Rattle.model.specs.Lists.{first}
 use Rattle.model.specs.Name.{keyed, sameKey}
 use Rattle.model.specs.Walk.{entryKey}
@@ -44,7 +45,8 @@ returns c =
     let a = l .before .before .before .args in
     let r = now (a .region) in
     let k = keyed (now (a .name)) (now (a .vendor)) in
-    sym (l .loop .inv ∙ ap (first (λ e. sameKey (entryKey e) k)) (seen-none (a .runtime) r (l .loop .at) (stopped r (l .loop .at) (sym (c .before .before .turn .ensures) ∙ c .enum-told .given .1))))
+    sym (l .loop .inv ∙ ap (first (λ e. sameKey (entryKey e) k)) (seen-none (a .runtime) r (l .loop .at)
+    (stopped authenticated r (l .loop .at) (sym (c .before .before .turn .ensures) ∙ c .enum-told .given .1))))
 
 sub-may-be : tie.Need-sub-may-be Inv-loop μ-loop
 sub-may-be c =
@@ -54,7 +56,7 @@ sub-may-be c =
     let r = now (a .region) in
     let k = keyed (now (a .name)) (now (a .vendor)) in
     let t = b .t .given in
-    let w = turned r (l .loop .at) (t .0 .0) (t .0 .1 .0) (sym (b .before .before .turn .ensures) ∙ t .1) in
+    let w = turned authenticated r (l .loop .at) (t .0 .0) (t .0 .1 .0) (sym (b .before .before .turn .ensures) ∙ t .1) in
     omega arith
 
 part-may-be-start : tie.Need-part-may-be-start Inv-loop μ-loop
@@ -65,7 +67,7 @@ part-may-be-start c =
     let r = now (a .region) in
     let k = keyed (now (a .name)) (now (a .vendor)) in
     let t = b .t .given in
-    let w = turned r (l .loop .at) (t .0 .0) (t .0 .1 .0) (sym (b .before .before .turn .ensures) ∙ t .1) in
+    let w = turned authenticated r (l .loop .at) (t .0 .0) (t .0 .1 .0) (sym (b .before .before .turn .ensures) ∙ t .1) in
     omega arith
 
 part-may-be-end : tie.Need-part-may-be-end Inv-loop μ-loop
@@ -76,7 +78,7 @@ part-may-be-end c =
     let r = now (a .region) in
     let k = keyed (now (a .name)) (now (a .vendor)) in
     let t = b .t .given in
-    let w = turned r (l .loop .at) (t .0 .0) (t .0 .1 .0) (sym (b .before .before .turn .ensures) ∙ t .1) in
+    let w = turned authenticated r (l .loop .at) (t .0 .0) (t .0 .1 .0) (sym (b .before .before .turn .ensures) ∙ t .1) in
     omega arith
 
 may-be-requires : tie.Need-may-be-requires Inv-loop μ-loop
@@ -93,7 +95,7 @@ returns-2 c =
     let r = now (a .region) in
     let k = keyed (now (a .name)) (now (a .vendor)) in
     let t = b .t .given in
-    let w = turned r (l .loop .at) (t .0 .0) (t .0 .1 .0) (sym (b .before .before .turn .ensures) ∙ t .1) in
+    let w = turned authenticated r (l .loop .at) (t .0 .0) (t .0 .1 .0) (sym (b .before .before .turn .ensures) ∙ t .1) in
     sym (l .loop .inv ∙ get-here (a .runtime) r (l .loop .at) (t .0 .0) (t .0 .1 .0) w k (sym (c .before .is-sought .ensures) ∙ c .if2 .taken))
 
 loop-less : tie.Need-loop-less Inv-loop μ-loop
@@ -104,7 +106,7 @@ loop-less c =
     let r = now (a .region) in
     let k = keyed (now (a .name)) (now (a .vendor)) in
     let t = b .t .given in
-    let w = turned r (l .loop .at) (t .0 .0) (t .0 .1 .0) (sym (b .before .before .turn .ensures) ∙ t .1) in
+    let w = turned authenticated r (l .loop .at) (t .0 .0) (t .0 .1 .0) (sym (b .before .before .turn .ensures) ∙ t .1) in
     omega arith
 
 loop-again : tie.Need-loop-again Inv-loop μ-loop
@@ -115,7 +117,7 @@ loop-again c =
     let r = now (a .region) in
     let k = keyed (now (a .name)) (now (a .vendor)) in
     let t = b .t .given in
-    let w = turned r (l .loop .at) (t .0 .0) (t .0 .1 .0) (sym (b .before .before .turn .ensures) ∙ t .1) in
+    let w = turned authenticated r (l .loop .at) (t .0 .0) (t .0 .1 .0) (sym (b .before .before .turn .ensures) ∙ t .1) in
     l .loop .inv ∙ get-next (a .runtime) r (l .loop .at) (t .0 .0) (t .0 .1 .0) w k (sym (c .before .is-sought .ensures) ∙ c .if2 .left)
 
 loop-less-2 : tie.Need-loop-less-2 Inv-loop μ-loop
@@ -126,7 +128,7 @@ loop-less-2 c =
     let r = now (a .region) in
     let k = keyed (now (a .name)) (now (a .vendor)) in
     let t = b .t .given in
-    let w = turned r (l .loop .at) (t .0 .0) (t .0 .1 .0) (sym (b .before .before .turn .ensures) ∙ t .1) in
+    let w = turned authenticated r (l .loop .at) (t .0 .0) (t .0 .1 .0) (sym (b .before .before .turn .ensures) ∙ t .1) in
     omega arith
 
 loop-again-2 : tie.Need-loop-again-2 Inv-loop μ-loop
@@ -137,7 +139,7 @@ loop-again-2 c =
     let r = now (a .region) in
     let k = keyed (now (a .name)) (now (a .vendor)) in
     let t = b .t .given in
-    let w = turned r (l .loop .at) (t .0 .0) (t .0 .1 .0) (sym (b .before .before .turn .ensures) ∙ t .1) in
+    let w = turned authenticated r (l .loop .at) (t .0 .0) (t .0 .1 .0) (sym (b .before .before .turn .ensures) ∙ t .1) in
     let other = sought-unlike (a .runtime) r (l .loop .at) (t .0 .0) (now (a .name)) (now (a .vendor)) (c .before .may-be .ensures .1 (c .if1 .left)) in
     l .loop .inv ∙ get-next (a .runtime) r (l .loop .at) (t .0 .0) (t .0 .1 .0) w k other
 

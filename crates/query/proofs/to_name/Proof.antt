@@ -7,6 +7,7 @@ use mathlib.Core.Path.{_≡_, sym, ap, _∙_}
 use lib.ListN.{length}
 use denote.Ref.{now}
 use mathlib.Core.Bool.{Bool}
+use Rattle.model.specs.Layout.{authenticated}
 use Rattle.model.specs.Name.{keyed}
 use Rattle.model.specs.Region.{entries}
 use Rattle.region.proofs.Turns.{turned, stopped}
@@ -47,7 +48,8 @@ returns c =
     let a = l .before .before .before .before .args in
     let r = now (a .region) in
     let k = keyed (now (a .name)) (now (a .vendor)) in
-    sym (l .loop .inv ∙ going-none (l .loop .passed) k (seen-none (a .runtime) r (l .loop .here) (stopped r (l .loop .here) (sym (c .before .before .turn .ensures) ∙ c .enum-told .given .1))))
+    sym (l .loop .inv ∙ going-none (l .loop .passed) k (seen-none (a .runtime) r (l .loop .here) (stopped authenticated r (l .loop .here)
+    (sym (c .before .before .turn .ensures) ∙ c .enum-told .given .1))))
 
 is-seen-requires : tie.Need-is-seen-requires Inv-loop μ-loop
 is-seen-requires c κs = search needs
@@ -59,7 +61,7 @@ returns-2 c =
     let r = now (a .region) in
     let k = keyed (now (a .name)) (now (a .vendor)) in
     let t = c .before .before .before .before .t .given in
-    let w = turned r (l .loop .here) (t .0 .0) (t .0 .1 .0) (sym (c .before .before .before .before .before .before .turn .ensures) ∙ t .1) in
+    let w = turned authenticated r (l .loop .here) (t .0 .0) (t .0 .1 .0) (sym (c .before .before .before .before .before .before .turn .ensures) ∙ t .1) in
     let here = name-here (a .runtime) r (l .loop .here) (t .0 .0) (t .0 .1 .0) w k (sym (c .before .is-seen .ensures) ∙ c .if2 .taken) in
     sym (l .loop .inv ∙ ap (λ (p : Bool). goingOn p k (seenFrom (a .runtime) r (l .loop .here))) (c .before .before .if1 .taken) ∙ here)
 
@@ -71,7 +73,7 @@ sub-may-be c =
     let r = now (a .region) in
     let k = keyed (now (a .name)) (now (a .vendor)) in
     let t = b .t .given in
-    let w = turned r (l .loop .here) (t .0 .0) (t .0 .1 .0) (sym (b .before .before .turn .ensures) ∙ t .1) in
+    let w = turned authenticated r (l .loop .here) (t .0 .0) (t .0 .1 .0) (sym (b .before .before .turn .ensures) ∙ t .1) in
     omega arith
 
 part-may-be-start : tie.Need-part-may-be-start Inv-loop μ-loop
@@ -82,7 +84,7 @@ part-may-be-start c =
     let r = now (a .region) in
     let k = keyed (now (a .name)) (now (a .vendor)) in
     let t = b .t .given in
-    let w = turned r (l .loop .here) (t .0 .0) (t .0 .1 .0) (sym (b .before .before .turn .ensures) ∙ t .1) in
+    let w = turned authenticated r (l .loop .here) (t .0 .0) (t .0 .1 .0) (sym (b .before .before .turn .ensures) ∙ t .1) in
     omega arith
 
 part-may-be-end : tie.Need-part-may-be-end Inv-loop μ-loop
@@ -93,7 +95,7 @@ part-may-be-end c =
     let r = now (a .region) in
     let k = keyed (now (a .name)) (now (a .vendor)) in
     let t = b .t .given in
-    let w = turned r (l .loop .here) (t .0 .0) (t .0 .1 .0) (sym (b .before .before .turn .ensures) ∙ t .1) in
+    let w = turned authenticated r (l .loop .here) (t .0 .0) (t .0 .1 .0) (sym (b .before .before .turn .ensures) ∙ t .1) in
     omega arith
 
 may-be-requires : tie.Need-may-be-requires Inv-loop μ-loop
@@ -109,7 +111,7 @@ loop-less c =
     let r = now (a .region) in
     let k = keyed (now (a .name)) (now (a .vendor)) in
     let t = c .before .before .before .before .t .given in
-    let w = turned r (l .loop .here) (t .0 .0) (t .0 .1 .0) (sym (c .before .before .before .before .before .before .turn .ensures) ∙ t .1) in
+    let w = turned authenticated r (l .loop .here) (t .0 .0) (t .0 .1 .0) (sym (c .before .before .before .before .before .before .turn .ensures) ∙ t .1) in
     omega arith
 
 loop-again : tie.Need-loop-again Inv-loop μ-loop
@@ -119,7 +121,7 @@ loop-again c =
     let r = now (a .region) in
     let k = keyed (now (a .name)) (now (a .vendor)) in
     let t = c .before .before .before .before .t .given in
-    let w = turned r (l .loop .here) (t .0 .0) (t .0 .1 .0) (sym (c .before .before .before .before .before .before .turn .ensures) ∙ t .1) in
+    let w = turned authenticated r (l .loop .here) (t .0 .0) (t .0 .1 .0) (sym (c .before .before .before .before .before .before .turn .ensures) ∙ t .1) in
     let more = name-next (a .runtime) r (l .loop .here) (t .0 .0) (t .0 .1 .0) w k (sym (c .before .is-seen .ensures) ∙ c .if2 .left) in
     l .loop .inv
     ∙ ap (λ (p : Bool). goingOn p k (seenFrom (a .runtime) r (l .loop .here))) (c .before .before .if1 .taken)
@@ -134,7 +136,7 @@ loop-less-2 c =
     let r = now (a .region) in
     let k = keyed (now (a .name)) (now (a .vendor)) in
     let t = b .t .given in
-    let w = turned r (l .loop .here) (t .0 .0) (t .0 .1 .0) (sym (b .before .before .turn .ensures) ∙ t .1) in
+    let w = turned authenticated r (l .loop .here) (t .0 .0) (t .0 .1 .0) (sym (b .before .before .turn .ensures) ∙ t .1) in
     omega arith
 
 loop-again-2 : tie.Need-loop-again-2 Inv-loop μ-loop
@@ -145,7 +147,7 @@ loop-again-2 c =
     let r = now (a .region) in
     let k = keyed (now (a .name)) (now (a .vendor)) in
     let t = b .t .given in
-    let w = turned r (l .loop .here) (t .0 .0) (t .0 .1 .0) (sym (b .before .before .turn .ensures) ∙ t .1) in
+    let w = turned authenticated r (l .loop .here) (t .0 .0) (t .0 .1 .0) (sym (b .before .before .turn .ensures) ∙ t .1) in
     l .loop .inv
     ∙ ap (λ (p : Bool). goingOn p k (seenFrom (a .runtime) r (l .loop .here))) (c .before .before .before .before .before .if1 .left)
     ∙ name-before (a .runtime) r (l .loop .here) (t .0 .0) (t .0 .1 .0) w k
@@ -159,7 +161,7 @@ loop-less-3 c =
     let r = now (a .region) in
     let k = keyed (now (a .name)) (now (a .vendor)) in
     let t = b .t .given in
-    let w = turned r (l .loop .here) (t .0 .0) (t .0 .1 .0) (sym (b .before .before .turn .ensures) ∙ t .1) in
+    let w = turned authenticated r (l .loop .here) (t .0 .0) (t .0 .1 .0) (sym (b .before .before .turn .ensures) ∙ t .1) in
     omega arith
 
 loop-again-3 : tie.Need-loop-again-3 Inv-loop μ-loop
@@ -170,7 +172,7 @@ loop-again-3 c =
     let r = now (a .region) in
     let k = keyed (now (a .name)) (now (a .vendor)) in
     let t = b .t .given in
-    let w = turned r (l .loop .here) (t .0 .0) (t .0 .1 .0) (sym (b .before .before .turn .ensures) ∙ t .1) in
+    let w = turned authenticated r (l .loop .here) (t .0 .0) (t .0 .1 .0) (sym (b .before .before .turn .ensures) ∙ t .1) in
     let other = sought-unlike (a .runtime) r (l .loop .here) (t .0 .0) (now (a .name)) (now (a .vendor)) (c .before .may-be .ensures .1 (c .if3 .left)) in
     l .loop .inv
     ∙ ap (λ (p : Bool). goingOn p k (seenFrom (a .runtime) r (l .loop .here))) (c .before .before .before .if1 .left)

@@ -8,25 +8,27 @@ use borrow.Author.Needs.{needs}
 use Rattle.report.proofs.put_entry.Statement.{statement}
 use Rattle.report.proofs.put_entry.Tie as tie
 
-vendor-of-requires : tie.Need-vendor-of-requires
-vendor-of-requires c κs = search needs
+vendor-of-in-requires : tie.Need-vendor-of-in-requires
+vendor-of-in-requires c κs = search needs
 
-name-of-requires : tie.Need-name-of-requires
-name-of-requires c κs = search needs
+name-of-in-requires : tie.Need-name-of-in-requires
+name-of-in-requires c κs = search needs
 
-data-of-requires : tie.Need-data-of-requires
-data-of-requires c κs = search needs
+data-of-in-requires : tie.Need-data-of-in-requires
+data-of-in-requires c κs = search needs
 
 cast-put-value : tie.Need-cast-put-value
 cast-put-value c =
     let a = c .before .before .before .before .before .before .args in
-    let s = short (now (a .region)) (a .place) (a .e) (c .before .before .before .vendor-of .ensures) (c .before .before .name-of .ensures) (c .before .data-of .ensures) in
+    let s = short (a .y) (now (a .region)) (a .place) (a .e) (c .before .before .before .vendor-of-in .ensures) (c .before .before .name-of-in .ensures)
+    (c .before .data-of-in .ensures) in
     record { fits = omega (arith, s .bytes-short) }
 
 put-value-requires : tie.Need-put-value-requires
 put-value-requires c κs =
     let a = c .before .before .before .before .before .before .args in
-    let s = short (now (a .region)) (a .place) (a .e) (c .before .before .before .vendor-of .ensures) (c .before .before .name-of .ensures) (c .before .data-of .ensures) in
+    let s = short (a .y) (now (a .region)) (a .place) (a .e) (c .before .before .before .vendor-of-in .ensures) (c .before .before .name-of-in .ensures)
+    (c .before .data-of-in .ensures) in
     omega (arith, s .vendor-short, s .name-short)
 
 same-length : tie.Need-same-length
@@ -35,20 +37,20 @@ same-length c = search needs
 returns : tie.Need-returns
 returns c =
     let a = c .before .before .before .before .before .before .before .before .before .args in
-    let v = c .before .before .before .before .before .before .vendor-of .ensures in
-    let n = c .before .before .before .before .before .name-of .ensures in
-    let b = c .before .before .before .before .data-of .ensures in
-    let s = short (now (a .region)) (a .place) (a .e) v n b in
+    let v = c .before .before .before .before .before .before .vendor-of-in .ensures in
+    let n = c .before .before .before .before .before .name-of-in .ensures in
+    let b = c .before .before .before .before .data-of-in .ensures in
+    let s = short (a .y) (now (a .region)) (a .place) (a .e) v n b in
     let w = c .before .before .put-value .ensures in
-    (wrote-as (entry-line (now (a .region)) (a .place) (a .e) v n b) (w .0), omega (arith, w .1, s .vendor-short, s .name-same))
+    (wrote-as (entry-line (a .y) (now (a .region)) (a .place) (a .e) v n b) (w .0), omega (arith, w .1, s .vendor-short, s .name-same))
 
 pub put-entry-spec : {M : Type 1} → statement M
 put-entry-spec =
     tie.close
     (tie.spec
-    vendor-of-requires
-    name-of-requires
-    data-of-requires
+    vendor-of-in-requires
+    name-of-in-requires
+    data-of-in-requires
     cast-put-value
     put-value-requires
     same-length

@@ -14,17 +14,17 @@ use Rattle.report.proofs.put_lines.Statement.{statement}
 use Rattle.report.proofs.put_lines.Tie as tie
 
 abbrev Inv-loop : tie.InvT-loop
-Inv-loop region out₀ at next₀ here₀ out next here =
-    (next ≤ at + 2 * here) × (length out ≡ length out₀) × Written region at out₀ out next here
+Inv-loop y region out₀ at next₀ here₀ out next here =
+    (next ≤ at + 2 * here) × (length out ≡ length out₀) × Written y region at out₀ out next here
 
 abbrev μ-loop : tie.MeasureT-loop
-μ-loop region out₀ at next₀ here₀ out next here = length region - here
+μ-loop y region out₀ at next₀ here₀ out next here = length region - here
 
 loop-holds : tie.Need-loop-holds Inv-loop μ-loop
-loop-holds c = (omega arith, refl, written-none _ _ _)
+loop-holds c = (omega arith, refl, written-none _ _ _ _)
 
-next-value-requires : tie.Need-next-value-requires Inv-loop μ-loop
-next-value-requires c κs = search needs
+next-value-in-requires : tie.Need-next-value-in-requires Inv-loop μ-loop
+next-value-in-requires c κs = search needs
 
 enum-known-f : tie.Need-enum-known-f Inv-loop μ-loop
 enum-known-f c = search needs
@@ -38,43 +38,51 @@ same-length c = search needs
 returns : tie.Need-returns Inv-loop μ-loop
 returns c =
     let l = c .before .before .before in
-    let r = now (l .before .before .before .args .region) in
-    written-all (l .loop .inv .2) (listed-nothing r (l .loop .here) (sym (c .before .before .next-value .ensures) ∙ c .enum-told .given .1))
+    let a = l .before .before .before .args in
+    let r = now (a .region) in
+    written-all (a .y) (l .loop .inv .2) (listed-nothing (a .y) r (l .loop .here) (sym (c .before .before .next-value-in .ensures) ∙ c .enum-told .given .1))
 
 put-entry-requires : tie.Need-put-entry-requires Inv-loop μ-loop
 put-entry-requires c κs =
     let l = c .before .before .before .before .before in
-    let r = now (l .before .before .before .args .region) in
+    let a = l .before .before .before .args in
+    let r = now (a .region) in
     let t = c .before .before .f .given in
-    let x = next-value r (l .loop .here) (t .0 .0) (t .0 .1 .0) (sym (c .before .before .before .before .next-value .ensures) ∙ t .1) in
+    let x = next-value (a .y) r (l .loop .here) (t .0 .0) (t .0 .1 .0) (sym (c .before .before .before .before .next-value-in .ensures) ∙ t .1) in
     (omega (arith, l .loop .inv .0, x .from-here, x .fits), omega arith)
 
-behind-requires : tie.Need-behind-requires Inv-loop μ-loop
-behind-requires c κs =
+behind-in-requires : tie.Need-behind-in-requires Inv-loop μ-loop
+behind-in-requires c κs =
     let l = c .before .before .before .before .before .before .before .before in
-    let r = now (l .before .before .before .args .region) in
+    let a = l .before .before .before .args in
+    let r = now (a .region) in
     let t = c .before .before .before .before .before .f .given in
-    let x = next-value r (l .loop .here) (t .0 .0) (t .0 .1 .0) (sym (c .before .before .before .before .before .before .before .next-value .ensures) ∙ t .1) in
+    let x = next-value (a .y) r (l .loop .here) (t .0 .0) (t .0 .1 .0) (sym (c .before .before .before .before .before .before .before .next-value-in .ensures)
+    ∙ t .1) in
     omega (arith, x .fits)
 
 loop-less : tie.Need-loop-less Inv-loop μ-loop
 loop-less c =
     let l = c .before .before .before .before .before .before .before .before .before in
-    let r = now (l .before .before .before .args .region) in
+    let a = l .before .before .before .args in
+    let r = now (a .region) in
     let t = c .before .before .before .before .before .before .f .given in
-    let x = next-value r (l .loop .here) (t .0 .0) (t .0 .1 .0) (sym (c .before .before .before .before .before .before .before .before .next-value .ensures) ∙ t .1) in
-    omega (arith, c .behind .ensures, x .from-here, x .fits)
+    let x = next-value (a .y) r (l .loop .here) (t .0 .0) (t .0 .1 .0) (sym
+    (c .before .before .before .before .before .before .before .before .next-value-in .ensures) ∙ t .1) in
+    omega (arith, c .behind-in .ensures, x .from-here, x .fits)
 
 loop-again : tie.Need-loop-again Inv-loop μ-loop
 loop-again c =
     let l = c .before .before .before .before .before .before .before .before .before in
-    let r = now (l .before .before .before .args .region) in
+    let a = l .before .before .before .args in
+    let r = now (a .region) in
     let t = c .before .before .before .before .before .before .f .given in
-    let x = next-value r (l .loop .here) (t .0 .0) (t .0 .1 .0) (sym (c .before .before .before .before .before .before .before .before .next-value .ensures) ∙ t .1) in
+    let x = next-value (a .y) r (l .loop .here) (t .0 .0) (t .0 .1 .0) (sym
+    (c .before .before .before .before .before .before .before .before .next-value-in .ensures) ∙ t .1) in
     let w = c .before .before .before .put-entry in (
-      omega (arith, l .loop .inv .0, w .ensures .1, c .behind .ensures, x .from-here, x .size),
-      w .kept .0 ∙ l .loop .inv .1,
-      rw (c .behind .ensures) (written-line (l .loop .inv .2) x (w .ensures .0)),
+      omega (arith, l .loop .inv .0, w .ensures .1, c .behind-in .ensures, x .from-here, x .size),
+      w .kept .1 .0 ∙ l .loop .inv .1,
+      rw (c .behind-in .ensures) (written-line (a .y) (l .loop .inv .2) x (w .ensures .0)),
     )
 
 pub put-lines-spec : {M : Type 1} → statement M
@@ -84,12 +92,12 @@ put-lines-spec =
     Inv-loop
     μ-loop
     loop-holds
-    next-value-requires
+    next-value-in-requires
     enum-known-f
     enum-told
     same-length
     returns
     put-entry-requires
-    behind-requires
+    behind-in-requires
     loop-less
     loop-again)

@@ -12,8 +12,8 @@ use borrow.Author.Needs.{needs}
 use Rattle.report.proofs.put_store.Statement.{statement}
 use Rattle.report.proofs.put_store.Tie as tie
 
-count-requires : tie.Need-count-requires
-count-requires c κs = search needs
+count-in-requires : tie.Need-count-in-requires
+count-in-requires c κs = search needs
 
 cast-put-summary : tie.Need-cast-put-summary
 cast-put-summary c = search needs
@@ -23,8 +23,9 @@ cast-put-summary-2 c = search needs
 
 cast-put-summary-3 : tie.Need-cast-put-summary-3
 cast-put-summary-3 c =
-    let few = few-values (now (c .before .before .before .before .args .region)) in
-    record { fits = omega (arith, c .before .count .ensures) }
+    let a = c .before .before .before .before .args in
+    let few = few-values (a .y) (now (a .region)) in
+    record { fits = omega (arith, c .before .count-in .ensures) }
 
 put-summary-requires : tie.Need-put-summary-requires
 put-summary-requires c κs = search needs
@@ -38,14 +39,15 @@ same-length c = search needs
 returns : tie.Need-returns
 returns c =
     let a = c .before .before .before .before .before .before .before .before .before .before .before .args in
-    let live = ap (λ (n : ℕ). summaryLine (length (now (a .region))) (a .tail) n) (c .before .before .before .before .before .before .before .before .count .ensures) in
+    let live = ap (λ (n : ℕ). summaryLine (length (now (a .region))) (a .tail) n)
+    (c .before .before .before .before .before .before .before .before .count-in .ensures) in
     wrote-append (wrote-as live (c .before .before .before .before .before .before .put-summary .ensures .0)) (c .before .before .put-lines .ensures)
 
 pub put-store-spec : {M : Type 1} → statement M
 put-store-spec =
     tie.close
     (tie.spec
-    count-requires
+    count-in-requires
     cast-put-summary
     cast-put-summary-2
     cast-put-summary-3

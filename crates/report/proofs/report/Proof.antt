@@ -1,86 +1,27 @@
--- `report::report` meets its contract: the check tells the rule that is broken, or the parts of the store, whose text is the summary and the lines.
--- Assumes nothing.
-use Prim.Native.Nat.{ℕ}
-use native.Mathlib.Omega.{arith}
-use mathlib.Core.Path.{sym, ap, _∙_}
-use mathlib.Core.List.{List, _++_}
-use lib.ListN.{length}
+-- `report::report` meets its contract: an instance of `report_in`. Assumes nothing.
+use mathlib.Core.Path.{ap}
 use denote.Ref.{now}
-use Rattle.model.specs.Region.{entries, values}
+use Rattle.model.specs.declared.Layout.{Layout}
 use Rattle.output.proofs.Writing.{wrote-as}
-use Rattle.report.specs.Varlist.{summaryLine, valueLines, refusedLine}
-use Rattle.report.proofs.Accepted.{accepted, refused-text}
+use Rattle.report.specs.Varlist.{listText}
 use borrow.Author.Needs.{needs}
 use Rattle.report.proofs.report.Statement.{statement}
 use Rattle.report.proofs.report.Tie as tie
 
-check-call-requires : tie.Need-check-call-requires
-check-call-requires c κs = search needs
+authenticated-requires : tie.Need-authenticated-requires
+authenticated-requires c κs = search needs
 
-enum-known-c : tie.Need-enum-known-c
-enum-known-c c = search needs
-
-mul-cut : tie.Need-mul-cut
-mul-cut c =
-    let img = now (c .before .before .before .before .before .before .args .image) in
-    let t = c .before .c .given in
-    let x = accepted img (t .0 .0) (t .0 .1 .0) (sym (c .before .before .before .check-call .ensures) ∙ t .1) in
-    record { fits = omega (arith, x .few) }
-
-cut-requires : tie.Need-cut-requires
-cut-requires c κs = search needs
-
-put-store-requires : tie.Need-put-store-requires
-put-store-requires c κs =
-    let img = now (c .before .before .before .before .before .before .before .before .args .image) in
-    let t = c .before .before .before .c .given in
-    let x = accepted img (t .0 .0) (t .0 .1 .0) (sym (c .before .before .before .before .before .check-call .ensures) ∙ t .1) in
-    let n = ap length (c .before .cut .ensures ∙ x .cut) in
-    (x .tail-low, omega (arith, x .few, x .long, n))
-
-enum-known-c-2 : tie.Need-enum-known-c-2
-enum-known-c-2 c = search needs
-
-number-requires : tie.Need-number-requires
-number-requires c κs = search needs
-
-put-refused-requires : tie.Need-put-refused-requires
-put-refused-requires c κs = search needs
+report-in-requires : tie.Need-report-in-requires
+report-in-requires c κs = search needs
 
 same-length : tie.Need-same-length
 same-length c = search needs
 
 returns : tie.Need-returns
 returns c =
-    let img = now (c .before .before .before .before .before .before .before .before .before .before .before .args .image) in
-    let t = c .before .before .before .before .before .before .c .given in
-    let x = accepted img (t .0 .0) (t .0 .1 .0) (sym (c .before .before .before .before .before .before .before .before .check-call .ensures) ∙ t .1) in
-    let same = ap (λ (s : List ℕ). summaryLine (length s) (t .0 .1 .0) (length (values (entries s))) ++ valueLines (values (entries s))) (c .before .before .before .before .cut .ensures ∙ x .cut) in
-    wrote-as (same ∙ x .text) (c .before .before .put-store .ensures)
-
-same-length-2 : tie.Need-same-length-2
-same-length-2 c = search needs
-
-returns-2 : tie.Need-returns-2
-returns-2 c =
-    let img = now (c .before .before .before .before .before .before .before .before .before .before .before .args .image) in
-    let t = c .before .before .before .before .before .before .c2 .given in
-    let text = refused-text img (t .0 .0) (sym (c .before .before .before .before .before .before .before .before .check-call .ensures) ∙ t .1) in
-    wrote-as (ap refusedLine (c .before .before .before .number .ensures) ∙ text) (c .before .before .put-refused .ensures)
+    let a = c .before .before .before .before .before .before .before .args in
+    wrote-as (ap (λ (y : Layout). listText y (now (a .image))) (c .before .before .before .before .authenticated .ensures))
+    (c .before .before .report-in .ensures)
 
 pub report-spec : {M : Type 1} → statement M
-report-spec =
-    tie.close
-    (tie.spec
-    check-call-requires
-    enum-known-c
-    mul-cut
-    cut-requires
-    put-store-requires
-    enum-known-c-2
-    number-requires
-    put-refused-requires
-    same-length
-    returns
-    same-length-2
-    returns-2)
+report-spec = tie.close (tie.spec authenticated-requires report-in-requires same-length returns)

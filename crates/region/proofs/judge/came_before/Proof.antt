@@ -8,8 +8,8 @@ use lib.ListN.{length}
 use denote.Ref.{now}
 use Rattle.model.specs.Lists.{any}
 use Rattle.model.specs.Name.{keyed}
-use Rattle.model.specs.Region.{isEntry, entries}
-use Rattle.model.specs.Beside.{from}
+use Rattle.model.specs.Region.{isEntry, entriesIn}
+use Rattle.model.specs.Beside.{fromIn}
 use Rattle.model.proofs.Walking.{entries-from}
 use Rattle.region.specs.Marks.{upTo}
 use Rattle.region.proofs.Turns.{turned, stopped}
@@ -20,19 +20,19 @@ use Rattle.region.proofs.judge.came_before.Statement.{statement}
 use Rattle.region.proofs.judge.came_before.Tie as tie
 
 abbrev Inv-loop : tie.InvT-loop
-Inv-loop region end state name vendor at₀ at =
-    any (isEntry state (keyed name vendor)) (upTo end (entries region)) ≡ any (isEntry state (keyed name vendor)) (upTo end (from region at))
+Inv-loop y region end state name vendor at₀ at =
+    any (isEntry state (keyed name vendor)) (upTo end (entriesIn y region)) ≡ any (isEntry state (keyed name vendor)) (upTo end (fromIn y region at))
 
 abbrev μ-loop : tie.MeasureT-loop
-μ-loop region end state name vendor at₀ at = length region - at
+μ-loop y region end state name vendor at₀ at = length region - at
 
 loop-holds : tie.Need-loop-holds Inv-loop μ-loop
 loop-holds c =
     let a = c .before .before .before .args in
-    ap (λ l. any (isEntry (a .state) (keyed (now (a .name)) (now (a .vendor)))) (upTo (a .end) l)) (entries-from (now (a .region)))
+    ap (λ l. any (isEntry (a .state) (keyed (now (a .name)) (now (a .vendor)))) (upTo (a .end) l)) (entries-from (a .y) (now (a .region)))
 
-turn-requires : tie.Need-turn-requires Inv-loop μ-loop
-turn-requires c κs = search needs
+turn-in-requires : tie.Need-turn-in-requires Inv-loop μ-loop
+turn-in-requires c κs = search needs
 
 enum-known-t : tie.Need-enum-known-t Inv-loop μ-loop
 enum-known-t c = search needs
@@ -47,10 +47,10 @@ returns c =
     let a = l .before .before .before .before .args in
     let r = now (a .region) in
     sym (l .loop .inv ∙ ap (λ w. any (isEntry (a .state) (keyed (now (a .name)) (now (a .vendor)))) (upTo (a .end) w))
-    (stopped r (l .loop .at) (sym (c .before .before .turn .ensures) ∙ c .enum-told .given .1)))
+    (stopped (a .y) r (l .loop .at) (sym (c .before .before .turn-in .ensures) ∙ c .enum-told .given .1)))
 
-is-entry-requires : tie.Need-is-entry-requires Inv-loop μ-loop
-is-entry-requires c κs = search needs
+is-entry-in-requires : tie.Need-is-entry-in-requires Inv-loop μ-loop
+is-entry-in-requires c κs = search needs
 
 returns-2 : tie.Need-returns-2 Inv-loop μ-loop
 returns-2 c =
@@ -59,9 +59,9 @@ returns-2 c =
     let a = l .before .before .before .before .args in
     let t = b .t .given in
     let r = now (a .region) in
-    let w = turned r (l .loop .at) (t .0 .0) (t .0 .1 .0) (sym (b .before .before .turn .ensures) ∙ t .1) in
-    let up = up-next (a .end) (w .walk) (rw (at-place r (l .loop .at) (t .0 .0)) (b .before .before .before .loop-test .taken)) in
-    sym (l .loop .inv ∙ any-here up (isEntry (a .state) (keyed (now (a .name)) (now (a .vendor)))) (sym (c .before .is-entry .ensures) ∙ c .if1 .taken))
+    let w = turned (a .y) r (l .loop .at) (t .0 .0) (t .0 .1 .0) (sym (b .before .before .turn-in .ensures) ∙ t .1) in
+    let up = up-next (a .end) (w .walk) (rw (at-place (a .y) r (l .loop .at) (t .0 .0)) (b .before .before .before .loop-test .taken)) in
+    sym (l .loop .inv ∙ any-here up (isEntry (a .state) (keyed (now (a .name)) (now (a .vendor)))) (sym (c .before .is-entry-in .ensures) ∙ c .if1 .taken))
 
 loop-less : tie.Need-loop-less Inv-loop μ-loop
 loop-less c =
@@ -70,7 +70,7 @@ loop-less c =
     let a = l .before .before .before .before .args in
     let t = b .t .given in
     let r = now (a .region) in
-    let w = turned r (l .loop .at) (t .0 .0) (t .0 .1 .0) (sym (b .before .before .turn .ensures) ∙ t .1) in
+    let w = turned (a .y) r (l .loop .at) (t .0 .0) (t .0 .1 .0) (sym (b .before .before .turn-in .ensures) ∙ t .1) in
     omega arith
 
 loop-again : tie.Need-loop-again Inv-loop μ-loop
@@ -80,16 +80,16 @@ loop-again c =
     let a = l .before .before .before .before .args in
     let t = b .t .given in
     let r = now (a .region) in
-    let w = turned r (l .loop .at) (t .0 .0) (t .0 .1 .0) (sym (b .before .before .turn .ensures) ∙ t .1) in
-    let up = up-next (a .end) (w .walk) (rw (at-place r (l .loop .at) (t .0 .0)) (b .before .before .before .loop-test .taken)) in
-    l .loop .inv ∙ any-next up (isEntry (a .state) (keyed (now (a .name)) (now (a .vendor)))) (sym (c .before .is-entry .ensures) ∙ c .if1 .left)
+    let w = turned (a .y) r (l .loop .at) (t .0 .0) (t .0 .1 .0) (sym (b .before .before .turn-in .ensures) ∙ t .1) in
+    let up = up-next (a .end) (w .walk) (rw (at-place (a .y) r (l .loop .at) (t .0 .0)) (b .before .before .before .loop-test .taken)) in
+    l .loop .inv ∙ any-next up (isEntry (a .state) (keyed (now (a .name)) (now (a .vendor)))) (sym (c .before .is-entry-in .ensures) ∙ c .if1 .left)
 
 returns-3 : tie.Need-returns-3 Inv-loop μ-loop
 returns-3 c =
     let l = c .before in
     let a = l .before .before .before .before .args in
     let r = now (a .region) in
-    sym (l .loop .inv ∙ ap (any (isEntry (a .state) (keyed (now (a .name)) (now (a .vendor))))) (up-past r (l .loop .at) (a .end) (c .loop-test .left)))
+    sym (l .loop .inv ∙ ap (any (isEntry (a .state) (keyed (now (a .name)) (now (a .vendor))))) (up-past (a .y) r (l .loop .at) (a .end) (c .loop-test .left)))
 
 pub came-before-spec : {M : Type 1} → statement M
 came-before-spec =
@@ -98,11 +98,11 @@ came-before-spec =
     Inv-loop
     μ-loop
     loop-holds
-    turn-requires
+    turn-in-requires
     enum-known-t
     enum-told
     returns
-    is-entry-requires
+    is-entry-in-requires
     returns-2
     loop-less
     loop-again

@@ -7,7 +7,7 @@ use denote.Ref.{now}
 use borrow.Author.Needs.{needs}
 use Rattle.model.specs.Lists.{any}
 use Rattle.model.specs.Name.{keyed}
-use Rattle.model.specs.Region.{isEntry, entries}
+use Rattle.model.specs.Region.{isEntry, entriesIn}
 use Rattle.region.specs.Marks.{upTo}
 use Rattle.region.proofs.Scanning.{doubled-live, doubled-dead}
 use Rattle.region.proofs.judge.is_doubled.Statement.{statement}
@@ -19,11 +19,11 @@ is-noted-requires c κs = search needs
 is-live-requires : tie.Need-is-live-requires
 is-live-requires c κs = search needs
 
-name-of-requires : tie.Need-name-of-requires
-name-of-requires c κs = search needs
+name-of-in-requires : tie.Need-name-of-in-requires
+name-of-in-requires c κs = search needs
 
-vendor-of-requires : tie.Need-vendor-of-requires
-vendor-of-requires c κs = search needs
+vendor-of-in-requires : tie.Need-vendor-of-in-requires
+vendor-of-in-requires c κs = search needs
 
 came-before-requires : tie.Need-came-before-requires
 came-before-requires c κs = search needs
@@ -33,11 +33,12 @@ returns c =
     let b = c .before .before .before .before .before in
     let a = b .before .before .before .args in
     let r = now (a .region) in
-    let old = upTo (a .at) (entries r) in
+    let old = upTo (a .at) (entriesIn (a .y) r) in
     rw (sym (b .before .is-noted .ensures) ∙ b .if1 .taken)
     (c .came-before .ensures
-    ∙ ap₂ (λ (name vendor : List ℕ). any (isEntry (a .e .state) (keyed name vendor)) old) (c .before .before .name-of .ensures) (c .before .vendor-of .ensures)
-    ∙ sym (doubled-live r (a .at) (a .e) old (sym (c .before .before .before .before .is-live .ensures) ∙ c .before .before .before .if2 .taken)))
+    ∙ ap₂ (λ (name vendor : List ℕ). any (isEntry (a .e .state) (keyed name vendor)) old) (c .before .before .name-of-in .ensures)
+    (c .before .vendor-of-in .ensures)
+    ∙ sym (doubled-live (a .y) r (a .at) (a .e) old (sym (c .before .before .before .before .is-live .ensures) ∙ c .before .before .before .if2 .taken)))
 
 returns-2 : tie.Need-returns-2
 returns-2 c =
@@ -45,7 +46,7 @@ returns-2 c =
     let a = b .before .before .before .args in
     let r = now (a .region) in
     rw (sym (b .before .is-noted .ensures) ∙ b .if1 .taken)
-    (sym (doubled-dead r (a .at) (a .e) (upTo (a .at) (entries r)) (sym (c .before .is-live .ensures) ∙ c .if2 .left)))
+    (sym (doubled-dead (a .y) r (a .at) (a .e) (upTo (a .at) (entriesIn (a .y) r)) (sym (c .before .is-live .ensures) ∙ c .if2 .left)))
 
 returns-3 : tie.Need-returns-3
 returns-3 c = rw (sym (c .before .is-noted .ensures) ∙ c .if1 .left)
@@ -56,8 +57,8 @@ is-doubled-spec =
     (tie.spec
     is-noted-requires
     is-live-requires
-    name-of-requires
-    vendor-of-requires
+    name-of-in-requires
+    vendor-of-in-requires
     came-before-requires
     returns
     returns-2

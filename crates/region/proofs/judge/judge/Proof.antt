@@ -1,62 +1,22 @@
--- `region::judge::judge` meets its contract: it asks what *sound* asks, and then of the tail whether it is blank.
--- Assumes nothing.
-use mathlib.Core.Path.{sym, _∙_}
+-- `region::judge::judge` meets its contract: an instance of `judge_in`. Assumes nothing.
+use mathlib.Core.Path.{ap, _∙_}
 use denote.Ref.{now}
 use borrow.Author.Needs.{needs}
-use Rattle.region.proofs.Whole.{wrong-header, wrong-entry, doubled-name, all-right, unsound, sounds, scan-sound, scan-tail}
+use Rattle.model.specs.declared.Layout.{Layout}
+use Rattle.region.specs.Judge.{judgedIn}
 use Rattle.region.proofs.judge.judge.Statement.{statement}
 use Rattle.region.proofs.judge.judge.Tie as tie
 
-right-header-requires : tie.Need-right-header-requires
-right-header-requires c κs = search needs
+authenticated-requires : tie.Need-authenticated-requires
+authenticated-requires c κs = search needs
 
-scan-requires : tie.Need-scan-requires
-scan-requires c κs = search needs
-
-undoubled-requires : tie.Need-undoubled-requires
-undoubled-requires c κs = search needs
-
-cut-requires : tie.Need-cut-requires
-cut-requires c κs = search needs
-
-is-blank-requires : tie.Need-is-blank-requires
-is-blank-requires c κs = search needs
+judge-in-requires : tie.Need-judge-in-requires
+judge-in-requires c κs = search needs
 
 returns : tie.Need-returns
 returns c =
-    let r = now (c .before .before .before .before .before .before .before .before .before .args .region) in
-    let s = c .before .before .before .before .before .scan in
-    let h = sym (c .before .before .before .before .before .before .before .right-header .ensures) ∙ c .before .before .before .before .before .before .if1 .taken in
-    let each = scan-sound r (s .result) (s .ensures) ∙ c .before .before .before .before .if2 .taken in
-    let u = sym (c .before .before .before .undoubled .ensures) ∙ c .before .before .if3 .taken in
-    let t = scan-tail r (s .result) (s .ensures) each in
-    rw (sounds r (all-right r h each u), c .is-blank .ensures, c .before .cut .ensures, t)
-
-returns-2 : tie.Need-returns-2
-returns-2 c =
-    let r = now (c .before .before .before .before .before .before .before .args .region) in
-    sym (unsound r (doubled-name r (sym (c .before .undoubled .ensures) ∙ c .if3 .left)))
-
-returns-3 : tie.Need-returns-3
-returns-3 c =
-    let r = now (c .before .before .before .before .before .args .region) in
-    sym (unsound r (wrong-entry r (scan-sound r (c .before .scan .result) (c .before .scan .ensures) ∙ c .if2 .left)))
-
-returns-4 : tie.Need-returns-4
-returns-4 c =
-    let r = now (c .before .before .before .args .region) in
-    sym (unsound r (wrong-header r (sym (c .before .right-header .ensures) ∙ c .if1 .left)))
+    let a = c .before .before .before .args in
+    c .judge-in .ensures ∙ ap (λ (y : Layout). judgedIn y (now (a .region))) (c .before .authenticated .ensures)
 
 pub judge-spec : {M : Type 1} → statement M
-judge-spec =
-    tie.close
-    (tie.spec
-    right-header-requires
-    scan-requires
-    undoubled-requires
-    cut-requires
-    is-blank-requires
-    returns
-    returns-2
-    returns-3
-    returns-4)
+judge-spec = tie.close (tie.spec authenticated-requires judge-in-requires returns)

@@ -6,7 +6,7 @@ use mathlib.Core.Bool.{true, false, and-true, and-false}
 use denote.Ref.{now}
 use borrow.Author.Needs.{needs}
 use Rattle.model.specs.Name.{wellNamed}
-use Rattle.region.specs.Walk.{entryAt}
+use Rattle.region.specs.Walk.{entryAs}
 use Rattle.region.proofs.Judging.{right-dead, right-empty, right-large, right-name, front-name}
 use Rattle.region.proofs.judge.right_live.Statement.{statement}
 use Rattle.region.proofs.judge.right_live.Tie as tie
@@ -18,13 +18,13 @@ returns : tie.Need-returns
 returns c =
     let a = c .before .before .before .before .before .args in
     let live = sym (c .before .before .before .is-live .ensures) ∙ c .before .before .if1 .taken in
-    sym (right-empty (now (a .s)) 0 (a .e) live (c .if2 .taken))
+    sym (right-empty (a .y) (now (a .s)) 0 (a .e) live (c .if2 .taken))
 
 returns-2 : tie.Need-returns-2
 returns-2 c =
     let a = c .before .before .before .before .before .before .before .args in
     let live = sym (c .before .before .before .before .before .is-live .ensures) ∙ c .before .before .before .before .if1 .taken in
-    sym (right-large (now (a .s)) 0 (a .e) live (c .if3 .taken))
+    sym (right-large (a .y) (now (a .s)) 0 (a .e) live (c .if3 .taken))
 
 stored-attributes-requires : tie.Need-stored-attributes-requires
 stored-attributes-requires c κs = search needs
@@ -38,25 +38,25 @@ is-named-requires c κs = search needs
 returns-3 : tie.Need-returns-3
 returns-3 c =
     let a = c .before .before .before .before .before .before .before .before .before .before .before .args in
-    let name = entryAt (now (a .s)) 0 (a .e) .name in
+    let name = entryAs (a .y) (now (a .s)) 0 (a .e) .name in
     let live = sym (c .before .before .before .before .before .before .before .before .before .is-live .ensures) ∙ c .before .before .before .before .before .before .before .before .if1 .taken in
     let stored = sym (c .before .before .before .stored-attributes .ensures) ∙ c .before .before .if4 .taken in
     c .is-named .ensures
-    ∙ ap wellNamed (c .before .name-of .ensures ∙ front-name (now (a .s)) (a .e))
-    ∙ sym (right-name (now (a .s)) 0 (a .e) live (omega arith) (omega arith) true stored ∙ and-true (wellNamed name))
+    ∙ ap wellNamed (c .before .name-of .ensures ∙ front-name (a .y) (now (a .s)) (a .e))
+    ∙ sym (right-name (a .y) (now (a .s)) 0 (a .e) live (omega arith) (omega arith) true stored ∙ and-true (wellNamed name))
 
 returns-4 : tie.Need-returns-4
 returns-4 c =
     let a = c .before .before .before .before .before .before .before .before .before .args in
-    let name = entryAt (now (a .s)) 0 (a .e) .name in
+    let name = entryAs (a .y) (now (a .s)) 0 (a .e) .name in
     let live = sym (c .before .before .before .before .before .before .before .is-live .ensures) ∙ c .before .before .before .before .before .before .if1 .taken in
     let stored = sym (c .before .stored-attributes .ensures) ∙ c .if4 .left in
-    sym (right-name (now (a .s)) 0 (a .e) live (omega arith) (omega arith) false stored ∙ and-false (wellNamed name))
+    sym (right-name (a .y) (now (a .s)) 0 (a .e) live (omega arith) (omega arith) false stored ∙ and-false (wellNamed name))
 
 returns-5 : tie.Need-returns-5
 returns-5 c =
     let a = c .before .before .before .args in
-    sym (right-dead (now (a .s)) 0 (a .e) (sym (c .before .is-live .ensures) ∙ c .if1 .left))
+    sym (right-dead (a .y) (now (a .s)) 0 (a .e) (sym (c .before .is-live .ensures) ∙ c .if1 .left))
 
 pub right-live-spec : {M : Type 1} → statement M
 right-live-spec =

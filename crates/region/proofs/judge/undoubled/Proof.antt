@@ -13,21 +13,21 @@ use Rattle.region.proofs.judge.undoubled.Statement.{statement}
 use Rattle.region.proofs.judge.undoubled.Tie as tie
 
 abbrev Inv-loop : tie.InvT-loop
-Inv-loop region noted₀ at₀ noted at = Passed region noted at
+Inv-loop y region noted₀ at₀ noted at = Passed y region noted at
 
 abbrev μ-loop : tie.MeasureT-loop
-μ-loop region noted₀ at₀ noted at = length region - at
+μ-loop y region noted₀ at₀ noted at = length region - at
 
 no-marks-requires : tie.Need-no-marks-requires Inv-loop μ-loop
 no-marks-requires c κs = search needs
 
 loop-holds : tie.Need-loop-holds Inv-loop μ-loop
 loop-holds c =
-    let r = now (c .before .before .args .region) in
-    rw (c .no-marks .ensures) (begin r)
+    let a = c .before .before .args in
+    rw (c .no-marks .ensures) (begin (a .y) (now (a .region)))
 
-turn-requires : tie.Need-turn-requires Inv-loop μ-loop
-turn-requires c κs = search needs
+turn-in-requires : tie.Need-turn-in-requires Inv-loop μ-loop
+turn-in-requires c κs = search needs
 
 enum-known-t : tie.Need-enum-known-t Inv-loop μ-loop
 enum-known-t c = search needs
@@ -38,37 +38,41 @@ enum-told c = search needs
 returns : tie.Need-returns Inv-loop μ-loop
 returns c =
     let l = c .before .before .before in
-    let r = now (l .before .before .before .args .region) in
-    sym (ended r (l .loop .noted) (l .loop .at) (l .loop .inv) (sym (c .before .before .turn .ensures) ∙ c .enum-told .given .1))
+    let a = l .before .before .before .args in
+    let r = now (a .region) in
+    sym (ended (a .y) r (l .loop .noted) (l .loop .at) (l .loop .inv) (sym (c .before .before .turn-in .ensures) ∙ c .enum-told .given .1))
 
 sub-mark-of : tie.Need-sub-mark-of Inv-loop μ-loop
 sub-mark-of c =
     let b = c .before in
     let l = b .before .before .before in
-    let r = now (l .before .before .before .args .region) in
+    let a = l .before .before .before .args in
+    let r = now (a .region) in
     let t = b .t .given in
-    let found = sym (b .before .before .turn .ensures) ∙ t .1 in
-    let w = turned r (l .loop .at) (t .0 .0) (t .0 .1 .0) found in
+    let found = sym (b .before .before .turn-in .ensures) ∙ t .1 in
+    let w = turned (a .y) r (l .loop .at) (t .0 .0) (t .0 .1 .0) found in
     omega arith
 
 part-mark-of-start : tie.Need-part-mark-of-start Inv-loop μ-loop
 part-mark-of-start c =
     let b = c .before in
     let l = b .before .before .before in
-    let r = now (l .before .before .before .args .region) in
+    let a = l .before .before .before .args in
+    let r = now (a .region) in
     let t = b .t .given in
-    let found = sym (b .before .before .turn .ensures) ∙ t .1 in
-    let w = turned r (l .loop .at) (t .0 .0) (t .0 .1 .0) found in
+    let found = sym (b .before .before .turn-in .ensures) ∙ t .1 in
+    let w = turned (a .y) r (l .loop .at) (t .0 .0) (t .0 .1 .0) found in
     omega arith
 
 part-mark-of-end : tie.Need-part-mark-of-end Inv-loop μ-loop
 part-mark-of-end c =
     let b = c .before in
     let l = b .before .before .before in
-    let r = now (l .before .before .before .args .region) in
+    let a = l .before .before .before .args in
+    let r = now (a .region) in
     let t = b .t .given in
-    let found = sym (b .before .before .turn .ensures) ∙ t .1 in
-    let w = turned r (l .loop .at) (t .0 .0) (t .0 .1 .0) found in
+    let found = sym (b .before .before .turn-in .ensures) ∙ t .1 in
+    let w = turned (a .y) r (l .loop .at) (t .0 .0) (t .0 .1 .0) found in
     omega arith
 
 mark-of-requires : tie.Need-mark-of-requires Inv-loop μ-loop
@@ -84,12 +88,13 @@ returns-2 : tie.Need-returns-2 Inv-loop μ-loop
 returns-2 c =
     let b = c .before .before .before .before .before in
     let l = b .before .before .before in
-    let r = now (l .before .before .before .args .region) in
+    let a = l .before .before .before .args in
+    let r = now (a .region) in
     let t = b .t .given in
-    let found = sym (b .before .before .turn .ensures) ∙ t .1 in
+    let found = sym (b .before .before .turn-in .ensures) ∙ t .1 in
     let m = c .before .before .mark-of .result in
     let h = sym (c .before .is-doubled .ensures) ∙ c .if1 .taken in
-    sym (doubled r (l .loop .noted) (l .loop .at) (l .loop .inv) (t .0 .0) (t .0 .1 .0) found (getD (l .loop .noted) (m .place) 0) (m .sign) h)
+    sym (doubled (a .y) r (l .loop .noted) (l .loop .at) (l .loop .inv) (t .0 .0) (t .0 .1 .0) found (getD (l .loop .noted) (m .place) 0) (m .sign) h)
 
 array-read-note : tie.Need-array-read-note Inv-loop μ-loop
 array-read-note c = search needs
@@ -104,24 +109,26 @@ loop-less : tie.Need-loop-less Inv-loop μ-loop
 loop-less c =
     let b = c .before .before .before .before .before .before in
     let l = b .before .before .before in
-    let r = now (l .before .before .before .args .region) in
+    let a = l .before .before .before .args in
+    let r = now (a .region) in
     let t = b .t .given in
-    let found = sym (b .before .before .turn .ensures) ∙ t .1 in
-    let w = turned r (l .loop .at) (t .0 .0) (t .0 .1 .0) found in
+    let found = sym (b .before .before .turn-in .ensures) ∙ t .1 in
+    let w = turned (a .y) r (l .loop .at) (t .0 .0) (t .0 .1 .0) found in
     omega arith
 
 loop-again : tie.Need-loop-again Inv-loop μ-loop
 loop-again c =
     let b = c .before .before .before .before .before .before in
     let l = b .before .before .before in
-    let r = now (l .before .before .before .args .region) in
+    let a = l .before .before .before .args in
+    let r = now (a .region) in
     let t = b .t .given in
-    let found = sym (b .before .before .turn .ensures) ∙ t .1 in
+    let found = sym (b .before .before .turn-in .ensures) ∙ t .1 in
     let m = c .before .before .before .mark-of .result in
     let e = c .before .before .before .mark-of .ensures in
-    let q = e .0 ∙ here-mark r (l .loop .at) (t .0 .0) in
+    let q = e .0 ∙ here-mark (a .y) r (l .loop .at) (t .0 .0) in
     let h = sym (c .before .before .is-doubled .ensures) ∙ c .before .if1 .left in
-    rw (c .note .ensures) (next r (l .loop .noted) (l .loop .at) (l .loop .inv) (t .0 .0) (t .0 .1 .0) found m q (e .1) h)
+    rw (c .note .ensures) (next (a .y) r (l .loop .noted) (l .loop .at) (l .loop .inv) (t .0 .0) (t .0 .1 .0) found m q (e .1) h)
 
 pub undoubled-spec : {M : Type 1} → statement M
 undoubled-spec =
@@ -131,7 +138,7 @@ undoubled-spec =
     μ-loop
     no-marks-requires
     loop-holds
-    turn-requires
+    turn-in-requires
     enum-known-t
     enum-told
     returns

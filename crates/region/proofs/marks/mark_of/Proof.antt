@@ -17,11 +17,11 @@ key-of-requires c κs = search needs
 weighed-requires : tie.Need-weighed-requires
 weighed-requires c κs = search needs
 
-add-t10 : tie.Need-add-t10
-add-t10 c = search needs
+add-t11 : tie.Need-add-t11
+add-t11 c = search needs
 
-cast-t11 : tie.Need-cast-t11
-cast-t11 c = search needs
+cast-t12 : tie.Need-cast-t12
+cast-t12 c = search needs
 
 returns : tie.Need-returns
 unfolding keyMark
@@ -30,16 +30,16 @@ returns c =
     let a = b .before .before .args in
     let key = c .before .key-of .ensures in
     let sum = c .weighed .ensures ∙ ap weighed key in
-    (rw (live-mark (now (a .s)) (a .e) (sym (b .is-live .ensures) ∙ c .before .before .if1 .taken), sum), omega arith)
+    (rw (live-mark (a .y) (now (a .s)) (a .e) (sym (b .is-live .ensures) ∙ c .before .before .if1 .taken), sum), omega arith)
 
 returns-2 : tie.Need-returns-2
 unfolding deadMark
 returns-2 c =
     let b = c .before in
     let a = b .before .before .args in
-    (sym (dead-mark (now (a .s)) (a .e) (sym (b .is-live .ensures) ∙ c .if1 .left)), omega arith)
+    (sym (dead-mark (a .y) (now (a .s)) (a .e) (sym (b .is-live .ensures) ∙ c .if1 .left)), omega arith)
 
 pub mark-of-spec : {M : Type 1} → statement M
 mark-of-spec =
     tie.close
-    (tie.spec is-live-requires key-of-requires weighed-requires add-t10 cast-t11 returns returns-2)
+    (tie.spec is-live-requires key-of-requires weighed-requires add-t11 cast-t12 returns returns-2)

@@ -1,24 +1,22 @@
--- `region::walk::data_of` meets its contract: the part handed on is the rest of the region, from which the definition reads too. Assumes nothing.
+-- `region::walk::data_of` meets its contract: an instance of `data_of_in`. Assumes nothing.
 use mathlib.Core.Path.{ap, _∙_}
 use denote.Ref.{now}
 use borrow.Author.Needs.{needs}
-use Rattle.model.specs.Walk.{placed}
-use Rattle.layout.specs.Head.{dataIn}
-use Rattle.region.specs.Walk.{entryAt}
+use Rattle.model.specs.declared.Layout.{Layout}
+use Rattle.region.specs.Walk.{entryAs}
 use Rattle.region.proofs.walk.data_of.Statement.{statement}
 use Rattle.region.proofs.walk.data_of.Tie as tie
 
-from-requires : tie.Need-from-requires
-from-requires c κs = search needs
+authenticated-requires : tie.Need-authenticated-requires
+authenticated-requires c κs = search needs
 
-data-of-requires : tie.Need-data-of-requires
-data-of-requires c κs = search needs
+data-of-in-requires : tie.Need-data-of-in-requires
+data-of-in-requires c κs = search needs
 
 returns : tie.Need-returns
-unfolding entryAt dataIn placed
 returns c =
     let a = c .before .before .before .args in
-    c .data-of .ensures ∙ ap (λ s. dataIn s (a .e)) (c .before .from .ensures)
+    c .data-of-in .ensures ∙ ap (λ (y : Layout). entryAs y (now (a .region)) (a .at) (a .e) .bytes) (c .before .authenticated .ensures)
 
 pub data-of-spec : {M : Type 1} → statement M
-data-of-spec = tie.close (tie.spec from-requires data-of-requires returns)
+data-of-spec = tie.close (tie.spec authenticated-requires data-of-in-requires returns)

@@ -6,20 +6,31 @@ use borrow.Author.Tests.{eq-eqb, ne-eqb}
 use Rattle.region.proofs.walk.stride.Statement.{statement}
 use Rattle.region.proofs.walk.stride.Tie as tie
 
+header-requires : tie.Need-header-requires
+header-requires c κs = search needs
+
 returns : tie.Need-returns
-returns c = simp (eq-eqb _ _ (c .if1 .taken)) (omega arith)
+returns c = simp (eq-eqb _ _ (c .before .if1 .taken)) (omega (arith, c .header .ensures .0, c .header .ensures .1))
 
-cast-entry-size : tie.Need-cast-entry-size
-cast-entry-size c = search needs
+cast-entry-size-in : tie.Need-cast-entry-size-in
+cast-entry-size-in c = search needs
 
-cast-entry-size-2 : tie.Need-cast-entry-size-2
-cast-entry-size-2 c = search needs
+cast-entry-size-in-2 : tie.Need-cast-entry-size-in-2
+cast-entry-size-in-2 c = search needs
 
-entry-size-requires : tie.Need-entry-size-requires
-entry-size-requires c κs = search needs
+entry-size-in-requires : tie.Need-entry-size-in-requires
+entry-size-in-requires c κs = search needs
 
 returns-2 : tie.Need-returns-2
-returns-2 c = simp (ne-eqb _ _ (c .before .before .before .if1 .left), c .entry-size .ensures) (omega arith)
+returns-2 c = simp (ne-eqb _ _ (c .before .before .before .if1 .left), c .entry-size-in .ensures) (omega arith)
 
 pub stride-spec : {M : Type 1} → statement M
-stride-spec = tie.close (tie.spec returns cast-entry-size cast-entry-size-2 entry-size-requires returns-2)
+stride-spec =
+    tie.close
+    (tie.spec
+    header-requires
+    returns
+    cast-entry-size-in
+    cast-entry-size-in-2
+    entry-size-in-requires
+    returns-2)

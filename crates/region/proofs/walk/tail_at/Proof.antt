@@ -1,70 +1,22 @@
--- `region::walk::tail_at` meets its contract. The loop's invariant: the walk from 28 ends where the walk from here on does. What is left of the region falls.
--- Assumes nothing.
-use Prim.Native.Nat.{_-_}
-use native.Mathlib.Omega.{arith}
-use mathlib.Core.Path.{_≡_, refl, sym, ap, _∙_}
-use lib.ListN.{length}
+-- `region::walk::tail_at` meets its contract: an instance of `tail_at_in`. Assumes nothing.
+use mathlib.Core.Path.{ap, _∙_}
 use denote.Ref.{now}
 use borrow.Author.Needs.{needs}
-use Rattle.model.specs.Walk.{walkEnd}
-use Rattle.model.specs.Region.{entries, tailAt}
-use Rattle.model.specs.Beside.{from}
-use Rattle.region.proofs.Turns.{turned, stopped}
+use Rattle.model.specs.declared.Layout.{Layout}
+use Rattle.model.specs.Region.{tailAtIn}
 use Rattle.region.proofs.walk.tail_at.Statement.{statement}
 use Rattle.region.proofs.walk.tail_at.Tie as tie
 
-abbrev Inv-loop : tie.InvT-loop
-Inv-loop region at₀ at = tailAt region ≡ walkEnd at (from region at)
+authenticated-requires : tie.Need-authenticated-requires
+authenticated-requires c κs = search needs
 
-abbrev μ-loop : tie.MeasureT-loop
-μ-loop region at₀ at = length region - at
+tail-at-in-requires : tie.Need-tail-at-in-requires
+tail-at-in-requires c κs = search needs
 
-loop-holds : tie.Need-loop-holds Inv-loop μ-loop
-unfolding tailAt entries from
-loop-holds c = refl
-
-turn-requires : tie.Need-turn-requires Inv-loop μ-loop
-turn-requires c κs = search needs
-
-enum-known-t : tie.Need-enum-known-t Inv-loop μ-loop
-enum-known-t c = search needs
-
-enum-told : tie.Need-enum-told Inv-loop μ-loop
-enum-told c = search needs
-
-returns : tie.Need-returns Inv-loop μ-loop
-unfolding walkEnd
+returns : tie.Need-returns
 returns c =
-    let l = c .before .before .before in
-    let r = now (l .before .before .args .region) in
-    sym (l .loop .inv ∙ ap (walkEnd (l .loop .at)) (stopped r (l .loop .at) (sym (c .before .before .turn .ensures) ∙ c .enum-told .given .1)))
-
-loop-less : tie.Need-loop-less Inv-loop μ-loop
-loop-less c =
-    let l = c .before .before .before .before in
-    let t = c .before .t .given in
-    let w = turned (now (l .before .before .args .region)) (l .loop .at) (t .0 .0) (t .0 .1 .0) (sym (c .before .before .before .turn .ensures) ∙ t .1) in
-    omega arith
-
-loop-again : tie.Need-loop-again Inv-loop μ-loop
-unfolding walkEnd
-loop-again c =
-    let l = c .before .before .before .before in
-    let r = now (l .before .before .args .region) in
-    let t = c .before .t .given in
-    let w = turned r (l .loop .at) (t .0 .0) (t .0 .1 .0) (sym (c .before .before .before .turn .ensures) ∙ t .1) in
-    l .loop .inv ∙ ap (walkEnd (l .loop .at)) (w .walk) ∙ ap (λ k. walkEnd k (from r (t .0 .1 .0))) (w .next)
+    let a = c .before .before .before .args in
+    c .tail-at-in .ensures ∙ ap (λ (y : Layout). tailAtIn y (now (a .region))) (c .before .authenticated .ensures)
 
 pub tail-at-spec : {M : Type 1} → statement M
-tail-at-spec =
-    tie.close
-    (tie.spec
-    Inv-loop
-    μ-loop
-    loop-holds
-    turn-requires
-    enum-known-t
-    enum-told
-    returns
-    loop-less
-    loop-again)
+tail-at-spec = tie.close (tie.spec authenticated-requires tail-at-in-requires returns)

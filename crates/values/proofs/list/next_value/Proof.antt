@@ -1,83 +1,26 @@
--- `values::list::next_value` meets its contract. The loop's invariant: the first value from the start on is the first from here on.
--- What is left of the region falls.
+-- `values::list::next_value` meets its contract: `next_value_in` of the authenticated form.
 -- Assumes nothing.
-use Prim.Native.Nat.{_-_}
-use native.Mathlib.Omega.{arith}
-use mathlib.Core.Path.{_≡_, refl, sym, _∙_}
-use lib.ListN.{length}
+use mathlib.Core.Path.{ap, _∙_}
 use denote.Ref.{now}
-use borrow.Author.Needs.{needs}
+use Rattle.model.specs.declared.Layout.{Layout}
 use Rattle.model.specs.Lists.{first}
-use Rattle.model.specs.Region.{entries, isValue}
-use Rattle.model.specs.Beside.{from}
-use Rattle.region.proofs.Turns.{turned, stopped}
+use Rattle.model.specs.Region.{entriesIn, isValue}
+use Rattle.model.specs.Beside.{fromIn}
 use Rattle.values.specs.Found.{foundOf}
-use Rattle.values.proofs.Finds.{found-none, found-here, found-next}
+use borrow.Author.Needs.{needs}
 use Rattle.values.proofs.list.next_value.Statement.{statement}
 use Rattle.values.proofs.list.next_value.Tie as tie
 
-abbrev Inv-loop : tie.InvT-loop
-Inv-loop region at here₀ here = foundOf (first (isValue (entries region)) (from region at)) ≡ foundOf (first (isValue (entries region)) (from region here))
+authenticated-requires : tie.Need-authenticated-requires
+authenticated-requires c κs = search needs
 
-abbrev μ-loop : tie.MeasureT-loop
-μ-loop region at here₀ here = length region - here
+next-value-in-requires : tie.Need-next-value-in-requires
+next-value-in-requires c κs = search needs
 
-loop-holds : tie.Need-loop-holds Inv-loop μ-loop
-loop-holds c = refl
-
-turn-requires : tie.Need-turn-requires Inv-loop μ-loop
-turn-requires c κs = search needs
-
-enum-known-t : tie.Need-enum-known-t Inv-loop μ-loop
-enum-known-t c = search needs
-
-enum-told : tie.Need-enum-told Inv-loop μ-loop
-enum-told c = search needs
-
-returns : tie.Need-returns Inv-loop μ-loop
-returns c =
-    let l = c .before .before .before in
-    let r = now (l .before .before .args .region) in
-    sym (l .loop .inv ∙ found-none r (l .loop .here) (isValue (entries r)) (stopped r (l .loop .here) (sym (c .before .before .turn .ensures) ∙ c .enum-told .given .1)))
-
-is-value-requires : tie.Need-is-value-requires Inv-loop μ-loop
-is-value-requires c κs = search needs
-
-returns-2 : tie.Need-returns-2 Inv-loop μ-loop
-returns-2 c =
-    let l = c .before .before .before .before .before .before in
-    let r = now (l .before .before .args .region) in
-    let t = c .before .before .before .t .given in
-    let w = turned r (l .loop .here) (t .0 .0) (t .0 .1 .0) (sym (c .before .before .before .before .before .turn .ensures) ∙ t .1) in
-    sym (l .loop .inv ∙ found-here r (l .loop .here) (t .0 .0) (t .0 .1 .0) w (isValue (entries r)) (sym (c .before .is-value .ensures) ∙ c .if1 .taken))
-
-loop-less : tie.Need-loop-less Inv-loop μ-loop
-loop-less c =
-    let l = c .before .before .before .before .before .before in
-    let t = c .before .before .before .t .given in
-    let w = turned (now (l .before .before .args .region)) (l .loop .here) (t .0 .0) (t .0 .1 .0) (sym (c .before .before .before .before .before .turn .ensures) ∙ t .1) in
-    omega arith
-
-loop-again : tie.Need-loop-again Inv-loop μ-loop
-loop-again c =
-    let l = c .before .before .before .before .before .before in
-    let r = now (l .before .before .args .region) in
-    let t = c .before .before .before .t .given in
-    let w = turned r (l .loop .here) (t .0 .0) (t .0 .1 .0) (sym (c .before .before .before .before .before .turn .ensures) ∙ t .1) in
-    l .loop .inv ∙ found-next r (l .loop .here) (t .0 .0) (t .0 .1 .0) w (isValue (entries r)) (sym (c .before .is-value .ensures) ∙ c .if1 .left)
+returns : tie.Need-returns
+returns c = let a = c .before .before .before .args in
+    c .next-value-in .ensures ∙ ap (λ (y : Layout). foundOf (first (isValue (entriesIn y (now (a .region)))) (fromIn y (now (a .region)) (a .at))))
+    (c .before .authenticated .ensures)
 
 pub next-value-spec : {M : Type 1} → statement M
-next-value-spec =
-    tie.close
-    (tie.spec
-    Inv-loop
-    μ-loop
-    loop-holds
-    turn-requires
-    enum-known-t
-    enum-told
-    returns
-    is-value-requires
-    returns-2
-    loop-less
-    loop-again)
+next-value-spec = tie.close (tie.spec authenticated-requires next-value-in-requires returns)

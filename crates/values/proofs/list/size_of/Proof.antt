@@ -5,6 +5,7 @@ use mathlib.Core.Path.{ap}
 use lib.ListN.{length}
 use denote.Ref.{now}
 use borrow.Author.Needs.{needs}
+use Rattle.model.specs.Layout.{authenticated}
 use Rattle.values.proofs.Sizes.{lengths}
 use Rattle.values.proofs.list.size_of.Statement.{statement}
 use Rattle.values.proofs.list.size_of.Tie as tie
@@ -18,7 +19,7 @@ data-of-requires c κs = search needs
 entry-size-requires : tie.Need-entry-size-requires
 entry-size-requires c κs =
     let a = c .before .before .before .args in
-    let l = lengths (now (a .region)) (a .at) (a .e) in
+    let l = lengths authenticated (now (a .region)) (a .at) (a .e) in
     let n = ap length (c .before .name-of .ensures) in
     let d = ap length (c .data-of .ensures) in
     omega arith

@@ -7,8 +7,9 @@ use mathlib.Core.Path.{_≡_, sym, ap, _∙_}
 use lib.ListN.{length}
 use denote.Ref.{now}
 use borrow.Author.Needs.{needs}
+use Rattle.model.specs.Layout.{authenticated}
 use Rattle.model.specs.Region.{entries, values}
-use Rattle.model.specs.Change.{entrySizes, spaceOf}
+use Rattle.model.specs.Change.{entrySizesIn, spaceIn, entrySizes, spaceOf}
 use Rattle.region.proofs.Turns.{turned, stopped}
 use Rattle.values.proofs.Listed.{listed, listed-all, listed-none, listed-next}
 use Rattle.values.proofs.Sizes.{size-next, size-within, sizes-value}
@@ -22,8 +23,8 @@ abbrev μ-loop : tie.MeasureT-loop
 μ-loop region sum₀ at₀ sum at = length region - at
 
 loop-holds : tie.Need-loop-holds Inv-loop μ-loop
-unfolding spaceOf
-loop-holds c = (ap spaceOf (listed-all (now (c .before .args .region))), omega arith)
+unfolding spaceIn
+loop-holds c = (ap spaceOf (listed-all authenticated (now (c .before .args .region))), omega arith)
 
 turn-requires : tie.Need-turn-requires Inv-loop μ-loop
 turn-requires c κs = search needs
@@ -35,11 +36,12 @@ enum-told : tie.Need-enum-told Inv-loop μ-loop
 enum-told c = search needs
 
 returns : tie.Need-returns Inv-loop μ-loop
-unfolding entrySizes
+unfolding entrySizesIn
 returns c =
     let l = c .before .before .before in
     let r = now (l .before .before .args .region) in
-    let end = ap entrySizes (listed-none r (l .loop .at) (stopped r (l .loop .at) (sym (c .before .before .turn .ensures) ∙ c .enum-told .given .1))) in
+    let end = ap entrySizes (listed-none authenticated r (l .loop .at) (stopped authenticated r (l .loop .at)
+    (sym (c .before .before .turn .ensures) ∙ c .enum-told .given .1))) in
     omega (arith, l .loop .inv .0)
 
 is-value-requires : tie.Need-is-value-requires Inv-loop μ-loop
@@ -53,15 +55,16 @@ add-sum c =
     let l = c .before .before .before .before .before .before .before in
     let r = now (l .before .before .args .region) in
     let t = c .before .before .before .before .t .given in
-    let w = turned r (l .loop .at) (t .0 .0) (t .0 .1 .0) (sym (c .before .before .before .before .before .before .turn .ensures) ∙ t .1) in
-    let most = size-within r (l .loop .at) (t .0 .0) (t .0 .1 .0) w in
+    let w = turned authenticated r (l .loop .at) (t .0 .0) (t .0 .1 .0) (sym (c .before .before .before .before .before .before .turn .ensures) ∙ t .1) in
+    let most = size-within authenticated r (l .loop .at) (t .0 .0) (t .0 .1 .0) w in
     record { fits = omega (arith, l .loop .inv .1, c .size-of .ensures) }
 
 loop-less : tie.Need-loop-less Inv-loop μ-loop
 loop-less c =
     let l = c .before .before .before .before .before .before .before in
     let t = c .before .before .before .before .t .given in
-    let w = turned (now (l .before .before .args .region)) (l .loop .at) (t .0 .0) (t .0 .1 .0) (sym (c .before .before .before .before .before .before .turn .ensures) ∙ t .1) in
+    let w = turned authenticated (now (l .before .before .args .region)) (l .loop .at) (t .0 .0) (t .0 .1 .0)
+    (sym (c .before .before .before .before .before .before .turn .ensures) ∙ t .1) in
     omega arith
 
 loop-again : tie.Need-loop-again Inv-loop μ-loop
@@ -69,16 +72,17 @@ loop-again c =
     let l = c .before .before .before .before .before .before .before in
     let r = now (l .before .before .args .region) in
     let t = c .before .before .before .before .t .given in
-    let w = turned r (l .loop .at) (t .0 .0) (t .0 .1 .0) (sym (c .before .before .before .before .before .before .turn .ensures) ∙ t .1) in
-    let here = sizes-value r (l .loop .at) (t .0 .0) (t .0 .1 .0) w (sym (c .before .before .is-value .ensures) ∙ c .before .if1 .taken) in
-    let most = size-next r (l .loop .at) (t .0 .0) (t .0 .1 .0) w in
+    let w = turned authenticated r (l .loop .at) (t .0 .0) (t .0 .1 .0) (sym (c .before .before .before .before .before .before .turn .ensures) ∙ t .1) in
+    let here = sizes-value authenticated r (l .loop .at) (t .0 .0) (t .0 .1 .0) w (sym (c .before .before .is-value .ensures) ∙ c .before .if1 .taken) in
+    let most = size-next authenticated r (l .loop .at) (t .0 .0) (t .0 .1 .0) w in
     (omega (arith, l .loop .inv .0, c .size-of .ensures), omega (arith, l .loop .inv .1, c .size-of .ensures))
 
 loop-less-2 : tie.Need-loop-less-2 Inv-loop μ-loop
 loop-less-2 c =
     let l = c .before .before .before .before .before .before in
     let t = c .before .before .before .t .given in
-    let w = turned (now (l .before .before .args .region)) (l .loop .at) (t .0 .0) (t .0 .1 .0) (sym (c .before .before .before .before .before .turn .ensures) ∙ t .1) in
+    let w = turned authenticated (now (l .before .before .args .region)) (l .loop .at) (t .0 .0) (t .0 .1 .0)
+    (sym (c .before .before .before .before .before .turn .ensures) ∙ t .1) in
     omega arith
 
 loop-again-2 : tie.Need-loop-again-2 Inv-loop μ-loop
@@ -86,8 +90,8 @@ loop-again-2 c =
     let l = c .before .before .before .before .before .before in
     let r = now (l .before .before .args .region) in
     let t = c .before .before .before .t .given in
-    let w = turned r (l .loop .at) (t .0 .0) (t .0 .1 .0) (sym (c .before .before .before .before .before .turn .ensures) ∙ t .1) in
-    let here = ap entrySizes (listed-next r (l .loop .at) (t .0 .0) (t .0 .1 .0) w (sym (c .before .is-value .ensures) ∙ c .if1 .left)) in
+    let w = turned authenticated r (l .loop .at) (t .0 .0) (t .0 .1 .0) (sym (c .before .before .before .before .before .turn .ensures) ∙ t .1) in
+    let here = ap entrySizes (listed-next authenticated r (l .loop .at) (t .0 .0) (t .0 .1 .0) w (sym (c .before .is-value .ensures) ∙ c .if1 .left)) in
     (omega (arith, l .loop .inv .0), omega (arith, l .loop .inv .1))
 
 pub space-spec : {M : Type 1} → statement M

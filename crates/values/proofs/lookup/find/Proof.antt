@@ -7,10 +7,11 @@ use mathlib.Core.Path.{_≡_, sym, ap, ap₂, _∙_}
 use lib.ListN.{length}
 use denote.Ref.{now}
 use borrow.Author.Needs.{needs}
+use Rattle.model.specs.Layout.{authenticated}
 use Rattle.model.specs.Lists.{first}
+use Rattle.model.specs.Region.{entriesIn, entries, isEntry, added, replacing, standing}
 use Rattle.model.specs.Name.{keyed}
-use Rattle.model.specs.Region.{entries, isEntry, added, replacing, standing}
-use Rattle.model.specs.Beside.{from}
+use Rattle.model.specs.Beside.{from, fromIn}
 use Rattle.region.proofs.Turns.{turned, stopped}
 use Rattle.values.specs.Found.{foundOf, elseFound}
 use Rattle.values.proofs.Finds.{found-else, found-none, found-here, found-next, found-hit, found-miss, else-none}
@@ -27,7 +28,7 @@ abbrev μ-loop : tie.MeasureT-loop
 μ-loop region name vendor replacing₀ at₀ old at = length region - at
 
 loop-holds : tie.Need-loop-holds Inv-loop μ-loop
-unfolding standing added replacing entries from
+unfolding standing added replacing entriesIn fromIn
 loop-holds c =
     let a = c .before .before .before .args in
     let k = keyed (now (a .name)) (now (a .vendor)) in
@@ -48,10 +49,11 @@ returns c =
     let a = l .before .before .before .before .args in
     let r = now (a .region) in
     let k = keyed (now (a .name)) (now (a .vendor)) in
-    let end = stopped r (l .loop .at) (sym (c .before .before .turn .ensures) ∙ c .enum-told .given .1) in
+    let end = stopped authenticated r (l .loop .at) (sym (c .before .before .turn .ensures) ∙ c .enum-told .given .1) in
     sym (l .loop .inv
-    ∙ ap (λ g. elseFound g (elseFound (l .loop .replacing) (foundOf (first (isEntry 0x3E k) (from r (l .loop .at)))))) (found-none r (l .loop .at) (isEntry 0x3F k) end)
-    ∙ else-none r (l .loop .at) (isEntry 0x3E k) end (l .loop .replacing))
+    ∙ ap (λ g. elseFound g (elseFound (l .loop .replacing) (foundOf (first (isEntry 0x3E k) (from r (l .loop .at)))))) (found-none authenticated r (l .loop .at)
+    (isEntry 0x3F k) end)
+    ∙ else-none authenticated r (l .loop .at) (isEntry 0x3E k) end (l .loop .replacing))
 
 is-entry-requires : tie.Need-is-entry-requires Inv-loop μ-loop
 is-entry-requires c κs = search needs
@@ -63,10 +65,10 @@ returns-2 c =
     let r = now (a .region) in
     let k = keyed (now (a .name)) (now (a .vendor)) in
     let t = c .before .before .before .t .given in
-    let w = turned r (l .loop .at) (t .0 .0) (t .0 .1 .0) (sym (c .before .before .before .before .before .turn .ensures) ∙ t .1) in
+    let w = turned authenticated r (l .loop .at) (t .0 .0) (t .0 .1 .0) (sym (c .before .before .before .before .before .turn .ensures) ∙ t .1) in
     sym (l .loop .inv
     ∙ ap (λ g. elseFound g (elseFound (l .loop .replacing) (foundOf (first (isEntry 0x3E k) (from r (l .loop .at))))))
-    (found-here r (l .loop .at) (t .0 .0) (t .0 .1 .0) w (isEntry 0x3F k) (sym (c .before .is-entry .ensures) ∙ c .if1 .taken)))
+    (found-here authenticated r (l .loop .at) (t .0 .0) (t .0 .1 .0) w (isEntry 0x3F k) (sym (c .before .is-entry .ensures) ∙ c .if1 .taken)))
 
 is-entry-requires-2 : tie.Need-is-entry-requires-2 Inv-loop μ-loop
 is-entry-requires-2 c κs = search needs
@@ -78,7 +80,8 @@ loop-less : tie.Need-loop-less Inv-loop μ-loop
 loop-less c =
     let l = c .before .before .before .before .before .before .before .before .before in
     let t = c .before .before .before .before .before .before .t .given in
-    let w = turned (now (l .before .before .before .before .args .region)) (l .loop .at) (t .0 .0) (t .0 .1 .0) (sym (c .before .before .before .before .before .before .before .before .turn .ensures) ∙ t .1) in
+    let w = turned authenticated (now (l .before .before .before .before .args .region)) (l .loop .at) (t .0 .0) (t .0 .1 .0)
+    (sym (c .before .before .before .before .before .before .before .before .turn .ensures) ∙ t .1) in
     omega arith
 
 loop-again : tie.Need-loop-again Inv-loop μ-loop
@@ -88,18 +91,22 @@ loop-again c =
     let r = now (a .region) in
     let k = keyed (now (a .name)) (now (a .vendor)) in
     let t = c .before .before .before .before .before .before .t .given in
-    let w = turned r (l .loop .at) (t .0 .0) (t .0 .1 .0) (sym (c .before .before .before .before .before .before .before .before .turn .ensures) ∙ t .1) in
+    let w = turned authenticated r (l .loop .at) (t .0 .0) (t .0 .1 .0) (sym (c .before .before .before .before .before .before .before .before .turn .ensures)
+    ∙ t .1) in
     l .loop .inv
     ∙ ap₂ elseFound
-    (found-next r (l .loop .at) (t .0 .0) (t .0 .1 .0) w (isEntry 0x3F k) (sym (c .before .before .before .before .is-entry .ensures) ∙ c .before .before .before .if1 .left))
-    (found-hit r (l .loop .at) (t .0 .0) (t .0 .1 .0) w (isEntry 0x3E k) (l .loop .replacing) (sym (c .before .before .is-entry2 .ensures) ∙ c .before .if2 .taken)
+    (found-next authenticated r (l .loop .at) (t .0 .0) (t .0 .1 .0) w (isEntry 0x3F k) (sym (c .before .before .before .before .is-entry .ensures)
+    ∙ c .before .before .before .if1 .left))
+    (found-hit authenticated r (l .loop .at) (t .0 .0) (t .0 .1 .0) w (isEntry 0x3E k) (l .loop .replacing) (sym (c .before .before .is-entry2 .ensures)
+    ∙ c .before .if2 .taken)
     ∙ ap (λ g. elseFound g (foundOf (first (isEntry 0x3E k) (from r (t .0 .1 .0))))) (sym (c .or-entry .ensures)))
 
 loop-less-2 : tie.Need-loop-less-2 Inv-loop μ-loop
 loop-less-2 c =
     let l = c .before .before .before .before .before .before .before .before in
     let t = c .before .before .before .before .before .t .given in
-    let w = turned (now (l .before .before .before .before .args .region)) (l .loop .at) (t .0 .0) (t .0 .1 .0) (sym (c .before .before .before .before .before .before .before .turn .ensures) ∙ t .1) in
+    let w = turned authenticated (now (l .before .before .before .before .args .region)) (l .loop .at) (t .0 .0) (t .0 .1 .0)
+    (sym (c .before .before .before .before .before .before .before .turn .ensures) ∙ t .1) in
     omega arith
 
 loop-again-2 : tie.Need-loop-again-2 Inv-loop μ-loop
@@ -109,11 +116,14 @@ loop-again-2 c =
     let r = now (a .region) in
     let k = keyed (now (a .name)) (now (a .vendor)) in
     let t = c .before .before .before .before .before .t .given in
-    let w = turned r (l .loop .at) (t .0 .0) (t .0 .1 .0) (sym (c .before .before .before .before .before .before .before .turn .ensures) ∙ t .1) in
+    let w = turned authenticated r (l .loop .at) (t .0 .0) (t .0 .1 .0) (sym (c .before .before .before .before .before .before .before .turn .ensures)
+    ∙ t .1) in
     l .loop .inv
     ∙ ap₂ elseFound
-    (found-next r (l .loop .at) (t .0 .0) (t .0 .1 .0) w (isEntry 0x3F k) (sym (c .before .before .before .is-entry .ensures) ∙ c .before .before .if1 .left))
-    (found-miss r (l .loop .at) (t .0 .0) (t .0 .1 .0) w (isEntry 0x3E k) (l .loop .replacing) (sym (c .before .is-entry2 .ensures) ∙ c .if2 .left))
+    (found-next authenticated r (l .loop .at) (t .0 .0) (t .0 .1 .0) w (isEntry 0x3F k) (sym (c .before .before .before .is-entry .ensures)
+    ∙ c .before .before .if1 .left))
+    (found-miss authenticated r (l .loop .at) (t .0 .0) (t .0 .1 .0) w (isEntry 0x3E k) (l .loop .replacing)
+    (sym (c .before .is-entry2 .ensures) ∙ c .if2 .left))
 
 pub find-spec : {M : Type 1} → statement M
 find-spec =

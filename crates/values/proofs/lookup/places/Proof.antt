@@ -7,10 +7,11 @@ use mathlib.Core.Path.{_≡_, refl, sym, ap, _∙_}
 use lib.ListN.{length}
 use denote.Ref.{now}
 use borrow.Author.Needs.{needs}
+use Rattle.model.specs.Layout.{authenticated}
 use Rattle.model.specs.Lists.{first}
+use Rattle.model.specs.Region.{entriesIn, entries, isEntry, added, replacing}
 use Rattle.model.specs.Name.{keyed}
-use Rattle.model.specs.Region.{entries, isEntry, added, replacing}
-use Rattle.model.specs.Beside.{from}
+use Rattle.model.specs.Beside.{from, fromIn}
 use Rattle.region.specs.Walk.{entryAt}
 use Rattle.region.proofs.Turns.{turned, stopped}
 use Rattle.values.specs.Found.{foundOf, elseFound}
@@ -27,7 +28,7 @@ abbrev μ-loop : tie.MeasureT-loop
 μ-loop region name vendor added₀ replacing₀ at₀ a b at = length region - at
 
 loop-holds : tie.Need-loop-holds Inv-loop μ-loop
-unfolding added replacing entries from
+unfolding added replacing entriesIn fromIn
 loop-holds c = (refl, refl)
 
 turn-requires : tie.Need-turn-requires Inv-loop μ-loop
@@ -45,9 +46,9 @@ returns c =
     let a = l .before .before .before .before .args in
     let r = now (a .region) in
     let k = keyed (now (a .name)) (now (a .vendor)) in
-    let end = stopped r (l .loop .at) (sym (c .before .before .turn .ensures) ∙ c .enum-told .given .1) in (
-      sym (l .loop .inv .0 ∙ else-none r (l .loop .at) (isEntry 0x3F k) end (l .loop .added)),
-      sym (l .loop .inv .1 ∙ else-none r (l .loop .at) (isEntry 0x3E k) end (l .loop .replacing)),
+    let end = stopped authenticated r (l .loop .at) (sym (c .before .before .turn .ensures) ∙ c .enum-told .given .1) in (
+      sym (l .loop .inv .0 ∙ else-none authenticated r (l .loop .at) (isEntry 0x3F k) end (l .loop .added)),
+      sym (l .loop .inv .1 ∙ else-none authenticated r (l .loop .at) (isEntry 0x3E k) end (l .loop .replacing)),
     )
 
 is-entry-requires : tie.Need-is-entry-requires Inv-loop μ-loop
@@ -66,7 +67,8 @@ loop-less : tie.Need-loop-less Inv-loop μ-loop
 loop-less c =
     let l = c .before .before .before .before .before .before .before in
     let t = c .before .before .before .before .t .given in
-    let w = turned (now (l .before .before .before .before .args .region)) (l .loop .at) (t .0 .0) (t .0 .1 .0) (sym (c .before .before .before .before .before .before .turn .ensures) ∙ t .1) in
+    let w = turned authenticated (now (l .before .before .before .before .args .region)) (l .loop .at) (t .0 .0) (t .0 .1 .0)
+    (sym (c .before .before .before .before .before .before .turn .ensures) ∙ t .1) in
     omega arith
 
 loop-again : tie.Need-loop-again Inv-loop μ-loop
@@ -76,18 +78,20 @@ loop-again c =
     let r = now (a .region) in
     let k = keyed (now (a .name)) (now (a .vendor)) in
     let t = c .before .before .before .before .t .given in
-    let w = turned r (l .loop .at) (t .0 .0) (t .0 .1 .0) (sym (c .before .before .before .before .before .before .turn .ensures) ∙ t .1) in
+    let w = turned authenticated r (l .loop .at) (t .0 .0) (t .0 .1 .0) (sym (c .before .before .before .before .before .before .turn .ensures) ∙ t .1) in
     let hit = sym (c .before .before .is-entry .ensures) ∙ c .before .if1 .taken in (
-      l .loop .inv .0 ∙ found-hit r (l .loop .at) (t .0 .0) (t .0 .1 .0) w (isEntry 0x3F k) (l .loop .added) hit
+      l .loop .inv .0 ∙ found-hit authenticated r (l .loop .at) (t .0 .0) (t .0 .1 .0) w (isEntry 0x3F k) (l .loop .added) hit
           ∙ ap (λ g. elseFound g (foundOf (first (isEntry 0x3F k) (from r (t .0 .1 .0))))) (sym (c .or-entry .ensures)),
-      l .loop .inv .1 ∙ found-miss r (l .loop .at) (t .0 .0) (t .0 .1 .0) w (isEntry 0x3E k) (l .loop .replacing) (one-state 0x3F 0x3E k (entryAt r (l .loop .at) (t .0 .0)) (λ q. omega arith) hit),
+      l .loop .inv .1 ∙ found-miss authenticated r (l .loop .at) (t .0 .0) (t .0 .1 .0) w (isEntry 0x3E k) (l .loop .replacing)
+          (one-state 0x3F 0x3E k (entryAt r (l .loop .at) (t .0 .0)) (λ q. omega arith) hit),
     )
 
 loop-less-2 : tie.Need-loop-less-2 Inv-loop μ-loop
 loop-less-2 c =
     let l = c .before .before .before .before .before .before .before .before .before in
     let t = c .before .before .before .before .before .before .t .given in
-    let w = turned (now (l .before .before .before .before .args .region)) (l .loop .at) (t .0 .0) (t .0 .1 .0) (sym (c .before .before .before .before .before .before .before .before .turn .ensures) ∙ t .1) in
+    let w = turned authenticated (now (l .before .before .before .before .args .region)) (l .loop .at) (t .0 .0) (t .0 .1 .0)
+    (sym (c .before .before .before .before .before .before .before .before .turn .ensures) ∙ t .1) in
     omega arith
 
 loop-again-2 : tie.Need-loop-again-2 Inv-loop μ-loop
@@ -97,9 +101,12 @@ loop-again-2 c =
     let r = now (a .region) in
     let k = keyed (now (a .name)) (now (a .vendor)) in
     let t = c .before .before .before .before .before .before .t .given in
-    let w = turned r (l .loop .at) (t .0 .0) (t .0 .1 .0) (sym (c .before .before .before .before .before .before .before .before .turn .ensures) ∙ t .1) in (
-      l .loop .inv .0 ∙ found-miss r (l .loop .at) (t .0 .0) (t .0 .1 .0) w (isEntry 0x3F k) (l .loop .added) (sym (c .before .before .before .before .is-entry .ensures) ∙ c .before .before .before .if1 .left),
-      l .loop .inv .1 ∙ found-hit r (l .loop .at) (t .0 .0) (t .0 .1 .0) w (isEntry 0x3E k) (l .loop .replacing) (sym (c .before .before .is-entry2 .ensures) ∙ c .before .if2 .taken)
+    let w = turned authenticated r (l .loop .at) (t .0 .0) (t .0 .1 .0) (sym (c .before .before .before .before .before .before .before .before .turn .ensures)
+    ∙ t .1) in (
+      l .loop .inv .0 ∙ found-miss authenticated r (l .loop .at) (t .0 .0) (t .0 .1 .0) w (isEntry 0x3F k) (l .loop .added)
+          (sym (c .before .before .before .before .is-entry .ensures) ∙ c .before .before .before .if1 .left),
+      l .loop .inv .1 ∙ found-hit authenticated r (l .loop .at) (t .0 .0) (t .0 .1 .0) w (isEntry 0x3E k) (l .loop .replacing)
+          (sym (c .before .before .is-entry2 .ensures) ∙ c .before .if2 .taken)
           ∙ ap (λ g. elseFound g (foundOf (first (isEntry 0x3E k) (from r (t .0 .1 .0))))) (sym (c .or-entry2 .ensures)),
     )
 
@@ -107,7 +114,8 @@ loop-less-3 : tie.Need-loop-less-3 Inv-loop μ-loop
 loop-less-3 c =
     let l = c .before .before .before .before .before .before .before .before in
     let t = c .before .before .before .before .before .t .given in
-    let w = turned (now (l .before .before .before .before .args .region)) (l .loop .at) (t .0 .0) (t .0 .1 .0) (sym (c .before .before .before .before .before .before .before .turn .ensures) ∙ t .1) in
+    let w = turned authenticated (now (l .before .before .before .before .args .region)) (l .loop .at) (t .0 .0) (t .0 .1 .0)
+    (sym (c .before .before .before .before .before .before .before .turn .ensures) ∙ t .1) in
     omega arith
 
 loop-again-3 : tie.Need-loop-again-3 Inv-loop μ-loop
@@ -117,9 +125,12 @@ loop-again-3 c =
     let r = now (a .region) in
     let k = keyed (now (a .name)) (now (a .vendor)) in
     let t = c .before .before .before .before .before .t .given in
-    let w = turned r (l .loop .at) (t .0 .0) (t .0 .1 .0) (sym (c .before .before .before .before .before .before .before .turn .ensures) ∙ t .1) in (
-      l .loop .inv .0 ∙ found-miss r (l .loop .at) (t .0 .0) (t .0 .1 .0) w (isEntry 0x3F k) (l .loop .added) (sym (c .before .before .before .is-entry .ensures) ∙ c .before .before .if1 .left),
-      l .loop .inv .1 ∙ found-miss r (l .loop .at) (t .0 .0) (t .0 .1 .0) w (isEntry 0x3E k) (l .loop .replacing) (sym (c .before .is-entry2 .ensures) ∙ c .if2 .left),
+    let w = turned authenticated r (l .loop .at) (t .0 .0) (t .0 .1 .0) (sym (c .before .before .before .before .before .before .before .turn .ensures)
+    ∙ t .1) in (
+      l .loop .inv .0 ∙ found-miss authenticated r (l .loop .at) (t .0 .0) (t .0 .1 .0) w (isEntry 0x3F k) (l .loop .added)
+          (sym (c .before .before .before .is-entry .ensures) ∙ c .before .before .if1 .left),
+      l .loop .inv .1 ∙ found-miss authenticated r (l .loop .at) (t .0 .0) (t .0 .1 .0) w (isEntry 0x3E k) (l .loop .replacing)
+          (sym (c .before .is-entry2 .ensures) ∙ c .if2 .left),
     )
 
 pub places-spec : {M : Type 1} → statement M

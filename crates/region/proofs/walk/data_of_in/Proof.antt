@@ -1,0 +1,25 @@
+-- `region::walk::data_of_in` meets its contract: the part handed on is the rest of the region, from which the definition reads too. Assumes nothing.
+use Prim.Native.Nat.{ℕ}
+use mathlib.Core.Path.{ap, _∙_}
+use mathlib.Core.List.{List}
+use borrow.Author.Needs.{needs}
+use Rattle.model.specs.Walk.{placed}
+use Rattle.layout.specs.Head.{dataIn}
+use Rattle.region.specs.Walk.{entryAs}
+use Rattle.region.proofs.walk.data_of_in.Statement.{statement}
+use Rattle.region.proofs.walk.data_of_in.Tie as tie
+
+from-requires : tie.Need-from-requires
+from-requires c κs = search needs
+
+data-of-requires : tie.Need-data-of-requires
+data-of-requires c κs = search needs
+
+returns : tie.Need-returns
+unfolding entryAs dataIn placed
+returns c =
+    let a = c .before .before .before .args in
+    c .data-of .ensures ∙ ap (λ (s : List ℕ). dataIn (a .y) s (a .e)) (c .before .from .ensures)
+
+pub data-of-in-spec : {M : Type 1} → statement M
+data-of-in-spec = tie.close (tie.spec from-requires data-of-requires returns)

@@ -1,0 +1,76 @@
+-- `region::walk::turn_in` meets its contract: the part that it lends to `read_head` is the rest of the region, and past the end nothing stands.
+-- Assumes nothing.
+use native.Mathlib.Omega.{arith}
+use mathlib.Core.Path.{_≡_, sym, ap, _∙_}
+use denote.Ref.{now}
+use borrow.Author.Needs.{needs}
+use lib.ListN.{drop}
+use Rattle.layout.specs.Head.{headIn}
+use Rattle.layout.specs.declared.Head.the-variants.{Present, End}
+use Rattle.region.specs.Walk.{turnIn, turnIn}
+use Rattle.region.proofs.Turns.{rest, past}
+use Rattle.region.proofs.walk.turn_in.Statement.{statement}
+use Rattle.region.proofs.walk.turn_in.Tie as tie
+
+returns : tie.Need-returns
+unfolding turnIn
+returns c =
+    let a = c .before .before .args in
+    rw (past (a .y) (now (a .region)) (a .at) (omega arith))
+
+sub-read-head : tie.Need-sub-read-head
+sub-read-head c = search needs
+
+part-read-head-start : tie.Need-part-read-head-start
+part-read-head-start c = search needs
+
+part-read-head-end : tie.Need-part-read-head-end
+part-read-head-end c = search needs
+
+read-head-requires : tie.Need-read-head-requires
+read-head-requires c κs = search needs
+
+enum-known-h : tie.Need-enum-known-h
+enum-known-h c = search needs
+
+stride-requires : tie.Need-stride-requires
+stride-requires c κs = search needs
+
+add-t13 : tie.Need-add-t13
+add-t13 c = search needs
+
+enum-told : tie.Need-enum-told
+enum-told c = search needs
+
+returns-2 : tie.Need-returns-2
+unfolding turnIn
+returns-2 c =
+    let b = c .before .before in
+    let a = b .before .before .before .before .before .before .args in
+    let here : headIn (a .y) (drop (a .at) (now (a .region))) ≡ Present (b .h .given .0 .0) =
+    sym (b .before .before .read-head .ensures ∙ ap (headIn (a .y)) (rest (now (a .region)) (a .at))) ∙ b .h .given .1 in
+    rw (here, c .stride .ensures .0)
+
+returns-3 : tie.Need-returns-3
+unfolding turnIn
+returns-3 c =
+    let a = c .before .before .before .before .before .before .args in
+    let here : headIn (a .y) (drop (a .at) (now (a .region))) ≡ End =
+    sym (c .before .before .read-head .ensures ∙ ap (headIn (a .y)) (rest (now (a .region)) (a .at))) ∙ c .enum-told .given .1 in
+    rw here
+
+pub turn-in-spec : {M : Type 1} → statement M
+turn-in-spec =
+    tie.close
+    (tie.spec
+    returns
+    sub-read-head
+    part-read-head-start
+    part-read-head-end
+    read-head-requires
+    enum-known-h
+    stride-requires
+    add-t13
+    enum-told
+    returns-2
+    returns-3)

@@ -1,0 +1,24 @@
+-- `region::walk::vendor_of_in` meets its contract: the part handed on is the rest of the region, from which the definition reads too. Assumes nothing.
+use Prim.Native.Nat.{ℕ}
+use mathlib.Core.Path.{ap, _∙_}
+use mathlib.Core.List.{List}
+use borrow.Author.Needs.{needs}
+use Rattle.model.specs.Entry.{headerFieldsIn}
+use Rattle.region.specs.Walk.{vendorAs}
+use Rattle.region.proofs.walk.vendor_of_in.Statement.{statement}
+use Rattle.region.proofs.walk.vendor_of_in.Tie as tie
+
+from-requires : tie.Need-from-requires
+from-requires c κs = search needs
+
+vendor-of-requires : tie.Need-vendor-of-requires
+vendor-of-requires c κs = search needs
+
+returns : tie.Need-returns
+unfolding vendorAs
+returns c =
+    let a = c .before .before .before .args in
+    c .vendor-of .ensures ∙ ap (λ (s : List ℕ). headerFieldsIn (a .y) s .vendor) (c .before .from .ensures)
+
+pub vendor-of-in-spec : {M : Type 1} → statement M
+vendor-of-in-spec = tie.close (tie.spec from-requires vendor-of-requires returns)

@@ -1,0 +1,91 @@
+-- `report::report_in` meets its contract: the check tells the rule that is broken, or the parts of the store, whose text is the summary and the lines.
+-- Assumes nothing.
+use Prim.Native.Nat.{ℕ}
+use native.Mathlib.Omega.{arith}
+use mathlib.Core.Path.{sym, ap, _∙_}
+use mathlib.Core.List.{List, _++_}
+use lib.ListN.{length}
+use denote.Ref.{now}
+use Rattle.model.specs.Region.{entriesIn, values}
+use Rattle.output.proofs.Writing.{wrote-as}
+use Rattle.report.specs.Varlist.{summaryLine, valueLines, refusedLine}
+use Rattle.report.proofs.Accepted.{accepted, refused-text}
+use borrow.Author.Needs.{needs}
+use Rattle.report.proofs.report_in.Statement.{statement}
+use Rattle.report.proofs.report_in.Tie as tie
+
+check-in-requires : tie.Need-check-in-requires
+check-in-requires c κs = search needs
+
+enum-known-c : tie.Need-enum-known-c
+enum-known-c c = search needs
+
+mul-cut : tie.Need-mul-cut
+mul-cut c =
+    let a = c .before .before .before .before .before .before .args in
+    let img = now (a .image) in
+    let t = c .before .c .given in
+    let x = accepted (a .y) img (t .0 .0) (t .0 .1 .0) (sym (c .before .before .before .check-in .ensures) ∙ t .1) in
+    record { fits = omega (arith, x .few) }
+
+cut-requires : tie.Need-cut-requires
+cut-requires c κs = search needs
+
+put-store-requires : tie.Need-put-store-requires
+put-store-requires c κs =
+    let a = c .before .before .before .before .before .before .before .before .args in
+    let img = now (a .image) in
+    let t = c .before .before .before .c .given in
+    let x = accepted (a .y) img (t .0 .0) (t .0 .1 .0) (sym (c .before .before .before .before .before .check-in .ensures) ∙ t .1) in
+    let n = ap length (c .before .cut .ensures ∙ x .cut) in
+    (x .tail-low, omega (arith, x .few, x .long, n))
+
+enum-known-c-2 : tie.Need-enum-known-c-2
+enum-known-c-2 c = search needs
+
+number-requires : tie.Need-number-requires
+number-requires c κs = search needs
+
+put-refused-requires : tie.Need-put-refused-requires
+put-refused-requires c κs = search needs
+
+same-length : tie.Need-same-length
+same-length c = search needs
+
+returns : tie.Need-returns
+returns c =
+    let a = c .before .before .before .before .before .before .before .before .before .before .before .args in
+    let img = now (a .image) in
+    let t = c .before .before .before .before .before .before .c .given in
+    let x = accepted (a .y) img (t .0 .0) (t .0 .1 .0) (sym (c .before .before .before .before .before .before .before .before .check-in .ensures) ∙ t .1) in
+    let same = ap (λ (s : List ℕ). summaryLine (length s) (t .0 .1 .0) (length (values (entriesIn (a .y) s))) ++ valueLines (values (entriesIn (a .y) s)))
+    (c .before .before .before .before .cut .ensures ∙ x .cut) in
+    wrote-as (same ∙ x .text) (c .before .before .put-store .ensures)
+
+same-length-2 : tie.Need-same-length-2
+same-length-2 c = search needs
+
+returns-2 : tie.Need-returns-2
+returns-2 c =
+    let a = c .before .before .before .before .before .before .before .before .before .before .before .args in
+    let img = now (a .image) in
+    let t = c .before .before .before .before .before .before .c2 .given in
+    let text = refused-text (a .y) img (t .0 .0) (sym (c .before .before .before .before .before .before .before .before .check-in .ensures) ∙ t .1) in
+    wrote-as (ap refusedLine (c .before .before .before .number .ensures) ∙ text) (c .before .before .put-refused .ensures)
+
+pub report-in-spec : {M : Type 1} → statement M
+report-in-spec =
+    tie.close
+    (tie.spec
+    check-in-requires
+    enum-known-c
+    mul-cut
+    cut-requires
+    put-store-requires
+    enum-known-c-2
+    number-requires
+    put-refused-requires
+    same-length
+    returns
+    same-length-2
+    returns-2)

@@ -1,0 +1,109 @@
+-- `values::list::count_in` meets its contract. The loop's invariant: all values are those counted and those from here on, and no more are counted than
+-- bytes passed. What is left of the region falls.
+-- Assumes nothing.
+use Prim.Native.Nat.{_+_, _-_, _≤_}
+use native.Mathlib.Omega.{arith}
+use mathlib.Core.Path.{_≡_, sym, ap, _∙_}
+use lib.ListN.{length}
+use denote.Ref.{now}
+use borrow.Author.Needs.{needs}
+use Rattle.model.specs.Region.{entriesIn, values}
+use Rattle.region.proofs.Turns.{turned, stopped}
+use Rattle.values.proofs.Listed.{listedIn, listed-all, listed-none, listed-value, listed-next}
+use Rattle.values.proofs.list.count_in.Statement.{statement}
+use Rattle.values.proofs.list.count_in.Tie as tie
+
+abbrev Inv-loop : tie.InvT-loop
+Inv-loop y region n₀ at₀ n at = (length (values (entriesIn y region)) ≡ n + length (listedIn y region at)) × (n ≤ at)
+
+abbrev μ-loop : tie.MeasureT-loop
+μ-loop y region n₀ at₀ n at = length region - at
+
+loop-holds : tie.Need-loop-holds Inv-loop μ-loop
+loop-holds c =
+    let a = c .before .args in
+    let all = ap length (listed-all (a .y) (now (a .region))) in
+    (omega arith, omega arith)
+
+turn-in-requires : tie.Need-turn-in-requires Inv-loop μ-loop
+turn-in-requires c κs = search needs
+
+enum-known-t : tie.Need-enum-known-t Inv-loop μ-loop
+enum-known-t c = search needs
+
+enum-told : tie.Need-enum-told Inv-loop μ-loop
+enum-told c = search needs
+
+returns : tie.Need-returns Inv-loop μ-loop
+returns c =
+    let l = c .before .before .before in
+    let a = l .before .before .args in
+    let r = now (a .region) in
+    let end = ap length (listed-none (a .y) r (l .loop .at) (stopped (a .y) r (l .loop .at) (sym (c .before .before .turn-in .ensures)
+    ∙ c .enum-told .given .1))) in
+    omega (arith, l .loop .inv .0)
+
+is-value-in-requires : tie.Need-is-value-in-requires Inv-loop μ-loop
+is-value-in-requires c κs = search needs
+
+add-n : tie.Need-add-n Inv-loop μ-loop
+add-n c =
+    let l = c .before .before .before .before .before .before in
+    let t = c .before .before .before .t .given in
+    let w = turned (l .before .before .args .y) (now (l .before .before .args .region)) (l .loop .at) (t .0 .0) (t .0 .1 .0)
+    (sym (c .before .before .before .before .before .turn-in .ensures) ∙ t .1) in
+    record { fits = omega (arith, l .loop .inv .1) }
+
+loop-less : tie.Need-loop-less Inv-loop μ-loop
+loop-less c =
+    let l = c .before .before .before .before .before .before in
+    let t = c .before .before .before .t .given in
+    let w = turned (l .before .before .args .y) (now (l .before .before .args .region)) (l .loop .at) (t .0 .0) (t .0 .1 .0)
+    (sym (c .before .before .before .before .before .turn-in .ensures) ∙ t .1) in
+    omega arith
+
+loop-again : tie.Need-loop-again Inv-loop μ-loop
+loop-again c =
+    let l = c .before .before .before .before .before .before in
+    let a = l .before .before .args in
+    let r = now (a .region) in
+    let t = c .before .before .before .t .given in
+    let w = turned (a .y) r (l .loop .at) (t .0 .0) (t .0 .1 .0) (sym (c .before .before .before .before .before .turn-in .ensures) ∙ t .1) in
+    let here = ap length (listed-value (a .y) r (l .loop .at) (t .0 .0) (t .0 .1 .0) w (sym (c .before .is-value-in .ensures) ∙ c .if1 .taken)) in
+    (omega (arith, l .loop .inv .0), omega (arith, l .loop .inv .1))
+
+loop-less-2 : tie.Need-loop-less-2 Inv-loop μ-loop
+loop-less-2 c =
+    let l = c .before .before .before .before .before .before in
+    let t = c .before .before .before .t .given in
+    let w = turned (l .before .before .args .y) (now (l .before .before .args .region)) (l .loop .at) (t .0 .0) (t .0 .1 .0)
+    (sym (c .before .before .before .before .before .turn-in .ensures) ∙ t .1) in
+    omega arith
+
+loop-again-2 : tie.Need-loop-again-2 Inv-loop μ-loop
+loop-again-2 c =
+    let l = c .before .before .before .before .before .before in
+    let a = l .before .before .args in
+    let r = now (a .region) in
+    let t = c .before .before .before .t .given in
+    let w = turned (a .y) r (l .loop .at) (t .0 .0) (t .0 .1 .0) (sym (c .before .before .before .before .before .turn-in .ensures) ∙ t .1) in
+    let here = ap length (listed-next (a .y) r (l .loop .at) (t .0 .0) (t .0 .1 .0) w (sym (c .before .is-value-in .ensures) ∙ c .if1 .left)) in
+    (omega (arith, l .loop .inv .0), omega (arith, l .loop .inv .1))
+
+pub count-in-spec : {M : Type 1} → statement M
+count-in-spec =
+    tie.close
+    (tie.spec
+    Inv-loop
+    μ-loop
+    loop-holds
+    turn-in-requires
+    enum-known-t
+    enum-told
+    returns
+    is-value-in-requires
+    add-n
+    loop-less
+    loop-again
+    loop-less-2
+    loop-again-2)
