@@ -3,7 +3,7 @@
 ghost use mathlib.Core.Path.{_≡_};
 ghost use Prim.Native.Nat.{_+_, _*_, _-_, _^_, _<_, _≤_, min};
 ghost use mathlib.Core.List.{[], _∷_};
-ghost use lib.ListN.{length};
+ghost use lib.ListN.{length, replicate};
 ghost use Rattle.output.specs.Text.{Wrote, digit, hexOf, decimalOf};
 
 // One byte.
@@ -43,6 +43,20 @@ pub fn put_bytes(out: &mut [u8], at: usize, src: &[u8]) -> usize
         i += 1;
     }
     at + src.len()
+}
+
+// One byte so many times.
+pub fn put_fill(out: &mut [u8], at: usize, b: u8, count: usize) -> usize
+    requires { ⌜ at + count < 2 ^ 64 ⌝ }
+    ensures { λ r. ⌜ Wrote (replicate count b) at (now (out .entry)) (now (out .exit)) r ⌝ }
+{
+    let n = room(out.len(), at, count);
+    let mut i = 0;
+    while i < n {
+        out[at + i] = b;
+        i += 1;
+    }
+    at + count
 }
 
 // A digit below 16, in upper case.

@@ -1,0 +1,100 @@
+-- `convert::put::put_values` meets its contract. The loop's invariant: the values before this offset are written, in a bounded number of bytes for each byte
+-- passed. What is left of the region falls.
+-- Assumes nothing.
+use Prim.Native.Nat.{_+_, _*_, _-_, _≤_}
+use native.Mathlib.Omega.{arith}
+use mathlib.Core.Path.{_≡_, refl, sym, _∙_}
+use lib.ListN.{length}
+use denote.Ref.{now}
+use Rattle.values.proofs.Stands.{listed-nothing}
+use Rattle.values.proofs.Next.{next-value}
+use Rattle.output.proofs.Writing.{wrote-length}
+use Rattle.convert.proofs.Carried.{Carried, carried-none, carried-next, carried-all}
+use borrow.Author.Needs.{needs}
+use Rattle.convert.proofs.put.put_values.Statement.{statement}
+use Rattle.convert.proofs.put.put_values.Tie as tie
+
+abbrev Inv-loop : tie.InvT-loop
+Inv-loop from to out₀ at region next₀ here₀ out next here =
+    (next ≤ at + here * 34359738368) × (length out ≡ length out₀) × Carried from to region at out₀ out next here
+
+abbrev μ-loop : tie.MeasureT-loop
+μ-loop from to out₀ at region next₀ here₀ out next here = length region - here
+
+loop-holds : tie.Need-loop-holds Inv-loop μ-loop
+loop-holds c = let a = c .before .before .args in
+    (omega arith, refl, carried-none (a .from) (a .to) _ _ _)
+
+next-value-in-requires : tie.Need-next-value-in-requires Inv-loop μ-loop
+next-value-in-requires c κs = search needs
+
+enum-known-f : tie.Need-enum-known-f Inv-loop μ-loop
+enum-known-f c = search needs
+
+enum-told : tie.Need-enum-told Inv-loop μ-loop
+enum-told c = search needs
+
+same-length : tie.Need-same-length Inv-loop μ-loop
+same-length c = search needs
+
+returns : tie.Need-returns Inv-loop μ-loop
+returns c = let l = c .before .before .before in
+    let a = c .before .before .before .before .before .before .args in
+    carried-all (a .from) (a .to) (l .loop .inv .2) (listed-nothing (a .from) (now (a .region)) (l .loop .here) (sym (c .before .before .next-value-in .ensures)
+    ∙ c .enum-told .given .1))
+
+put-value-requires : tie.Need-put-value-requires Inv-loop μ-loop
+put-value-requires c κs = let l = c .before .before .before .before .before in
+    let a = c .before .before .before .before .before .before .before .before .args in
+    let r = now (a .region) in
+    let t = c .before .before .f .given in
+    let x = next-value (a .from) r (l .loop .here) (t .0 .0) (t .0 .1 .0) (sym (c .before .before .before .before .next-value-in .ensures) ∙ t .1) in
+    (omega (arith, l .loop .inv .0, x .from-here, x .fits), omega arith)
+
+behind-in-requires : tie.Need-behind-in-requires Inv-loop μ-loop
+behind-in-requires c κs = let l = c .before .before .before .before .before .before .before .before in
+    let a = c .before .before .before .before .before .before .before .before .before .before .before .args in
+    let r = now (a .region) in
+    let t = c .before .before .before .before .before .f .given in
+    let x = next-value (a .from) r (l .loop .here) (t .0 .0) (t .0 .1 .0)
+    (sym (c .before .before .before .before .before .before .before .next-value-in .ensures) ∙ t .1) in
+    omega (arith, x .fits)
+
+loop-less : tie.Need-loop-less Inv-loop μ-loop
+loop-less c = let l = c .before .before .before .before .before .before .before .before .before in
+    let a = c .before .before .before .before .before .before .before .before .before .before .before .before .args in
+    let r = now (a .region) in
+    let t = c .before .before .before .before .before .before .f .given in
+    let x = next-value (a .from) r (l .loop .here) (t .0 .0) (t .0 .1 .0)
+    (sym (c .before .before .before .before .before .before .before .before .next-value-in .ensures) ∙ t .1) in
+    omega (arith, c .behind-in .ensures, x .from-here, x .fits)
+
+loop-again : tie.Need-loop-again Inv-loop μ-loop
+loop-again c = let l = c .before .before .before .before .before .before .before .before .before in
+    let a = c .before .before .before .before .before .before .before .before .before .before .before .before .args in
+    let r = now (a .region) in
+    let t = c .before .before .before .before .before .before .f .given in
+    let x = next-value (a .from) r (l .loop .here) (t .0 .0) (t .0 .1 .0)
+    (sym (c .before .before .before .before .before .before .before .before .next-value-in .ensures) ∙ t .1) in
+    let w = c .before .before .before .put-value in (
+      omega (arith, l .loop .inv .0, w .ensures .1, c .behind-in .ensures, x .from-here),
+      wrote-length (w .ensures .0) ∙ l .loop .inv .1,
+      rw (c .behind-in .ensures) (carried-next (a .from) (a .to) (l .loop .inv .2) x (w .ensures .0)),
+    )
+
+pub put-values-spec : {M : Type 1} → statement M
+put-values-spec =
+    tie.close
+    (tie.spec
+    Inv-loop
+    μ-loop
+    loop-holds
+    next-value-in-requires
+    enum-known-f
+    enum-told
+    same-length
+    returns
+    put-value-requires
+    behind-in-requires
+    loop-less
+    loop-again)

@@ -1,0 +1,52 @@
+// Whether a region's values can go into another form: their stamps, and their space.
+ghost use mathlib.Core.Path.{_≡_};
+ghost use Prim.Native.Nat.{_≤_};
+ghost use mathlib.Core.List.{map};
+ghost use lib.ListN.{length};
+ghost use Rattle.model.specs.Lists.{any};
+ghost use Rattle.model.specs.Region.{entriesIn, values};
+ghost use Rattle.model.specs.Request.{timeBased};
+ghost use Rattle.model.specs.Move.{unstamped, rule20};
+ghost use Rattle.convert.specs.Bare.{contentIn};
+use crate::put;
+use model::Layout;
+use values::Found;
+use values::list;
+
+// Whether a value has 0x20.
+fn holds_stamped(y: Layout, region: &[u8]) -> bool
+    requires { ⌜ length (now region) ≤ 28672 ⌝ }
+    ensures { λ r. ⌜ r ≡ any (λ v. timeBased (v .attributes)) (values (entriesIn y (now (region .entry)))) ⌝ }
+{
+    let mut here: usize = layout::REGION_HEADER;
+    loop {
+        let f = list::next_value_in(y, region, here);
+        let Found::At(place, e) = f else {
+            return false;
+        };
+        if policy::time_based(e.attributes) {
+            return true;
+        }
+        here = list::behind_in(y, place, e);
+    }
+}
+
+// Rule 20: a value with 0x20 would go to a form without stamps.
+pub(crate) fn is_unstampable(from: Layout, to: Layout, region: &[u8]) -> bool
+    requires { ⌜ length (now region) ≤ 28672 ⌝ }
+    ensures { λ r. ⌜ r ≡ rule20 to (values (entriesIn from (now (region .entry)))) ⌝ }
+{
+    if to.is_stamped() {
+        return false;
+    }
+    holds_stamped(from, region)
+}
+
+// The bytes of header and values in another form. They are composed in no room, where they are only counted.
+pub(crate) fn needed(from: Layout, to: Layout, region: &[u8], size: usize) -> usize
+    requires { ⌜ length (now region) ≤ 28672 ⌝ }
+    ensures { λ r. ⌜ r ≡ length (contentIn to size (map unstamped (values (entriesIn from (now (region .entry)))))) ⌝ }
+{
+    let mut room = [0u8; 1];
+    put::put_region(from, to, &mut room, size, region)
+}
