@@ -1,11 +1,13 @@
-// The C interface: every exported function, thin over the engine. Numbers and structs of numbers cross, no enum; c/varstore.h documents them.
+// The C interface: every exported function, thin over the engine and the move. Numbers and structs of numbers cross, no enum; c/varstore.h documents them.
 ghost use mathlib.Core.Path.{_≡_};
+ghost use Rattle.model.specs.Layout.{authenticated, plain};
 ghost use Rattle.model.specs.Name.{keyed};
 ghost use Rattle.model.specs.Session.{freshSession, movedTo};
 ghost use Rattle.model.specs.Set.{setPlan};
 ghost use Rattle.model.specs.StartUp.{startUpPlan, formatPlan};
 ghost use Rattle.model.specs.Beside.{Gives};
 ghost use Rattle.model.specs.Answers.{answerOf, outcome, imageAfter, getPlan, nextPlan, getReply, nextReply, lockOutcome, lockSession};
+ghost use Rattle.model.specs.Move.{moveAnswer, imageMoved};
 ghost use Rattle.decision.specs.Decision.{requestOf};
 ghost use Rattle.model.specs.Book as book;
 ghost use Rattle.recovery.specs.Host.{StartUpPlanned, PlannedFor};
@@ -16,6 +18,7 @@ ghost use Rattle.capi.specs.Numbers.{numbersOf, checkedOf};
 use image::Check;
 use model::Answer;
 use model::Context;
+use model::Layout;
 use model::Session;
 use model::Setup;
 use plan::HostPlan;
@@ -315,4 +318,22 @@ pub extern "C" fn vs_plan_format(image: &[u8], content: &mut [u8; layout::CONTEN
 {
     let planned = engine::write::plan_format(image, content);
     plan::in_numbers(planned)
+}
+
+#[no_mangle]
+pub extern "C" fn vs_from_plain(image: &[u8], target: &mut [u8]) -> Answered
+    ensures { λ r. ⌜ (r ≡ numbersOf (moveAnswer plain authenticated (now (image .entry)) (now (target .entry))))
+        × (now (target .exit) ≡ imageMoved plain authenticated (now (image .entry)) (now (target .entry))) ⌝ }
+{
+    let answer = convert::move_values(Layout::plain(), Layout::authenticated(), image, target);
+    numbers(answer)
+}
+
+#[no_mangle]
+pub extern "C" fn vs_to_plain(image: &[u8], target: &mut [u8]) -> Answered
+    ensures { λ r. ⌜ (r ≡ numbersOf (moveAnswer authenticated plain (now (image .entry)) (now (target .entry))))
+        × (now (target .exit) ≡ imageMoved authenticated plain (now (image .entry)) (now (target .entry))) ⌝ }
+{
+    let answer = convert::move_values(Layout::authenticated(), Layout::plain(), image, target);
+    numbers(answer)
 }

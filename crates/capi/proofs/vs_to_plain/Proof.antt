@@ -1,0 +1,40 @@
+-- `capi::vs_to_plain` meets its contract: a move between the two forms, with the answer in numbers.
+-- Assumes nothing.
+use mathlib.Core.Path.{ap, ap₂, _∙_}
+use denote.Ref.{now}
+use Rattle.model.specs.declared.Layout.{Layout}
+use Rattle.model.specs.Move.{moveAnswer, imageMoved}
+use Rattle.capi.specs.Numbers.{numbersOf}
+use borrow.Author.Needs.{needs}
+use Rattle.capi.proofs.vs_to_plain.Statement.{statement}
+use Rattle.capi.proofs.vs_to_plain.Tie as tie
+
+authenticated-requires : tie.Need-authenticated-requires
+authenticated-requires c κs = search needs
+
+plain-requires : tie.Need-plain-requires
+plain-requires c κs = search needs
+
+move-values-requires : tie.Need-move-values-requires
+move-values-requires c κs = search needs
+
+numbers-requires : tie.Need-numbers-requires
+numbers-requires c κs = search needs
+
+same-length : tie.Need-same-length
+same-length c = search needs
+
+returns : tie.Need-returns
+returns c =
+    let a = c .before .before .before .before .before .before .before .before .before .args in
+    let e = c .before .before .before .move-values .ensures in
+    let from = c .before .before .before .before .before .before .authenticated .ensures in
+    let to = c .before .before .before .before .before .plain .ensures in (
+      c .numbers .ensures ∙ ap numbersOf (e .0 ∙ ap₂ (λ (y z : Layout). moveAnswer y z (now (a .image)) (now (a .target))) from to),
+      e .1 ∙ ap₂ (λ (y z : Layout). imageMoved y z (now (a .image)) (now (a .target))) from to,
+    )
+
+pub vs-to-plain-spec : {M : Type 1} → statement M
+vs-to-plain-spec =
+    tie.close
+    (tie.spec authenticated-requires plain-requires move-values-requires numbers-requires same-length returns)
