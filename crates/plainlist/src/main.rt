@@ -1,0 +1,11 @@
+// plainlist: reads an image of a plain store on standard input and prints its variables as varlist does, or the rule that it breaks in its form.
+use libc::STDOUT_FILENO;
+use model::Layout;
+
+fn main() {
+    let mut image = io::large_buffer();
+    let n = io::read_full(0, &mut image);
+    let mut out = io::large_buffer();
+    let length = report::report_in(Layout::plain(), &image[..n], &mut out);
+    io::write_all(STDOUT_FILENO, slices::cut(&out, 0, length));
+}
