@@ -7,7 +7,7 @@ use crate::interface::{Answer, Checked, Context, Key, Listed, Reply, Request, Se
 use crate::paper;
 use crate::plan::Content;
 
-/// An implementation of document 01, call by call.
+/// An implementation of documents 01 and 02, call by call.
 #[derive(Clone, Copy)]
 pub struct Calls {
     pub who: &'static str,
@@ -20,10 +20,15 @@ pub struct Calls {
     pub set: fn(Context, &Session, &mut [u8], &Request) -> Answer,
     pub format: fn(Context, &mut [u8]) -> Answer,
     pub start_up: fn(Context, &mut [u8], Setup) -> Started,
+    pub from_plain: Move,
+    pub to_plain: Move,
 }
 
 /// Get and next-name.
 pub type Read = fn(Context, &Session, &[u8], Key, &mut [u8]) -> Reply;
+
+/// A source and a target.
+pub type Move = fn(&[u8], &mut [u8]) -> Answer;
 
 pub const PAPER: Calls = Calls {
     who: "paper",
@@ -36,6 +41,8 @@ pub const PAPER: Calls = Calls {
     set: paper::set,
     format: paper::format,
     start_up: paper::start_up,
+    from_plain: paper::from_plain,
+    to_plain: paper::to_plain,
 };
 
 pub const ENGINE: Calls = Calls {
@@ -49,6 +56,8 @@ pub const ENGINE: Calls = Calls {
     set: |context, session, image, request| lent(|content| engine::set(context, session, image, request, content)),
     format: |context, image| lent(|content| engine::format(context, image, content)),
     start_up: |context, image, setup| lent(|content| engine::start_up(context, image, setup, content)),
+    from_plain: engine::from_plain,
+    to_plain: engine::to_plain,
 };
 
 /// Lends a call of the engine the content, as the last call has left it.

@@ -103,6 +103,8 @@ extern "C" {
               content: *mut Content) -> RawAnswer;
     fn vs_format(context: Context, image: *mut u8, image_len: usize, content: *mut Content) -> RawAnswer;
     fn vs_start_up(context: Context, image: *mut u8, image_len: usize, setup: Setup, content: *mut Content) -> RawStarted;
+    fn vs_from_plain(image: *const u8, image_len: usize, target: *mut u8, target_len: usize) -> RawAnswer;
+    fn vs_to_plain(image: *const u8, image_len: usize, target: *mut u8, target_len: usize) -> RawAnswer;
     fn vs_plan_set(session: Session, image: *const u8, image_len: usize, name: *const u8, name_len: usize, vendor: *const Guid,
                    attributes: u32, data: *const u8, data_len: usize, presence: u32, verdict: u32, content: *mut Content) -> RawPlan;
     fn vs_plan_start_up(image: *const u8, image_len: usize, content: *mut Content) -> RawPlan;
@@ -190,6 +192,14 @@ pub fn format(context: Context, image: &mut [u8], content: &mut Content) -> Answ
 pub fn start_up(context: Context, image: &mut [u8], setup: Setup, content: &mut Content) -> Started {
     let raw = unsafe { vs_start_up(context, image.as_mut_ptr(), image.len(), setup, content) };
     Started { answer: raw.answer.answer(), session: raw.session }
+}
+
+pub fn from_plain(source: &[u8], target: &mut [u8]) -> Answer {
+    unsafe { vs_from_plain(source.as_ptr(), source.len(), target.as_mut_ptr(), target.len()) }.answer()
+}
+
+pub fn to_plain(source: &[u8], target: &mut [u8]) -> Answer {
+    unsafe { vs_to_plain(source.as_ptr(), source.len(), target.as_mut_ptr(), target.len()) }.answer()
 }
 
 /// What a set is to store; the operations take their bytes from the content.

@@ -2,7 +2,7 @@
 
 pub type Guid = [u8; 16];
 
-/// Rules a call can break, in checking order.
+/// Rules a call can break, by their numbers. Those of 01 are in checking order; 02's are not: a move tries 1, 19, 20, 13.
 #[derive(Clone, Copy, PartialEq, Eq, PartialOrd, Ord, Debug)]
 #[repr(u32)]
 pub enum Rule {
@@ -22,10 +22,12 @@ pub enum Rule {
     Buffer,
     LockPhase,
     LockSpace,
+    Source = 19,
+    TimeBased,
 }
 
 impl Rule {
-    pub const ALL: [Rule; 16] = [
+    pub const ALL: [Rule; 18] = [
         Rule::Length,
         Rule::Unready,
         Rule::Name,
@@ -42,6 +44,8 @@ impl Rule {
         Rule::Buffer,
         Rule::LockPhase,
         Rule::LockSpace,
+        Rule::Source,
+        Rule::TimeBased,
     ];
 
     pub fn number(self) -> u32 {

@@ -17,6 +17,7 @@ use common::{same_bytes, stamped};
 use varstore::calls::{Read, ENGINE, PAPER};
 use varstore::interface::{Answer, Context, Reply, Session, Setup};
 use varstore::paper;
+use varstore::paper::layout::Authenticated;
 use varstore::paper::request::{DB, KEK};
 use varstore::plan::{Content, Operation, Plan};
 
@@ -417,7 +418,7 @@ fn appends_at_each_byte_of_a_stamp() {
                     pair.image[28 + 16..][..16].copy_from_slice(&stored);
                     (asked.attributes, asked.data) = (attributes, stamped(&given, data));
                     let answer = pair.set(&asked, u64::MAX);
-                    let value = paper::region::values(&pair.image[..BLOCK]).next().expect("a value");
+                    let value = paper::region::values::<Authenticated>(&pair.image[..BLOCK]).next().expect("a value");
                     let keeps = attributes == 0x67 && (data.is_empty() || at >= 7 || byte >= 0x80);
                     let expected = if keeps || matches!(answer, Answer::Refused(_)) { stored } else { given };
                     assert_eq!(*value.stamp(), expected, "{asked:?} over {stored:X?}");

@@ -4,6 +4,7 @@
 //!     image len rle · poke off rle · save slot · load slot · session phase custom reserve count sizes locks
 //!     set name guid attrs data presence verdict n      get/next name guid buflen fill n (buffer of buflen bytes, all fill)
 //!     startup custom reserve n · format n · lock name guid · phase to · varlist
+//!     move src to (02 (d): from the image in slot src into the current one; to is `new` or `plain`)
 //!
 //! A line that a request of document 02 has changed says `why`: the sentence, with `_` for a space; also where only the image is another than it was.
 //!
@@ -30,7 +31,7 @@ struct Line<'a> {
 }
 
 /// What a line may give; every field that is not an argument is checked.
-const ARGUMENTS: &str = "why op len rle off slot phase custom reserve count sizes locks name guid attrs data presence verdict n buflen fill to";
+const ARGUMENTS: &str = "why op len rle off slot phase custom reserve count sizes locks name guid attrs data presence verdict n buflen fill to src";
 const EXPECTED: &str =
     "answer rule stores list deciding size attrs_out buf_sha256 text sha256 crc32 s_phase s_custom s_reserve s_count s_sizes s_locks";
 
@@ -125,6 +126,7 @@ impl Player {
             "lock" => self.lock(line),
             "phase" => self.session = (self.calls.phase)(self.session, line.number("to")),
             "varlist" => self.varlist(line),
+            "move" => self.moved(line),
             other => panic!("{}: no such operation: {other}", line.place),
         }
         self.expect_state(line);
@@ -175,6 +177,15 @@ impl Player {
         let listed = (self.calls.lock)(self.session, Key { name: &line.bytes("name"), vendor: &line.guid() });
         self.session = listed.session;
         expect_answer(line, listed.answer);
+    }
+
+    fn moved(&mut self, line: &Line) {
+        let call = match line.text("to") {
+            "new" => self.calls.from_plain,
+            "plain" => self.calls.to_plain,
+            other => panic!("{}: no such form: {other}", line.place),
+        };
+        expect_answer(line, call(&self.slots[line.number("src") as usize], &mut self.image));
     }
 
     fn varlist(&mut self, line: &Line) {
@@ -270,6 +281,12 @@ fn random() {
 #[test]
 fn appends_out_of_order() {
     run_file("b.txt", 228, 0);
+}
+
+/// 02 (d): the plain layout.
+#[test]
+fn stations_with_the_plain_layout() {
+    run_file("d.txt", 451, 0);
 }
 
 #[test]

@@ -97,7 +97,7 @@ impl Station {
 }
 
 fn refused(number: u32) -> Answer {
-    Answer::Refused(Rule::numbered(number).expect("one of 16 rules"))
+    Answer::Refused(Rule::numbered(number).expect("a rule"))
 }
 
 /// "New: 75 stores; entry 28 to 104 with padding."

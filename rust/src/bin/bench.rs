@@ -12,6 +12,7 @@ use std::time::{Duration, Instant};
 use varstore::calls::{Calls, ENGINE, PAPER};
 use varstore::interface::{Answer, Context, Guid, Key, Request, Rule, Session, Setup};
 use varstore::paper::entry::{self, Contents, GONE, STATE};
+use varstore::paper::layout::Authenticated;
 use varstore::paper::region;
 
 const BLOCK: usize = 4096;
@@ -102,7 +103,7 @@ fn alike(index: usize, characters: usize) -> Vec<u8> {
 
 fn put(region: &mut Vec<u8>, name: &[u8], data: &[u8]) {
     let contents = Contents { attributes: 0x07, stamp: &[0; 16], old: data, new: &[] };
-    entry::write(region, Key { name, vendor: &VENDOR }, &contents);
+    entry::write::<Authenticated>(region, Key { name, vendor: &VENDOR }, &contents);
 }
 
 /// A region's bytes up to its tail, made an image: work block and spare are blank.
@@ -113,7 +114,7 @@ fn image(mut region: Vec<u8>, blocks: usize) -> Vec<u8> {
 
 /// A region of b blocks with values of 50 bytes, 128 bytes an entry.
 fn region_of(blocks: usize, count: usize) -> Vec<u8> {
-    let mut region = region::header(BLOCK * blocks).to_vec();
+    let mut region = region::header::<Authenticated>(BLOCK * blocks).to_vec();
     (0..count).for_each(|index| put(&mut region, &numbered(index), &[index as u8; 50]));
     region
 }

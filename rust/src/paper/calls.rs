@@ -2,6 +2,7 @@
 
 use super::entry::{well_formed, Entry, RT};
 use super::image::{blank, Parts};
+use super::layout::Authenticated;
 use super::region::{self, find, values};
 use super::request::{change, Change};
 use super::rules::{of_the_call, of_the_change, of_what_stands, ready};
@@ -12,7 +13,7 @@ use crate::interface::{Answer, Checked, Context, Key, Reply, Request, Rule, Sess
 
 /// Whether a call may use the image: rules 1 and 2.
 pub fn check(image: &[u8]) -> Checked {
-    match ready(image) {
+    match ready::<Authenticated>(image) {
         Ok(ready) => Checked { answer: Answer::Done(0), blocks: ready.parts.blocks as u32, tail: ready.tail as u32 },
         Err(rule) => Checked { answer: Answer::Refused(rule), blocks: 0, tail: 0 },
     }
@@ -26,7 +27,7 @@ fn is_seen(session: &Session, value: &Entry) -> bool {
 /// The value's data into the front of the buffer. Rules 1, 2, 3, 11 and 14. It makes no stores, so no n stops it.
 pub fn get(_: Context, session: &Session, image: &[u8], key: Key, buffer: &mut [u8]) -> Reply {
     let found = || {
-        let ready = ready(image)?;
+        let ready = ready::<Authenticated>(image)?;
         if !well_formed(key.name) {
             return Err(Rule::Name);
         }
@@ -41,7 +42,7 @@ pub fn get(_: Context, session: &Session, image: &[u8], key: Key, buffer: &mut [
 /// The GUID and name of the value after the named one into the front of the buffer. Rules 1, 2, 3, 11 and 14.
 pub fn next_name(_: Context, session: &Session, image: &[u8], key: Key, buffer: &mut [u8]) -> Reply {
     let found = || {
-        let ready = ready(image)?;
+        let ready = ready::<Authenticated>(image)?;
         let begins = key.name == [0, 0];
         if !begins && !well_formed(key.name) {
             return Err(Rule::Name);
@@ -93,7 +94,7 @@ pub fn set(context: Context, session: &Session, image: &mut [u8], request: &Requ
 }
 
 pub fn set_stores(session: &Session, image: &[u8], request: &Request) -> Result<Stores, Rule> {
-    let ready = ready(image)?;
+    let ready = ready::<Authenticated>(image)?;
     let (region, key) = (ready.parts.region, request.key);
     of_the_call(session, request)?;
     let standing = find(region, key);
@@ -104,7 +105,9 @@ pub fn set_stores(session: &Session, image: &[u8], request: &Request) -> Result<
     Ok(match change {
         Change::Nothing => Stores::default(),
         Change::Delete => deletion(&standing),
-        Change::Put(contents) if ready.tail + contents.entry_size(key) <= region.len() => in_tail(&standing, ready.tail, key, &contents),
+        Change::Put(contents) if ready.tail + contents.entry_size::<Authenticated>(key) <= region.len() => {
+            in_tail(&standing, ready.tail, key, &contents)
+        }
         Change::Put(contents) => compaction(&ready.parts, ready.records, (key, &contents)),
     })
 }
@@ -129,7 +132,7 @@ pub fn start_up_stores(image: &[u8]) -> Result<Stores, Rule> {
     if let Some(record) = work::pending(&parts) {
         return Ok(resumption(&parts, record));
     }
-    let tail = region::sound(parts.region).ok_or(Rule::Unready)?;
+    let tail = region::sound::<Authenticated>(parts.region).ok_or(Rule::Unready)?;
     let records = work::read(parts.work).filter(|records| !records.ends_in_spare_complete);
     let wanting = Wanting { erase_spare: !blank(parts.spare), erase_work: records.is_none(), compact: !blank(&parts.region[tail..]) };
     Ok(clearing(&parts, records.map_or(0, |records| records.used), wanting))

@@ -1,17 +1,13 @@
-//! An entry: a header of 60 bytes, then name and data, unpadded. The reader is handed the region from the entry's first byte on.
+//! An entry: a header of its layout's length, then name and data, unpadded. The reader is handed the region from the entry's first byte on.
 
+use super::layout::{Authenticated, Layout};
 use crate::interface::{Guid, Key};
 
-pub const HEADER: usize = 60;
 pub const START_ID: [u8; 2] = [0xAA, 0x55];
 
-/// Offsets of the header's fields.
+/// Offsets of the fields that stand alike in every layout.
 pub const STATE: usize = 2;
 const ATTRIBUTES: usize = 4;
-const STAMP: usize = 16;
-const NAME_SIZE: usize = 36;
-const DATA_SIZE: usize = 40;
-const VENDOR: usize = 44;
 
 /// The six states.
 pub const UNFINISHED: u8 = 0xFF;
@@ -48,44 +44,52 @@ pub fn u32_at(bytes: &[u8], at: usize) -> u32 {
 
 /// An entry that the walk has found at an offset of the region.
 #[derive(Clone, Copy)]
-pub struct Entry<'a> {
+pub struct Entry<'a, F: Layout = Authenticated> {
     pub at: usize,
-    header: &'a [u8; HEADER],
+    header: &'a F::Header,
     body: &'a [u8],
 }
 
-impl<'a> Entry<'a> {
-    /// None where under 60 bytes remain or no start id is found. `bytes` are those from `at` on.
-    pub fn read(at: usize, bytes: &'a [u8]) -> Option<Entry<'a>> {
-        let (header, body) = bytes.split_first_chunk::<HEADER>()?;
-        (header[..2] == START_ID).then_some(Entry { at, header, body })
+impl<'a, F: Layout> Entry<'a, F> {
+    /// None where under a header's length remains or no start id is found. `bytes` are those from `at` on.
+    pub fn read(at: usize, bytes: &'a [u8]) -> Option<Entry<'a, F>> {
+        let (header, body) = F::split(bytes)?;
+        (header.as_ref()[..2] == START_ID).then_some(Entry { at, header, body })
+    }
+
+    fn header(&self) -> &'a [u8] {
+        self.header.as_ref()
     }
 
     pub fn state(&self) -> u8 {
-        self.header[STATE]
+        self.header()[STATE]
     }
 
     pub fn attributes(&self) -> u32 {
-        u32_at(self.header, ATTRIBUTES)
+        u32_at(self.header(), ATTRIBUTES)
     }
 
+    /// Zeros where the layout keeps none.
     pub fn stamp(&self) -> &'a [u8; 16] {
-        self.header[STAMP..].first_chunk().expect("16 of 60 bytes")
+        match F::STAMP {
+            Some(at) => self.header()[at..].first_chunk().expect("16 bytes of the header"),
+            None => &[0; 16],
+        }
     }
 
     pub fn vendor(&self) -> &'a Guid {
-        self.header[VENDOR..].first_chunk().expect("the last 16 of 60 bytes")
+        self.header()[F::VENDOR..].first_chunk().expect("the header's last 16 bytes")
     }
 
     fn name_size(&self) -> usize {
-        u32_at(self.header, NAME_SIZE) as usize
+        u32_at(self.header(), F::NAME_SIZE) as usize
     }
 
     pub fn data_size(&self) -> usize {
-        u32_at(self.header, DATA_SIZE) as usize
+        u32_at(self.header(), F::DATA_SIZE) as usize
     }
 
-    /// An entry whose header is unfinished counts as 60 bytes: its sizes are not to be trusted.
+    /// An entry whose header is unfinished counts as its header alone: its sizes are not to be trusted.
     fn body_size(&self) -> u64 {
         if self.state() == UNFINISHED {
             0
@@ -100,7 +104,7 @@ impl<'a> Entry<'a> {
 
     /// The rounded size of an entry that ends within the region.
     pub fn size(&self) -> usize {
-        rounded(HEADER + self.body_size() as usize)
+        rounded(F::HEADER + self.body_size() as usize)
     }
 
     /// Of an entry that ends within the region.
@@ -115,6 +119,11 @@ impl<'a> Entry<'a> {
 
     pub fn key(&self) -> Key<'a> {
         Key { name: self.name(), vendor: self.vendor() }
+    }
+
+    /// What a value is carried with.
+    pub fn contents(&self) -> Contents<'a> {
+        Contents { attributes: self.attributes(), stamp: self.stamp(), old: self.data(), new: &[] }
     }
 
     /// For a well-formed name, by characters, which is quicker than by slices: names are short and differ early, more often than GUIDs. (Of an odd name the last
@@ -139,25 +148,27 @@ impl Contents<'_> {
     }
 
     /// The rounded size of the entry that holds this under a name.
-    pub fn entry_size(&self, key: Key) -> usize {
-        rounded(HEADER + key.name.len() + self.data_size())
+    pub fn entry_size<F: Layout>(&self, key: Key) -> usize {
+        rounded(F::HEADER + key.name.len() + self.data_size())
     }
 }
 
-/// An entry in state 3F with its padding, count and key index 0, behind what `bytes` holds.
-pub fn write(bytes: &mut Vec<u8>, key: Key, contents: &Contents) {
-    let mut header = [0; HEADER];
+/// An entry in state 3F with its padding, count and key index 0, behind what `bytes` holds. Where the layout keeps no stamp, none is written.
+pub fn write<F: Layout>(bytes: &mut Vec<u8>, key: Key, contents: &Contents) {
+    let at = bytes.len();
+    bytes.resize(at + F::HEADER, 0);
+    let header = &mut bytes[at..];
     header[..2].copy_from_slice(&START_ID);
     header[STATE] = ADDED;
     header[ATTRIBUTES..][..4].copy_from_slice(&contents.attributes.to_le_bytes());
-    header[STAMP..][..16].copy_from_slice(contents.stamp);
-    header[NAME_SIZE..][..4].copy_from_slice(&(key.name.len() as u32).to_le_bytes());
-    header[DATA_SIZE..][..4].copy_from_slice(&(contents.data_size() as u32).to_le_bytes());
-    header[VENDOR..].copy_from_slice(key.vendor);
-    bytes.extend_from_slice(&header);
+    if let Some(place) = F::STAMP {
+        header[place..][..16].copy_from_slice(contents.stamp);
+    }
+    header[F::NAME_SIZE..][..4].copy_from_slice(&(key.name.len() as u32).to_le_bytes());
+    header[F::DATA_SIZE..][..4].copy_from_slice(&(contents.data_size() as u32).to_le_bytes());
+    header[F::VENDOR..].copy_from_slice(key.vendor);
     bytes.extend_from_slice(key.name);
     bytes.extend_from_slice(contents.old);
     bytes.extend_from_slice(contents.new);
-    let padding = contents.entry_size(key) - HEADER - key.name.len() - contents.data_size();
-    bytes.resize(bytes.len() + padding, 0xFF);
+    bytes.resize(at + contents.entry_size::<F>(key), 0xFF);
 }

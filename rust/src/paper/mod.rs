@@ -3,6 +3,8 @@
 pub mod calls;
 pub mod entry;
 pub mod image;
+pub mod layout;
+pub mod moves;
 pub mod region;
 pub mod request;
 pub mod rules;
@@ -12,6 +14,7 @@ pub mod varlist;
 pub mod work;
 
 pub use calls::{check, format, format_stores, get, next_name, set, set_stores, start_up, start_up_stores};
+pub use moves::{from_plain, to_plain};
 pub use session::{lock, phase, session_new};
 pub use stores::{Store, Stores};
 pub use varlist::varlist;

@@ -2,13 +2,14 @@
 
 use super::entry::{well_formed, Entry, APPEND, MOST_DATA, RT, STORABLE, TIME_BASED};
 use super::image::{blank, Parts};
+use super::layout::{Authenticated, Layout};
 use super::region::{self, REGION_HEADER};
 use super::request::{is_later, key_name, payload, wanted, Change, Payload};
 use super::session::{is_boot, is_locked, is_runtime, reserve};
 use super::work;
 use crate::interface::{Key, Request, Rule, Session};
 
-fn broken(rule: Rule, is: bool) -> Result<(), Rule> {
+pub fn broken(rule: Rule, is: bool) -> Result<(), Rule> {
     if is {
         Err(rule)
     } else {
@@ -23,10 +24,10 @@ pub struct Ready<'a> {
     pub records: usize,
 }
 
-/// Rules 1 and 2 for a call.
-pub fn ready(image: &[u8]) -> Result<Ready<'_>, Rule> {
+/// Rules 1 and 2 for a call, on an image of a layout.
+pub fn ready<F: Layout>(image: &[u8]) -> Result<Ready<'_>, Rule> {
     let parts = Parts::of(image).ok_or(Rule::Length)?;
-    let tail = region::clean(parts.region).ok_or(Rule::Unready)?;
+    let tail = region::clean::<F>(parts.region).ok_or(Rule::Unready)?;
     broken(Rule::Unready, !blank(parts.spare))?;
     let records = work::read(parts.work).ok_or(Rule::Unready)?;
     broken(Rule::Unready, records.ends_in_spare_complete)?;
@@ -73,8 +74,8 @@ pub fn of_the_change(session: &Session, region: &[u8], key: Key, value: Option<&
         Change::Delete => broken(Rule::Absent, value.is_none()),
         Change::Put(contents) => {
             broken(Rule::DataSize, contents.data_size() > MOST_DATA)?;
-            let others: usize = region::values(region).filter(|other| !other.is_for(key)).map(|other| other.size()).sum();
-            let wanted = REGION_HEADER + others + contents.entry_size(key) + reserve(session);
+            let others: usize = region::values::<Authenticated>(region).filter(|other| !other.is_for(key)).map(|other| other.size()).sum();
+            let wanted = REGION_HEADER + others + contents.entry_size::<Authenticated>(key) + reserve(session);
             broken(Rule::Room, wanted > region.len())
         }
     }

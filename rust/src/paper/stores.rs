@@ -2,11 +2,15 @@
 
 use std::ops::Range;
 
-use super::entry::{self, Contents, ADDED, GONE, HEADER, HEADER_VALID, REPLACED, STATE};
+use super::entry::{self, Contents, ADDED, GONE, HEADER_VALID, REPLACED, STATE};
 use super::image::{Parts, BLOCK};
+use super::layout::{Authenticated, Layout};
 use super::region::{self, compacted, Standing};
 use super::work::{BEGUN, DESTINATION_COMPLETE, RECORDS, SPARE_COMPLETE};
 use crate::interface::Key;
+
+/// The length of an entry's header in the form that a set stores.
+const HEADER: usize = Authenticated::HEADER;
 
 /// A store is one byte store (it may only clear bits) or one block erase (every byte becomes FF).
 #[derive(Clone, Copy, PartialEq, Eq, Debug)]
@@ -134,7 +138,7 @@ fn spare_blocks(parts: &Parts) -> Range<usize> {
 
 /// All blocks in rising order, then the 28 header bytes in rising order.
 pub fn formatting(parts: &Parts) -> Stores {
-    let mut stores = Stores::of(region::header(parts.length()).to_vec());
+    let mut stores = Stores::of(region::header::<Authenticated>(parts.length()).to_vec());
     stores.erase(0..2 * parts.blocks + 1);
     stores.run(0, 0..stores.bytes.len());
     stores
@@ -143,8 +147,8 @@ pub fn formatting(parts: &Parts) -> Stores {
 /// In the tail: a leftover 3E beside a 3F becomes 3C; the 3F becomes 3E; header bytes in rising order without state; state 7F; name; data;
 /// state 3F (deciding); the old entry 3C.
 pub fn in_tail(standing: &Standing, tail: usize, key: Key, contents: &Contents) -> Stores {
-    let mut stores = Stores::of(Vec::with_capacity(contents.entry_size(key) + 8));
-    entry::write(&mut stores.bytes, key, contents);
+    let mut stores = Stores::of(Vec::with_capacity(contents.entry_size::<Authenticated>(key) + 8));
+    entry::write::<Authenticated>(&mut stores.bytes, key, contents);
     let unpadded = HEADER + key.name.len() + contents.data_size();
     if let Some(leftover) = standing.leftover() {
         stores.mark(leftover.at + STATE, GONE);

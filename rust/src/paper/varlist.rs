@@ -2,18 +2,19 @@
 
 use std::fmt::Write;
 
+use super::layout::Authenticated;
 use super::region::values;
 use super::rules::ready;
 
 /// Region length, tail offset, number of values; then for each GUID, name bytes, attributes and data size. If refused, the rule's number.
 pub fn varlist(image: &[u8]) -> String {
-    let ready = match ready(image) {
+    let ready = match ready::<Authenticated>(image) {
         Ok(ready) => ready,
         Err(rule) => return format!("refused {}\n", rule.number()),
     };
     let region = ready.parts.region;
-    let mut text = format!("region {} used {} live {}\n", region.len(), ready.tail, values(region).count());
-    for value in values(region) {
+    let mut text = format!("region {} used {} live {}\n", region.len(), ready.tail, values::<Authenticated>(region).count());
+    for value in values::<Authenticated>(region) {
         hexadecimal(&mut text, value.vendor());
         text.push(' ');
         hexadecimal(&mut text, value.name());

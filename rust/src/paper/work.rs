@@ -1,6 +1,7 @@
 //! Work block: the first 64 bytes are records, the rest FF.
 
 use super::image::{blank, Parts};
+use super::layout::Authenticated;
 use super::region;
 
 pub const RECORDS: usize = 64;
@@ -35,5 +36,5 @@ pub fn read(work: &[u8]) -> Option<Records> {
 /// *Pending*: well formed, last used is FC, and the spare is a clean region. Gives the place of that FC.
 pub fn pending(parts: &Parts) -> Option<usize> {
     let records = read(parts.work)?;
-    (records.ends_in_spare_complete && region::clean(parts.spare).is_some()).then(|| records.used - 1)
+    (records.ends_in_spare_complete && region::clean::<Authenticated>(parts.spare).is_some()).then(|| records.used - 1)
 }

@@ -4,6 +4,7 @@ use super::generate::Name;
 use varstore::calls::Calls;
 use varstore::interface::{Answer, Context, Key, Request, Session, Setup, RUNTIME};
 use varstore::paper::image::Parts;
+use varstore::paper::layout::{Authenticated, Layout};
 use varstore::paper::region;
 
 #[derive(Clone, PartialEq, Eq, Debug)]
@@ -29,8 +30,13 @@ pub struct Book {
 impl Book {
     /// The list of values of an image that a done start-up has left.
     pub fn of(image: &[u8]) -> Book {
+        Book::of_form::<Authenticated>(image)
+    }
+
+    /// The same of a clean image in a form of its own.
+    pub fn of_form<F: Layout>(image: &[u8]) -> Book {
         let parts = Parts::of(image).expect("the length of an image");
-        let values = region::values(parts.region).map(|value| Value {
+        let values = region::values::<F>(parts.region).map(|value| Value {
             name: Name { name: value.name().to_vec(), vendor: *value.vendor() },
             attributes: value.attributes(),
             stamp: *value.stamp(),

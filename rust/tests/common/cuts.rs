@@ -8,6 +8,7 @@ use super::same_bytes;
 use super::stored::{carry_out, Call};
 use varstore::calls::{lent, ENGINE};
 use varstore::interface::{Answer, Context, Rule, Session, Setup};
+use varstore::paper::layout::Authenticated;
 use varstore::paper::region::header;
 use varstore::paper::work::{BEGUN, SPARE_COMPLETE, UNUSED};
 use varstore::paper::{self, Store, Stores};
@@ -86,7 +87,7 @@ impl Garbage {
             Garbage::FormerRegion => run.former[place..][..BLOCK].to_vec(),
             Garbage::ThisRegion => run.image[place..][..BLOCK].to_vec(),
             Garbage::HeaderOnly if place > 0 => blank.to_vec(),
-            Garbage::HeaderOnly => [&header(length)[..], &blank].concat()[..BLOCK].to_vec(),
+            Garbage::HeaderOnly => [&header::<Authenticated>(length)[..], &blank].concat()[..BLOCK].to_vec(),
             Garbage::SpareComplete(used) => records(0, used),
             Garbage::LateSpareComplete(used) => records(32, used),
         }

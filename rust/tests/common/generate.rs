@@ -5,6 +5,7 @@ use super::random::Random;
 use varstore::calls::PAPER;
 use varstore::interface::{Answer, Context, Guid, Key, Request, Session, Setup, PLACE, PLACES};
 use varstore::paper::image::Parts;
+use varstore::paper::layout::Authenticated;
 use varstore::paper::region::{self, values};
 use varstore::paper::request::{DB, DBT, DBX, KEK, PK};
 
@@ -191,7 +192,7 @@ pub fn asked(r: &mut Random) -> Asked {
 pub fn asked_on(r: &mut Random, image: &[u8]) -> Asked {
     let mut asked = asked(r);
     let standing: Vec<_> = match Parts::of(image) {
-        Some(parts) if (PAPER.check)(image).answer == Answer::Done(0) => values(parts.region).collect(),
+        Some(parts) if (PAPER.check)(image).answer == Answer::Done(0) => values::<Authenticated>(parts.region).collect(),
         _ => vec![],
     };
     if standing.is_empty() || r.once_in(2) {
@@ -364,7 +365,7 @@ pub fn crafted(r: &mut Random, blocks: usize) -> Vec<u8> {
 
 /// Where the entries of the walk begin.
 fn entry_places(image: &[u8], length: usize) -> Vec<usize> {
-    region::walk(&image[..length]).map(|entry| entry.at).collect()
+    region::walk::<Authenticated>(&image[..length]).map(|entry| entry.at).collect()
 }
 
 /// Damages one place: header, an entry's field, the tail, the work block or the spare.
