@@ -299,7 +299,7 @@ fn damaged_images() {
         for _ in 0..20 {
             pair.image.copy_from_slice(&image);
             for _ in 0..1 + r.below(2) {
-                generate::damage(r, &mut pair.image, blocks);
+                generate::damage::<Authenticated>(r, &mut pair.image, blocks);
             }
             pair.check();
             random_get(&mut pair, r);
@@ -321,7 +321,7 @@ fn damaged_images() {
 fn stops() {
     let tally = rounds(200, |r, tally| {
         let blocks = if r.once_in(4) { 2 } else { 1 };
-        let image = if r.once_in(2) { generate::filled(r, blocks) } else { generate::crafted(r, blocks) };
+        let image = if r.once_in(2) { generate::filled(r, blocks) } else { generate::crafted::<Authenticated>(r, blocks) };
         let mut pair = Pair { image, session: (PAPER.session_new)(Setup { custom: 1, reserve: 0 }), tally };
         pair.start_up_with_stops(r);
         for _ in 0..6 {

@@ -17,6 +17,8 @@ use common::stored::Call;
 use common::{same_bytes, signed, stamped, A, AUTUMN, B, NEW, OLD, RATE, SPRING, VENDOR};
 use varstore::calls::{lent, Calls, Read, BOTH, ENGINE, PAPER};
 use varstore::interface::{Answer, Context, Key, Reply, Rule, Setup};
+use varstore::paper::image::Parts;
+use varstore::paper::layout::Authenticated;
 use varstore::paper::request::{DBX, PK};
 use varstore::paper::Stores;
 use varstore::plan::Operation;
@@ -533,12 +535,18 @@ fn some_start_up(r: &mut Random) -> Call {
     Call::StartUp(Setup { custom: r.pick(&[0, 1, 2, u32::MAX]), reserve: r.pick(&[0, 1, 4096, 4097, u32::MAX]) })
 }
 
-/// An image as a done start-up left it, and its b.
+/// An image as a done start-up left it, and its b; or one that a move has left, where a start-up finds nothing to do.
 fn some_image(r: &mut Random) -> (Vec<u8>, usize) {
+    if r.once_in(8) {
+        let mut image = generate::moved(r);
+        let blocks = Parts::of(&image).expect("an image").blocks;
+        assert_eq!((ENGINE.start_up)(Context::NO_LIMIT, &mut image, Setup::PLAIN).answer, Answer::Done(0), "start-up on a moved image");
+        return (image, blocks);
+    }
     let blocks = generate::blocks(r);
     let mut image = match r.below(4) {
         0 => generate::empty(blocks),
-        1 => generate::crafted(r, blocks),
+        1 => generate::crafted::<Authenticated>(r, blocks),
         _ => generate::filled(r, blocks),
     };
     match (ENGINE.start_up)(Context::NO_LIMIT, &mut image, Setup::PLAIN).answer {

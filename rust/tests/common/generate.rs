@@ -5,7 +5,7 @@ use super::random::Random;
 use varstore::calls::PAPER;
 use varstore::interface::{Answer, Context, Guid, Key, Request, Session, Setup, PLACE, PLACES};
 use varstore::paper::image::Parts;
-use varstore::paper::layout::Authenticated;
+use varstore::paper::layout::{Authenticated, Layout, Plain};
 use varstore::paper::region::{self, values};
 use varstore::paper::request::{DB, DBT, DBX, KEK, PK};
 
@@ -263,8 +263,9 @@ pub fn filled(r: &mut Random, blocks: usize) -> Vec<u8> {
 }
 
 /// A region of entries in any of the six states, count and key index and byte 3 anything: sound most often. `small` entries fill it up.
-fn crafted_region(r: &mut Random, blocks: usize, small: bool) -> Vec<u8> {
-    let mut region = empty(blocks)[..BLOCK * blocks].to_vec();
+fn crafted_region<F: Layout>(r: &mut Random, blocks: usize, small: bool) -> Vec<u8> {
+    let mut region = region::header::<F>(BLOCK * blocks).to_vec();
+    region.resize(BLOCK * blocks, 0xFF);
     let mut at = 28;
     let many = r.below(if small { 700 } else { 12 * blocks });
     let mut last = name(r);
@@ -276,29 +277,39 @@ fn crafted_region(r: &mut Random, blocks: usize, small: bool) -> Vec<u8> {
         }
         let most = if small { 1 + r.below(4) } else { 2048 };
         let bytes = data(r, most);
-        let end = at + 60 + name.name.len() + bytes.len();
+        let begin = at + F::HEADER;
+        let end = begin + name.name.len() + bytes.len();
         if end > region.len() {
             break;
         }
         let state = r.pick(&[0x3F, 0x3F, 0x3F, 0x3E, 0x3E, 0x3D, 0x3C, 0x7F, 0xFF]);
-        region[at..at + 60].copy_from_slice(&crafted_header(r, state, &name, bytes.len()));
+        // sizes of an unfinished header are not to be trusted
+        let told = if state == 0xFF && r.once_in(2) { usize::MAX } else { bytes.len() };
+        region[at..begin].copy_from_slice(&crafted_header::<F>(r, state, &name, told));
         last = name.clone();
         if state == 0xFF {
-            at += 60;
+            at = begin;
             continue;
         }
-        region[at + 60..end].copy_from_slice(&[&name.name[..], &bytes].concat());
+        region[begin..end].copy_from_slice(&[&name.name[..], &bytes].concat());
         at = end.next_multiple_of(4);
+        // bytes skipped are FF; those of another writer may be anything
+        if r.once_in(6) {
+            region[end..at].fill(r.byte());
+        }
     }
     region
 }
 
-fn crafted_header(r: &mut Random, state: u8, name: &Name, size: usize) -> Vec<u8> {
+/// Count, stamp and key index stand in one form only.
+fn crafted_header<F: Layout>(r: &mut Random, state: u8, name: &Name, size: usize) -> Vec<u8> {
     let mut header = vec![0xAA, 0x55, state, r.pick(&[0, 0, 0xFF])];
     header.extend_from_slice(&r.pick(&ATTRIBUTES).to_le_bytes());
-    header.extend_from_slice(&r.pick(&[0, u64::MAX, 5]).to_le_bytes());
-    header.extend_from_slice(&stored_stamp(r));
-    header.extend_from_slice(&r.pick(&[0, u32::MAX, 5]).to_le_bytes());
+    if F::STAMP.is_some() {
+        header.extend_from_slice(&r.pick(&[0, u64::MAX, 5]).to_le_bytes());
+        header.extend_from_slice(&stored_stamp(r));
+        header.extend_from_slice(&r.pick(&[0, u32::MAX, 5]).to_le_bytes());
+    }
     header.extend_from_slice(&(name.name.len() as u32).to_le_bytes());
     header.extend_from_slice(&(size as u32).to_le_bytes());
     header.extend_from_slice(&name.vendor);
@@ -306,19 +317,19 @@ fn crafted_header(r: &mut Random, state: u8, name: &Name, size: usize) -> Vec<u8
 }
 
 /// The crafted region with doubled names, bad names and empty data deleted, so that it is sound; sometimes one entry is then doubled in the tail.
-fn sound_region(r: &mut Random, blocks: usize) -> Vec<u8> {
+fn sound_region<F: Layout>(r: &mut Random, blocks: usize) -> Vec<u8> {
     let small = r.once_in(4);
-    let mut region = crafted_region(r, blocks, small);
+    let mut region = crafted_region::<F>(r, blocks, small);
     let (mut seen, mut live) = (Vec::new(), Vec::new());
     let mut at = 28;
-    while at + 60 <= region.len() && region[at..at + 2] == [0xAA, 0x55] {
+    while at + F::HEADER <= region.len() && region[at..at + 2] == [0xAA, 0x55] {
         let state = region[at + 2];
         let field = |from: usize| u32::from_le_bytes(region[at + from..][..4].try_into().expect("4 bytes")) as usize;
-        let (name_size, data_size) = (field(36), field(40));
-        let size = if state == 0xFF { 60 } else { (60 + name_size + data_size).next_multiple_of(4) };
+        let (name_size, data_size) = (field(F::NAME_SIZE), field(F::DATA_SIZE));
+        let size = if state == 0xFF { F::HEADER } else { (F::HEADER + name_size + data_size).next_multiple_of(4) };
         if state == 0x3F || state == 0x3E {
-            let name = region[at + 60..][..name_size].to_vec();
-            let key = (state, name, region[at + 44..at + 60].to_vec());
+            let name = region[at + F::HEADER..][..name_size].to_vec();
+            let key = (state, name, region[at + F::VENDOR..][..16].to_vec());
             let named = varstore::paper::entry::well_formed(&key.1);
             if seen.contains(&key) || !named || data_size == 0 {
                 region[at + 2] = 0x3C;
@@ -351,11 +362,11 @@ fn crafted_work(r: &mut Random) -> Vec<u8> {
 }
 
 /// An image whose three parts are made one by one; the spare is blank most often, or a region of its own, or the same region.
-pub fn crafted(r: &mut Random, blocks: usize) -> Vec<u8> {
-    let region = if r.once_in(8) { crafted_region(r, blocks, false) } else { sound_region(r, blocks) };
+pub fn crafted<F: Layout>(r: &mut Random, blocks: usize) -> Vec<u8> {
+    let region = if r.once_in(8) { crafted_region::<F>(r, blocks, false) } else { sound_region::<F>(r, blocks) };
     let work = if r.once_in(2) { vec![0xFF; BLOCK] } else { crafted_work(r) };
     let spare = match r.below(6) {
-        0 => sound_region(r, blocks),
+        0 => sound_region::<F>(r, blocks),
         1 => region.clone(),
         2 => r.bytes(BLOCK * blocks),
         _ => vec![0xFF; BLOCK * blocks],
@@ -364,28 +375,29 @@ pub fn crafted(r: &mut Random, blocks: usize) -> Vec<u8> {
 }
 
 /// Where the entries of the walk begin.
-fn entry_places(image: &[u8], length: usize) -> Vec<usize> {
-    region::walk::<Authenticated>(&image[..length]).map(|entry| entry.at).collect()
+fn entry_places<F: Layout>(image: &[u8], length: usize) -> Vec<usize> {
+    region::walk::<F>(&image[..length]).map(|entry| entry.at).collect()
 }
 
 /// Damages one place: header, an entry's field, the tail, the work block or the spare.
-pub fn damage(r: &mut Random, image: &mut [u8], blocks: usize) {
+pub fn damage<F: Layout>(r: &mut Random, image: &mut [u8], blocks: usize) {
     let length = BLOCK * blocks;
     let base = if r.once_in(5) { length + BLOCK } else { 0 };
-    let places = entry_places(&image[base..], length);
+    let places = entry_places::<F>(&image[base..], length);
     let at = base + if places.is_empty() { 28 } else { r.pick(&places) };
     match r.below(12) {
         0 => image[base + r.below(28)] ^= 1 << r.below(8),
         1 => image[at + 2] = r.pick(&[0xFF, 0x7F, 0x3F, 0x3E, 0x3D, 0x3C, 0x00, 0xFE, 0x3B, 0xBF]),
         2 => image[at + 2] ^= 1 << r.below(8),
         3 => {
-            let field = at + r.pick(&[36, 40]);
+            let field = at + r.pick(&[F::NAME_SIZE, F::DATA_SIZE]);
             let old = u32::from_le_bytes(image[field..field + 4].try_into().expect("4 bytes"));
-            let sizes = [0, 1, 2048, 2049, old ^ 1, old.wrapping_add(4), (length - 60) as u32, u32::MAX, u32::MAX - 59, 1 << 31];
+            let sizes =
+                [0, 1, 2048, 2049, old ^ 1, old.wrapping_add(4), (length - F::HEADER) as u32, u32::MAX, u32::MAX - F::HEADER as u32 + 1, 1 << 31];
             image[field..field + 4].copy_from_slice(&r.pick(&sizes).to_le_bytes());
         }
         4 => image[at + 4 + r.below(4)] = r.byte(),
-        5 => image[(at + 44 + r.below(40)).min(base + length - 1)] ^= 1 << r.below(8),
+        5 => image[(at + F::VENDOR + r.below(40)).min(base + length - 1)] ^= 1 << r.below(8),
         6 => image[at + r.below(2)] ^= 1 << r.below(8),
         7 => image[base + length - 1 - r.below(100)] = r.byte(),
         8 => image[length + r.below(64)] = r.pick(&[0xFF, 0xFE, 0xFC, 0xF8, 0xF0, 0x00]),
@@ -401,12 +413,43 @@ pub fn image(r: &mut Random) -> (Vec<u8>, usize) {
     let mut image = match r.below(6) {
         0 => empty(blocks),
         1 | 2 => filled(r, blocks),
-        _ => crafted(r, blocks),
+        _ => crafted::<Authenticated>(r, blocks),
     };
     if r.once_in(3) {
         for _ in 0..1 + r.below(3) {
-            damage(r, &mut image, blocks);
+            damage::<Authenticated>(r, &mut image, blocks);
         }
     }
     (image, blocks)
+}
+
+/// An image in a form, fit for a move most often: work block and spare as they came, or idle and blank; time-based values or none; damaged or not.
+pub fn image_of<F: Layout>(r: &mut Random) -> Vec<u8> {
+    let blocks = blocks(r);
+    let mut image = crafted::<F>(r, blocks);
+    if !r.once_in(3) {
+        image[BLOCK * blocks..].fill(0xFF);
+        image[BLOCK * blocks..][..r.pick(&[0, 0, 1, 63, 64])].fill(0xF8);
+    }
+    if r.once_in(2) {
+        for at in entry_places::<F>(&image, BLOCK * blocks) {
+            image[at + 4] &= !0x20;
+        }
+    }
+    if r.once_in(5) {
+        damage::<F>(r, &mut image, blocks);
+    }
+    image
+}
+
+/// An image that a move from the plain form has left.
+pub fn moved(r: &mut Random) -> Vec<u8> {
+    loop {
+        let source = image_of::<Plain>(r);
+        let length = BLOCK * (2 * blocks(r) + 1);
+        let mut target = r.bytes(length);
+        if (PAPER.from_plain)(&source, &mut target) == Answer::Done(0) {
+            return target;
+        }
+    }
 }
