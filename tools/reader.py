@@ -1,12 +1,27 @@
-"""A reader of images that follows document 01, "Flash image" and rules 1 and 2, sentence by sentence; nothing in it comes from the store's own code."""
+"""A reader of images that follows document 01, "Flash image" and rules 1 and 2, sentence by sentence, and document 02, request (d), for the plain form;
+nothing in it comes from the store's own code."""
 import struct
 
 BLOCK = 4096
-SIGNATURE = bytes.fromhex("782CF3AA7B949A43A1802E144EC37792")
 HEADER = 28
-ENTRY = 60
 STATES = (0xFF, 0x7F, 0x3F, 0x3E, 0x3D, 0x3C)
 RECORDS = (0xFF, 0xFE, 0xFC, 0xF8)
+
+
+class Form:
+    """"Each stored form has a header length of its own": the region's signature, and the fields of an entry's header"""
+
+    def __init__(self, name, signature, *fields):
+        self.name, self.signature = name, bytes.fromhex(signature)
+        self.header = struct.Struct("<HBBI" + "".join(fields) + "II16s")
+        self.entry = self.header.size
+
+
+# 01's form has monotonic count, time stamp and key index between attributes and sizes; the first recorders' has nothing there
+NEW = Form("new", "782CF3AA7B949A43A1802E144EC37792", "Q", "16s", "I")
+PLAIN = Form("plain", "1636CFDD7532644198B6FE85707FFE7D")
+FORMS = NEW, PLAIN
+SIGNATURE, ENTRY = NEW.signature, NEW.entry
 
 
 def is_blank(part):
@@ -22,19 +37,20 @@ def blocks_of(length):
     return None
 
 
-def right_header(region):
+def header_of(length, form=NEW):
     """signature, size u32 = L, format 5A, state FE, then six zero bytes"""
-    return region[:HEADER] == SIGNATURE + struct.pack("<I", len(region)) + b"\x5A\xFE" + bytes(6)
+    return form.signature + struct.pack("<I", length) + b"\x5A\xFE" + bytes(6)
 
 
 class Entry:
-    def __init__(self, region, at):
-        (start, self.state, _zero, self.attributes, _count, self.stamp, _key, self.name_size, self.data_size,
-         self.vendor) = struct.unpack_from("<HBBIQ16sIII16s", region, at)
+    def __init__(self, region, at, form):
+        start, self.state, _zero, self.attributes, *_, self.name_size, self.data_size, self.vendor = form.header.unpack_from(region, at)
         self.begins = start == 0x55AA
-        # "FF header unfinished (the entry counts as 60 bytes)"; Python's numbers do not wrap
-        self.end = at + ENTRY if self.state == 0xFF else at + ENTRY + self.name_size + self.data_size
-        self.name = region[at + ENTRY:at + ENTRY + self.name_size]
+        at += form.entry
+        # "FF header unfinished (the entry counts as 60 bytes)", 32 in the plain form; Python's numbers do not wrap
+        self.end = at if self.state == 0xFF else at + self.name_size + self.data_size
+        self.name = region[at:at + self.name_size]
+        self.data = region[at + self.name_size:at + self.name_size + self.data_size]
         self.next = (self.end + 3) // 4 * 4
 
     def is_live(self):
@@ -44,11 +60,11 @@ class Entry:
         return self.name, self.vendor
 
 
-def walk(region):
-    """"The walk starts at 28 and stops where under 60 bytes remain or no start id is found; the rest is the tail." """
+def walk(region, form=NEW):
+    """"The walk starts at 28 and stops where under 60 bytes remain or no start id is found; the rest is the tail." In the plain form, under 32."""
     entries, at = [], HEADER
-    while at + ENTRY <= len(region):
-        entry = Entry(region, at)
+    while at + form.entry <= len(region):
+        entry = Entry(region, at, form)
         if not entry.begins:
             break
         entries.append(entry)
@@ -64,8 +80,8 @@ def well_named(name):
     return characters[-1] == 0 and 0 not in characters[:-1]
 
 
-def is_sound(region, entries):
-    if not right_header(region):
+def is_sound(region, entries, form=NEW):
+    if region[:HEADER] != header_of(len(region), form):
         return False
     for e in entries:
         if e.state not in STATES:
@@ -82,9 +98,9 @@ def is_sound(region, entries):
     return True
 
 
-def is_clean(region):
-    entries, tail = walk(region)
-    return is_sound(region, entries) and is_blank(region[tail:])
+def is_clean(region, form=NEW):
+    entries, tail = walk(region, form)
+    return is_sound(region, entries, form) and is_blank(region[tail:])
 
 
 def is_idle(work):

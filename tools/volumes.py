@@ -1,0 +1,201 @@
+"""What tools/volume and tools/convert share: the variable store in a firmware volume or SPI dump, what keeps a region from being sound in words, images made
+of entries, and files that are never overwritten."""
+import os
+import struct
+import sys
+
+from reader import BLOCK, FORMS, HEADER, NEW, STATES, blocks_of, header_of, is_blank, is_clean, is_idle, walk, well_named
+
+MOST_BLOCKS = 7
+# file system GUID of volumes for variables, as in EFI_FIRMWARE_VOLUME_HEADER
+NV_DATA = bytes.fromhex("8D2BF1FF96768B4CA9852747075B4F50")
+# EDK II's work block for fault-tolerant writes: signature, checksum, state, length of the queue behind it
+WORK_BLOCK = bytes.fromhex("2B29589E687C7D49A0CE6500FD9F1B95")
+WORK_HEADER, WRITE_HEADER, WRITE_RECORD = 32, 40, 40
+# zero vector, file system, length, "_FVH", attributes, header length, checksum; then the block map
+VOLUME = struct.Struct("<16s16sQ4sIHH")
+
+
+class Refused(Exception):
+    """in one line, why"""
+
+
+# ---- the store in a dump
+
+
+class Store:
+    """of the volume at an offset of a dump: its form and where its bytes stand, or what is wrong with it"""
+
+    def __init__(self, dump, at):
+        self.at, self.wrong = at, None
+        (_, self.system, length, _, _, header, _) = VOLUME.unpack_from(dump, at)
+        self.begin = at + header
+        (signature, self.size, form, state, zeros) = struct.unpack("<16sIBB6s", dump[self.begin:self.begin + HEADER].ljust(HEADER, b"\0"))
+        self.form = next((form for form in FORMS if form.signature == signature), None)
+        self.is_one = self.system == NV_DATA or self.form is not None
+        words = dump[at:at + header // 2 * 2]
+        if header % 2 or header < 72 or length > len(dump) - at or header + HEADER > length:
+            self.wrong = "its header or length goes beyond it, or beyond the file"
+        elif sum(struct.unpack("<%dH" % (len(words) // 2), words)) % 65536:
+            self.wrong = "the checksum of its header is wrong"
+        elif self.form is None:
+            self.wrong = "it has no variable store where its header ends"
+        elif (form, state, zeros) != (0x5A, 0xFE, bytes(6)):
+            self.wrong = "its variable store is not formatted or not healthy"
+        elif self.size < HEADER or header + self.size > length:
+            self.wrong = "its variable store is longer than it, or too short"
+
+        elif interrupted(dump[self.begin + self.size:at + length]):
+            self.wrong = "EDK II was interrupted in rewriting it, and finishes that when the machine boots"
+
+    def __str__(self):
+        return "the store in the volume at 0x%X" % self.at
+
+    def sound_bytes(self, dump):
+        """its bytes and the entries in them with the offset of the tail, if it is sound"""
+        held = dump[self.begin:self.begin + self.size]
+        entries, tail = walk(held, self.form)
+        fault = fault_of(entries, len(held))
+        if fault:
+            raise Refused("%s: %s" % (self, fault))
+        return held, entries, tail
+
+
+def interrupted(behind):
+    """whether EDK II's last fault-tolerant write has its copy complete in the spare and its destination not; `behind` is the volume behind its store"""
+    at = behind.find(WORK_BLOCK)
+    if at < 0:
+        return False
+    at += WORK_HEADER
+    pending = False
+    # a queue of writes: a header and its records; a bit is set by clearing it: allocated 1, complete 4; of a record spare complete 2, destination complete 4
+    while at + WRITE_HEADER <= len(behind) and not behind[at] & 1:
+        records, private = struct.unpack_from("<QQ", behind, at + 24)
+        step = WRITE_RECORD + private
+        if WRITE_HEADER + records * step > len(behind) - at:
+            break
+        states = [behind[at + WRITE_HEADER + i * step] for i in range(records)]
+        pending = bool(behind[at] & 4) and any(not state & 2 and state & 4 for state in states)
+        at += WRITE_HEADER + records * step
+    return pending
+
+
+def stores_of(dump):
+    found, at = [], dump.find(b"_FVH")
+    while at >= 0:
+        if at >= 40 and at + 16 <= len(dump):
+            store = Store(dump, at - 40)
+            if store.is_one:
+                found.append(store)
+        at = dump.find(b"_FVH", at + 1)
+    return found
+
+
+def the_store(dump, at):
+    """the one that is meant; one that is damaged counts as a second"""
+    found = [store for store in stores_of(dump) if at is None or store.at == at]
+    if not found:
+        raise Refused("no volume of variables" + (" at 0x%X" % at if at is not None else ""))
+    if len(found) > 1:
+        raise Refused("volumes of variables at %s: say which with --at" % ", ".join("0x%X" % store.at + (" (damaged)" if store.wrong else "") for store in found))
+    if found[0].wrong:
+        raise Refused("the volume at 0x%X: %s" % (found[0].at, found[0].wrong))
+    return found[0]
+
+
+# ---- what a call or a start-up would refuse
+
+
+def named(entry):
+    name = entry.name.decode("utf-16-le", errors="replace").rstrip("\0")
+    return "%s of vendor %s" % (name if name.isprintable() else entry.name.hex().upper(), entry.vendor.hex().upper())
+
+
+def fault_of(entries, length):
+    """what keeps a region of these entries from being sound, or None"""
+    seen = set()
+    for e in entries:
+        if e.state not in STATES:
+            return "an entry has state %02X" % e.state
+        if e.state != 0xFF and e.end > length:
+            return "an entry ends beyond the region"
+        if not e.is_live():
+            continue
+        if not well_named(e.name):
+            return "an entry's name is not 1 to 63 characters and a zero character"
+        if not 1 <= e.data_size <= 2048:
+            return "%s has %d bytes of data, and 1 to 2,048 are allowed" % (named(e), e.data_size)
+        if e.attributes not in (0x03, 0x07, 0x23, 0x27):
+            return "%s has attributes 0x%02X, and 0x03, 0x07, 0x23, 0x27 are allowed" % (named(e), e.attributes)
+        if (e.state, e.key()) in seen:
+            return "%s stands twice" % named(e)
+        seen.add((e.state, e.key()))
+    return None
+
+
+# ---- images
+
+
+def form_of(image):
+    """the form whose signature it begins with, or None"""
+    return next((form for form in FORMS if image.startswith(form.signature)), None)
+
+
+def ready_region(image):
+    """the form of an image that a call would accept, its region, and the entries with the offset of the tail"""
+    blocks = blocks_of(len(image))
+    if blocks is None:
+        raise Refused("the image has %d bytes, and an image has 4,096 * (2b + 1) with b from 1 to 7" % len(image))
+    region, work, spare = image[:BLOCK * blocks], image[BLOCK * blocks:BLOCK * (blocks + 1)], image[BLOCK * (blocks + 1):]
+    form = form_of(image)
+    if form is None or region[:HEADER] != header_of(len(region), form):
+        raise Refused("the image has no region's header")
+    entries, tail = walk(region, form)
+    fault = fault_of(entries, len(region))
+    if fault:
+        raise Refused("the image: " + fault)
+    if not (is_clean(region, form) and is_idle(work) and is_blank(spare)):
+        raise Refused("the image is as a power cut left it: " + ("start up first" if form is NEW else "let its station start up first"))
+    return form, region, entries, tail
+
+
+def with_blocks(blocks, entries, form):
+    """an image of a region header and these bytes"""
+    return (header_of(BLOCK * blocks, form) + entries).ljust(BLOCK * (2 * blocks + 1), b"\xFF")
+
+
+def blocks_for(used, blocks, whose):
+    """so many as are asked for, or as few as hold the bytes used"""
+    least = -(-used // BLOCK)
+    if least > MOST_BLOCKS:
+        raise Refused("%s: %d bytes are used, and an image holds %d" % (whose, used, MOST_BLOCKS * BLOCK))
+    if blocks is not None and least > blocks:
+        raise Refused("%s: %d bytes are used, which takes %d blocks" % (whose, used, least))
+    return blocks or least
+
+
+def counted(number, what):
+    return "%d %s%s" % (number, what, "" if number == 1 else "s")
+
+
+# ---- files
+
+
+def read(path):
+    with open(path, "rb") as file:
+        return file.read()
+
+
+def spare_inputs(out, inputs):
+    """refuses, before anything is read, an output that is an input, by whatever name"""
+    if os.path.exists(out) and any(os.path.samefile(out, path) for path in inputs):
+        raise Refused("%s would be overwritten" % out)
+
+
+def main(work):
+    """a tool's end: what is refused is told in one line, with exit status 1"""
+    try:
+        work()
+    except (Refused, OSError) as why:
+        print("%s: %s" % (os.path.basename(sys.argv[0]), why), file=sys.stderr)
+        sys.exit(1)
