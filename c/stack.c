@@ -21,7 +21,7 @@ enum { BLOCKS = 7, IMAGE = VS_LARGEST_IMAGE, STACK = 1 << 18, PAINT = 0xC5, ADDR
 static const vs_context no_limit = {VS_NO_LIMIT};
 static const vs_setup setup = {0, 0}; /* no custom mode, no reserve */
 static const uint8_t vendor[16] = {1}, zeros[2048];
-static uint8_t image[IMAGE], buffer[2048], content[VS_CONTENT], stack[STACK];
+static uint8_t image[IMAGE], plain[IMAGE], buffer[2048], content[VS_CONTENT], stack[STACK];
 static vs_session session, made;
 static vs_answer answer;
 static vs_listed listed;
@@ -91,6 +91,8 @@ static void format(void) { answer = CALL(vs_format)(no_limit, image, IMAGE, cont
 static void plan_format(void) { plan = CALL(vs_plan_format)(image, IMAGE, content); }
 static void start_up(void) { started = CALL(vs_start_up)(no_limit, image, IMAGE, setup, content); }
 static void plan_start_up(void) { plan = CALL(vs_plan_start_up)(image, IMAGE, content); }
+static void to_plain(void) { answer = CALL(vs_to_plain)(image, IMAGE, plain, IMAGE); }
+static void from_plain(void) { answer = CALL(vs_from_plain)(plain, IMAGE, image, IMAGE); }
 
 static void set(void)
 {
@@ -150,14 +152,19 @@ static const measured calls[] = {
     {"vs_plan_set, appends and compacts", plan_set, 2048, 50000, PLANNED, 0, PLAIN | VS_APPEND, 1024},
     {"vs_plan_format", plan_format, 0, 15, PLANNED, 0, 0, 0},
     {"vs_plan_start_up that compacts", plan_start_up, 0, 50000, PLANNED, 0, 0, 0},
+    {"vs_to_plain", to_plain, 0, 0, ANSWER, 0, 0, 0},
+    {"vs_from_plain", from_plain, 0, 0, ANSWER, 0, 0, 0},
 };
 
-/* All is laid ready; a start-up finds a byte in the tail that no entry accounts for. */
+/* All is laid ready; a start-up finds a byte in the tail that no entry accounts for, and a move from the plain form what one to it has left. */
 static void prepare(const measured *m)
 {
     fill(m->filled ? m->filled : 4096 * BLOCKS - 4096);
     if (m->caller == start_up || m->caller == plan_start_up) {
         image[4096 * BLOCKS - 1] = 0;
+    }
+    if (m->caller == from_plain) {
+        vs_to_plain(image, IMAGE, plain, IMAGE);
     }
     memcpy(name, named(m->i), sizeof name);
     attributes = m->attributes;
