@@ -12,7 +12,12 @@
 //   B  bytes poked into the image, as nobody but a test does: offset u32, size u16, bytes
 //   D  bytes of the image shown: offset u32, size u16
 //   V  varlist's text
-// Numbers are little-endian; a field past the script's end counts as zeros or empty. Before the first format the image has no bytes.
+//   M  move        form u8 (1 into the new form, 0 into the plain one), size u32: the target becomes the first so many bytes of a buffer of its own, as they
+//                  stand, and the image is moved into it
+//   E  bytes of the target shown: offset u32, size u16
+//   T  the target taken as the image: its length, and its bytes
+// Numbers are little-endian; a field past the script's end counts as zeros or empty. Before the first format the image has no bytes, and before the first move
+// the target has none.
 ghost use Prim.Native.Nat.{_<_, _^_};
 ghost use Rattle.io.specs.Counts.{Counts};
 use crate::fields;
@@ -20,6 +25,7 @@ use crate::print;
 use model::Answer;
 use model::Context;
 use model::Got;
+use model::Layout;
 use model::Named;
 use model::Session;
 use model::Setup;
@@ -194,8 +200,24 @@ pub(crate) fn varlist(image: &[u8]) {
     print::word(slices::cut(&out, 0, n));
 }
 
+fn moved(step: &[u8], image: &[u8], target: &mut [u8]) -> Answer {
+    if fields::byte(step, 5) == 1 {
+        return convert::move_values(Layout::plain(), Layout::authenticated(), image, target);
+    }
+    convert::move_values(Layout::authenticated(), Layout::plain(), image, target)
+}
+
+fn move_image(step: &[u8], image: &[u8], target: &mut [u8]) {
+    print_answer(b"move", moved(step, image, target));
+}
+
+fn take_target(image: &mut [u8], target: &[u8]) {
+    output::put_bytes(image, 0, fields::bytes(target, 0, 65536));
+    print::word(b"target taken\n");
+}
+
 // A step that leaves the session as it is.
-fn call(step: &[u8], image: &mut [u8], s: Session) {
+fn call(step: &[u8], image: &mut [u8], target: &mut [u8], s: Session) {
     match fields::byte(step, 0) {
         b'F' => format(step, image),
         b'S' => set(step, image, s),
@@ -204,12 +226,15 @@ fn call(step: &[u8], image: &mut [u8], s: Session) {
         b'B' => poke(step, image),
         b'D' => show(step, image),
         b'V' => varlist(image),
+        b'M' => move_image(step, image, target),
+        b'E' => show(step, target),
+        b'T' => take_target(image, target),
         _ => print::word(b"no such step\n"),
     }
 }
 
 // A step played; the session after it.
-fn play_step(step: &[u8], image: &mut [u8], s: Session) -> Session {
+fn play_step(step: &[u8], image: &mut [u8], target: &mut [u8], s: Session) -> Session {
     let kind = fields::byte(step, 0);
     if kind == b'U' {
         return start_up(step, image);
@@ -220,7 +245,7 @@ fn play_step(step: &[u8], image: &mut [u8], s: Session) -> Session {
     if kind == b'P' {
         return phase(step, s);
     }
-    call(step, image, s);
+    call(step, image, target, s);
     s
 }
 
@@ -238,36 +263,65 @@ fn step_size(step: &[u8]) -> usize
         b'P' => 6,
         b'B' => 11 + fields::short(step, 9),
         b'D' => 11,
+        b'M' => 10,
+        b'E' => 11,
         _ => 5,
     }
 }
 
-// The image's length at a step: a format names another one.
-fn asked_size(step: &[u8], size: usize) -> usize {
-    if fields::byte(step, 0) == b'F' {
+// The target's length at a step: a move names another one.
+fn asked_room(step: &[u8], room: usize) -> usize {
+    if fields::byte(step, 0) == b'M' {
+        return fields::long(step, 6);
+    }
+    room
+}
+
+fn target_size(step: &[u8], room: usize, buffer: &[u8]) -> usize
+    ensures { λ r. ⌜ Counts r (now (buffer .entry)) ⌝ }
+{
+    fields::least(asked_room(step, room), buffer)
+}
+
+// The image's length at a step: a format names another one, and the target brings its own.
+fn asked_size(step: &[u8], size: usize, room: usize) -> usize {
+    let kind = fields::byte(step, 0);
+    if kind == b'F' {
         let b = fields::byte(step, 5) as usize;
         return layout::BLOCK * (2 * b + 1);
+    }
+    if kind == b'T' {
+        return room;
     }
     size
 }
 
-// The steps of a script, over a buffer for the image.
-fn play_steps(script: &[u8], buffer: &mut [u8]) {
+fn image_size(step: &[u8], size: usize, room: usize, buffer: &[u8]) -> usize
+    ensures { λ r. ⌜ Counts r (now (buffer .entry)) ⌝ }
+{
+    fields::least(asked_size(step, size, room), buffer)
+}
+
+// The steps of a script, over a buffer for the image and one for the target of moves.
+fn play_steps(script: &[u8], buffer: &mut [u8], other: &mut [u8]) {
     let mut s = Session::fresh(Setup {
         custom: 0,
         reserve: 0,
     });
     let mut size: usize = 0;
+    let mut room: usize = 0;
     let mut at: usize = 0;
     while at < script.len() {
         let step = slices::cut(script, at, 65536);
-        size = fields::least(asked_size(step, size), buffer);
-        s = play_step(step, &mut buffer[..size], s);
+        room = target_size(step, room, other);
+        size = image_size(step, size, room, buffer);
+        s = play_step(step, &mut buffer[..size], &mut other[..room], s);
         at += step_size(step);
     }
 }
 
 pub(crate) fn play(script: &[u8]) {
     let mut buffer = io::large_buffer();
-    play_steps(script, &mut buffer);
+    let mut other = io::large_buffer();
+    play_steps(script, &mut buffer, &mut other);
 }

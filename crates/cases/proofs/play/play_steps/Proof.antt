@@ -1,5 +1,6 @@
--- `cases::play::play_steps` ends: every step takes a byte of the script or more. Assumes nothing.
-use Prim.Native.Nat.{_-_}
+-- `cases::play::play_steps` ends: every step takes a byte of the script or more. The invariant repeats the bound of a slice's length for the script, since the search
+-- in the loop does not reach back to the parameter. Assumes nothing.
+use Prim.Native.Nat.{_-_, _<_, _^_}
 use mathlib.Core.Path.{_≡_}
 use lib.ListN.{length}
 use borrow.Author.Needs.{needs}
@@ -7,10 +8,10 @@ use Rattle.cases.proofs.play.play_steps.Statement.{statement}
 use Rattle.cases.proofs.play.play_steps.Tie as tie
 
 abbrev Inv-loop : tie.InvT-loop
-Inv-loop script buffer₀ s₀ size₀ at₀ buffer s size at = length buffer ≡ length buffer₀
+Inv-loop script buffer₀ other₀ s₀ size₀ room₀ at₀ buffer other s size room at = (length buffer ≡ length buffer₀) × (length other ≡ length other₀) × (length script < 2 ^ 63)
 
 abbrev μ-loop : tie.MeasureT-loop
-μ-loop script buffer₀ s₀ size₀ at₀ buffer s size at = length script - at
+μ-loop script buffer₀ other₀ s₀ size₀ room₀ at₀ buffer other s size room at = length script - at
 
 fresh-requires : tie.Need-fresh-requires Inv-loop μ-loop
 fresh-requires c κs = search needs
@@ -21,17 +22,23 @@ loop-holds c = search needs
 cut-requires : tie.Need-cut-requires Inv-loop μ-loop
 cut-requires c κs = search needs
 
-asked-size-requires : tie.Need-asked-size-requires Inv-loop μ-loop
-asked-size-requires c κs = search needs
+target-size-requires : tie.Need-target-size-requires Inv-loop μ-loop
+target-size-requires c κs = search needs
 
-least-requires : tie.Need-least-requires Inv-loop μ-loop
-least-requires c κs = search needs
+image-size-requires : tie.Need-image-size-requires Inv-loop μ-loop
+image-size-requires c κs = search needs
 
 slice-relend-prefix-play-step : tie.Need-slice-relend-prefix-play-step Inv-loop μ-loop
 slice-relend-prefix-play-step c = search needs
 
 slice-aggregate-play-step : tie.Need-slice-aggregate-play-step Inv-loop μ-loop
 slice-aggregate-play-step c = search needs
+
+slice-relend-prefix-play-step-2 : tie.Need-slice-relend-prefix-play-step-2 Inv-loop μ-loop
+slice-relend-prefix-play-step-2 c = search needs
+
+slice-aggregate-play-step-2 : tie.Need-slice-aggregate-play-step-2 Inv-loop μ-loop
+slice-aggregate-play-step-2 c = search needs
 
 play-step-requires : tie.Need-play-step-requires Inv-loop μ-loop
 play-step-requires c κs = search needs
@@ -51,6 +58,9 @@ loop-again c = search needs
 same-length : tie.Need-same-length Inv-loop μ-loop
 same-length c = search needs
 
+same-length-2 : tie.Need-same-length-2 Inv-loop μ-loop
+same-length-2 c = search needs
+
 returns : tie.Need-returns Inv-loop μ-loop
 returns c = search needs
 
@@ -63,14 +73,17 @@ play-steps-spec =
     fresh-requires
     loop-holds
     cut-requires
-    asked-size-requires
-    least-requires
+    target-size-requires
+    image-size-requires
     slice-relend-prefix-play-step
     slice-aggregate-play-step
+    slice-relend-prefix-play-step-2
+    slice-aggregate-play-step-2
     play-step-requires
     step-size-requires
     add-at
     loop-less
     loop-again
     same-length
+    same-length-2
     returns)
