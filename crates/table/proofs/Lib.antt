@@ -13,5 +13,7 @@ pub mod Table
 pub mod Readings
 -- 02 (b): appends out of order
 pub mod Appends
+-- 02 (d): moves between the two stored forms
+pub mod Moves
 -- Calls that make no stores, and formatting
 pub mod Replies
