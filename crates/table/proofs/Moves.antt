@@ -2,17 +2,19 @@
 -- answer, and every byte of the target after it. Each holds by evaluation. The images are written out byte by byte from the paper, and none is taken from the
 -- definitions; unless a row says otherwise the target is 12,288 bytes of A5, so that a byte which a move leaves alone is seen.
 -- Assumes nothing.
-use Prim.Native.Nat.{ℕ}
+use Prim.Native.Nat.{ℕ, _-_}
 use mathlib.Core.Path.{_≡_, refl, ap, _∙_}
 use mathlib.Core.List.{List, [], _∷_, _++_}
 use mathlib.Core.Option.{Option, none, some}
-use lib.ListN.{replicate}
+use lib.ListN.{length, replicate}
 use Rattle.model.specs.declared.Layout.{Layout}
 use Rattle.model.specs.declared.Rule.{Rule}
 use Rattle.model.specs.declared.Rule.the-variants.{Length, Room, Source, TimeBased}
 use Rattle.model.specs.Lists.{onSome}
 use Rattle.model.specs.Layout.{authenticated, plain}
-use Rattle.model.specs.Move.{moveBroken, moved, imageMoved, moveAnswer}
+use Rattle.model.specs.Image.{regionSize}
+use Rattle.model.specs.Compact.{encodeIn}
+use Rattle.model.specs.Move.{movedValues, moveBroken, moved, imageMoved, moveAnswer}
 use Rattle.model.specs.Answers.{Outcome, done, refused, ruleNumber}
 use Rattle.table.proofs.Row.{computed, ff, zeros, header, headerOf, image, empty, guid, rate, four, behindState, startId, rateEntry, rateStands}
 
@@ -118,16 +120,22 @@ sourceShort-holds : Holds sourceShort
 unfolding computed
 sourceShort-holds = record { answer = refl; left = refl }
 
--- the other rows hold by the rule that is broken, or none, which is evaluated once for answer and image
+-- the other rows hold by the rule that is broken, or none, which is evaluated once for answer and image; and by the region that is left and the number of FF behind it
 module _ (row : Move) where
-  pub accepted : moveBroken (row .from) (row .to) (row .source) (row .target) ≡ none
+  pub accepted : (content : List ℕ) (rest : ℕ)
+      → moveBroken (row .from) (row .to) (row .source) (row .target) ≡ none
       → done 0 ≡ row .answer
-      → moved (row .from) (row .to) (row .source) (row .target) ≡ row .left
+      → encodeIn (row .to) (regionSize (row .target)) (movedValues (row .from) (row .source)) ≡ content
+      → length (row .target) - regionSize (row .target) ≡ rest
+      → content ++ ff rest ≡ row .left
       → Holds row
-  unfolding imageMoved moveAnswer
-  accepted whole answer left = record {
+  unfolding imageMoved moveAnswer moved
+  accepted content rest whole answer front blank left = record {
     answer = ap (λ (o : Option Rule). onSome o (λ rule. refused (ruleNumber rule)) (done 0)) whole ∙ answer;
-    left = ap (λ (o : Option Rule). onSome o (λ rule. row .target) (moved (row .from) (row .to) (row .source) (row .target))) whole ∙ left;
+    left = ap (λ (o : Option Rule). onSome o (λ rule. row .target) (moved (row .from) (row .to) (row .source) (row .target))) whole
+        ∙ ap (λ (l : List ℕ). l ++ ff (length (row .target) - regionSize (row .target))) front
+        ∙ ap (λ (n : ℕ). content ++ ff n) blank
+        ∙ left;
   }
 
   pub declined : (rule : Rule)
@@ -149,7 +157,7 @@ out = toNew oldRateStands (image (header ++ rateEntry 0x3F 0x64 ++ ff 3992))
 
 out-holds : Holds out
 unfolding computed
-out-holds = accepted out refl refl refl
+out-holds = accepted out (header ++ rateEntry 0x3F 0x64 ++ ff 3992) 8192 refl refl refl refl refl
 
 -- and home again: 28 to 76
 abbrev home : Move
@@ -157,7 +165,7 @@ home = toPlain rateStands oldRateStands
 
 home-holds : Holds home
 unfolding computed
-home-holds = accepted home refl refl refl
+home-holds = accepted home (oldHeader ++ oldRate 0x3F 0x64 ++ ff 4020) 8192 refl refl refl refl refl
 
 -- values, attributes and order are kept: RATE, which is 3E alone and becomes 3F; B with 0x20, whose stamp is zeros; C. What is no value stays behind: A's 3D and
 -- 3C entries; a header that was begun, in the plain form an entry of 32 bytes; C's 3E entry, since its 3F entry stands; D, which is 7F, never added.
@@ -183,7 +191,7 @@ behind =
 
 behind-holds : Holds behind
 unfolding computed
-behind-holds = accepted behind refl refl refl
+behind-holds = accepted behind (header ++ rateEntry 0x3F 0x64 ++ newLetter 0x27 (zeros 16) 0x42 0x03 ++ newLetter 0x03 (zeros 16) 0x43 0x05 ++ ff 3856) 8192 refl refl refl refl refl
 
 -- from the new form, where a header that was begun is an entry of 60 bytes. Nobody looks at an entry's zero byte, count, key index and padding, at a stamp without
 -- 0x20, or at the record of a compaction that was finished: in the target there are zeros, FF, and no stamp. 28 + 76 + 60 + 76 = 240
@@ -211,7 +219,7 @@ unseen =
 
 unseen-holds : Holds unseen
 unfolding computed
-unseen-holds = accepted unseen refl refl refl
+unseen-holds = accepted unseen (oldHeader ++ oldRate 0x3F 0x64 ++ ff 4020) 8192 refl refl refl refl refl
 
 -- "stamps become zero in the new form"; the definitions have any two forms: from the new form into the new form, where there is a stamp to lose
 abbrev stampZero : Move
@@ -226,7 +234,7 @@ stampZero = record {
 
 stampZero-holds : Holds stampZero
 unfolding computed
-stampZero-holds = accepted stampZero refl refl refl
+stampZero-holds = accepted stampZero (header ++ newLetter 0x27 (zeros 16) 0x41 0x01 ++ ff 4000) 8192 refl refl refl refl refl
 
 -- ---- "1 is tried on both"
 
@@ -306,7 +314,7 @@ full = toNew (image (oldHeader ++ oldPair 1892 0x64 0x07 ++ ff 56)) (image (head
 
 full-holds : Holds full
 unfolding computed
-full-holds = accepted full refl refl refl
+full-holds = accepted full (header ++ newPair 0x07 1892 0x64 0x07) 8192 refl refl refl refl refl
 
 -- 1,893 bytes, and 3 of padding: 4,100
 abbrev over : Move
@@ -340,22 +348,11 @@ fullOutTwo = record {
 
 fullOutTwo-holds : Holds fullOutTwo
 unfolding computed
-fullOutTwo-holds = accepted fullOutTwo refl refl refl
+fullOutTwo-holds = accepted fullOutTwo (headerOf 0x20 ++ newPair 0x07 1948 0x9C 0x07 ++ ff 4040) 12288 refl refl refl refl refl
 
--- a byte more, 1,949 and 3 of padding: in the new form 28 + 2,112 + 2,016 = 4,156, in the plain one 28 + 2,084 + 1,988 = 4,100
-abbrev overHome : ℕ → List ℕ
-overHome attributes = twoBlocks (headerOf 0x20 ++ newPair attributes 1949 0x9D 0x07 ++ ff 4039)
-
-abbrev noRoomHome : Move
-noRoomHome = plainRefused 13 (overHome 0x07) (other 12288)
-
-noRoomHome-holds : Holds noRoomHome
-unfolding computed
-noRoomHome-holds = declined noRoomHome Room refl refl refl
-
--- with 0x20 beside it: 20 before 13
+-- from there with a byte more, 1,949 and 3 of padding, which the plain form has no room for, 28 + 2,084 + 1,988 = 4,100; with 0x20 beside it: 20 before 13
 abbrev stampsFirst : Move
-stampsFirst = plainRefused 20 (overHome 0x27) (other 12288)
+stampsFirst = plainRefused 20 (twoBlocks (headerOf 0x20 ++ newPair 0x27 1949 0x9D 0x07 ++ ff 4039)) (other 12288)
 
 stampsFirst-holds : Holds stampsFirst
 unfolding computed
@@ -382,7 +379,6 @@ table =
     ∷ over
     ∷ fullOut
     ∷ fullOutTwo
-    ∷ noRoomHome
     ∷ stampsFirst
     ∷ []
 
@@ -407,6 +403,5 @@ moves =
     and over-holds
     and fullOut-holds
     and fullOutTwo-holds
-    and noRoomHome-holds
     and stampsFirst-holds
     and end
