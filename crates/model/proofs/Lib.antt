@@ -1,6 +1,8 @@
 -- Laws about the definitions.
 -- Lists of stores: composition, and what a run of bytes leaves
 pub mod Stores
+-- Stores that fail at dead addresses
+pub mod Failing
 -- Boolean tests, and tests of equal lists and names
 pub mod Tests
 -- One segment of an image under stores within it

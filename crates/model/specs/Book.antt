@@ -11,6 +11,7 @@ use Rattle.model.specs.declared.Setup.{Setup}
 use Rattle.model.specs.declared.Session.{Session}
 use Rattle.model.specs.declared.Layout.{Layout}
 use Rattle.model.specs.Layout.{authenticated, stateAt}
+use Rattle.model.specs.declared.Context.{Context}
 use Rattle.model.specs.Lists.{any}
 use Rattle.model.specs.Image.{region, workAt}
 use Rattle.model.specs.Name.{Key}
@@ -22,7 +23,7 @@ use Rattle.model.specs.Change.{Change, nothing, remove, put, changeIn, s
 use Rattle.model.specs.Stores.{Store, byte, erase, apply, Bytes, Uncleared, Cut, Clears, difference}
 use Rattle.model.specs.Set.{Plan, setPlan, fitsTail}
 use Rattle.model.specs.StartUp.{startUpPlan, formatPlan}
-use Rattle.model.specs.Answers.{Outcome, done, stopped, refused, outcome, imageAfter, storesOf, decided, getPlan, nextPlan}
+use Rattle.model.specs.Answers.{Outcome, done, stopped, refused, outcome, imageAfter, madeOf, storesOf, decided, getPlan, nextPlan}
 use Rattle.model.specs.Move.{moveBroken, imageMoved}
 
 -- "sets (deletes among them), gets, next-names and start-ups": each with its session and arguments, a start-up with custom mode and R
@@ -53,11 +54,11 @@ entered (get s k buffer) book = book
 entered (next s k buffer) book = book
 entered (startUp setup) book = book
 
--- of a call that ran with n: done, or stopped with its deciding store complete
+-- of a call that ran: done, or ended before its end with its deciding store complete; a refusal before any store has none
 abbrev pub counts : Outcome → Bool → Bool
 counts (done stores) complete = true
 counts stopped complete = complete
-counts (refused rule) complete = false
+counts (refused rule) complete = complete
 
 unfoldable pub bookAfter : Call → Bool → List Value → List Value
 bookAfter c true book = entered c book
@@ -71,8 +72,8 @@ pub data Run (start : List ℕ) : List ℕ → List Value → Type 0 where
       → Run start img book
       → (c : Call)
       → Sized c
-      → (n : ℕ)
-      → Run start (imageAfter n (planOf c img) img) (bookAfter c (counts (outcome n (planOf c img)) (decided n (planOf c img))) book)
+      → (x : Context)
+      → Run start (imageAfter x (planOf c img) img) (bookAfter c (counts (outcome x (planOf c img) img) (decided (madeOf x (planOf c img) img) (planOf c img))) book)
   cut : {img img′ : List ℕ}
       {book : List Value}
       → Run start img book
@@ -86,10 +87,10 @@ pub data Run (start : List ℕ) : List ℕ → List Value → Type 0 where
 pub record StartedUp (img : List ℕ) : Type 0 where
   pub before : List ℕ
   pub bytes : Bytes before
-  pub n : ℕ
+  pub context : Context
   pub stores : ℕ
-  pub finished : outcome n (startUpPlan before) ≡ done stores
-  pub left : img ≡ imageAfter n (startUpPlan before) before
+  pub finished : outcome context (startUpPlan before) before ≡ done stores
+  pub left : img ≡ imageAfter context (startUpPlan before) before
 
 -- 02 (d), "on what a done one leaves in the new form a run of 01 may begin"
 pub record MovedInto (img : List ℕ) : Type 0 where
@@ -105,17 +106,17 @@ pub data Begins (img : List ℕ) : Type 0 where
   moved-in : MovedInto img → Begins img
 
 -- the claim about one call of a run: a start-up that is done leaves the values of the book
-abbrev pub Agrees : Call → ℕ → List ℕ → List Value → Type 0
-Agrees (set s r) n img book = Unit {0}
-Agrees (get s k buffer) n img book = Unit {0}
-Agrees (next s k buffer) n img book = Unit {0}
-Agrees (startUp setup) n img book =
-    (stores : ℕ) → outcome n (startUpPlan img) ≡ done stores → valuesOf (imageAfter n (startUpPlan img) img) ≡ book
+abbrev pub Agrees : Call → Context → List ℕ → List Value → Type 0
+Agrees (set s r) x img book = Unit {0}
+Agrees (get s k buffer) x img book = Unit {0}
+Agrees (next s k buffer) x img book = Unit {0}
+Agrees (startUp setup) x img book =
+    (stores : ℕ) → outcome x (startUpPlan img) img ≡ done stores → valuesOf (imageAfter x (startUpPlan img) img) ≡ book
 
 -- "after every start-up in it that is done, the image's list of values equals the book as it then stands"
 abbrev pub AgreesAll : {start img : List ℕ} {book : List Value} → Run start img book → Type 0
 AgreesAll begin = Unit {0}
-AgreesAll (ran {img} {book} run c sized n) = AgreesAll run × Agrees c n img book
+AgreesAll (ran {img} {book} run c sized x) = AgreesAll run × Agrees c x img book
 AgreesAll (cut run c sized k left) = AgreesAll run
 
 -- *Demand 3*. It is also 02 (b), "A cut keeps data and stamp together": a cut append leaves the book as it was, or enters `newValue`, which has both

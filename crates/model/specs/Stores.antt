@@ -1,12 +1,14 @@
 -- 01, "Flash image" and "What a set does": stores, lists of stores, what a cut leaves.
 use Prim.Native.Nat.{ℕ, zero, suc, _*_, _<_}
+use mathlib.Core.Bool.{Bool, false, not, cond, _&&_}
+use lib.Dec.{eqb}
 use mathlib.Core.Path.{_≡_}
 use mathlib.Core.Logic.{_⊎_, _≢_}
 use mathlib.Core.List.{List, [], _∷_}
 use lib.ListN.{length, take, getD, set, replicate}
 use lib.Bits.{bitAnd, bitXor}
 use lib.Count.{ones}
-use Rattle.model.specs.Lists.{overlay}
+use Rattle.model.specs.Lists.{overlay, among}
 use Rattle.model.specs.Image.{block}
 
 -- "A store is one byte store (it may only clear bits) or one block erase": a byte's offset and new value; a block's number
@@ -29,6 +31,20 @@ applyAll (s ∷ ss) img = applyAll ss (apply s img)
 -- "the image is then as after the first n"
 unfoldable pub after : ℕ → List Store → List ℕ → List ℕ
 after n ss img = applyAll (take n ss) img
+
+-- "a bit would have to fall": old has a bit that new has not
+abbrev pub falls : ℕ → ℕ → Bool
+falls old new = not (eqb (bitAnd old new) old)
+
+-- "it fails at a dead address where a bit would have to fall"
+unfoldable pub fails : List ℕ → Store → List ℕ → Bool
+fails dead (byte at v) img = among dead at && falls (getD img at 0) v
+fails dead (erase b) img = false
+
+-- how many stores of a list come before the first that fails; all of them where none does
+unfoldable pub reach : List ℕ → List Store → List ℕ → ℕ
+reach dead [] img = 0
+reach dead (s ∷ ss) img = cond (fails dead s img) 0 (suc (reach dead ss (apply s img)))
 
 -- bytes stored from an offset on, "in rising order, FF bytes included"
 unfoldable pub run : ℕ → List ℕ → List Store

@@ -21,7 +21,9 @@ use Rattle.model.specs.Rules.{setBroken}
 use Rattle.model.specs.Stores.{Store, applyAll, Cut}
 use Rattle.model.specs.Set.{Plan, refuse, make, setPlan}
 use Rattle.model.specs.StartUp.{startUpPlan, startUpStores}
-use Rattle.model.specs.Answers.{Outcome, done, ruleNumber, outcome, imageAfter, storesOf, decided}
+use Rattle.model.specs.Answers.{Outcome, done, ruleNumber, outcome, imageAfter, madeOf, storesOf, decided}
+use Rattle.model.specs.declared.Context.{Context}
+use Rattle.model.proofs.Failing.{unworn, outcome-none, image-none}
 use Rattle.model.specs.Book.{Call, set, get, next, startUp, planOf, Sized, entered, counts, bookAfter, Run, begin, ran, cut, Begins, started}
 use Rattle.model.proofs.Stores.{after-all}
 use Rattle.plan.specs.declared.HostOp.{HostOp}
@@ -60,11 +62,15 @@ told-stores (make to on) content p t =
     ∙ numbers-append content (take n (p .ops)) (drop n (p .ops))
     ∙ ap₂ (λ (x y : List Store). x ++ y) (t .1) (t .2)
 
+-- as many stores as a plan has
+abbrev allowed : Plan → Context
+allowed plan = unworn (length (storesOf plan))
+
 told-left : (plan : Plan) (content : List ℕ) (p : HostPlan) (part : List ℕ) → Told plan content p
-    → carriedOut content p part ≡ imageAfter (length (storesOf plan)) plan part
-unfolding imageAfter
+    → carriedOut content p part ≡ imageAfter (allowed plan) plan part
 told-left plan content p part t =
-    ap (λ (ss : List Store). applyAll ss part) (told-stores plan content p t) ∙ sym (after-all (length (storesOf plan)) (storesOf plan) part (omega arith))
+    ap (λ (ss : List Store). applyAll ss part) (told-stores plan content p t)
+    ∙ sym (image-none (allowed plan) plan part refl ∙ after-all (length (storesOf plan)) (storesOf plan) part (omega arith))
 
 -- ---- the rule told
 
@@ -87,25 +93,27 @@ no-rule-zero rule.LockPhase = refl
 no-rule-zero rule.LockSpace = refl
 no-rule-zero rule.Source = refl
 no-rule-zero rule.TimeBased = refl
+no-rule-zero rule.Worn = refl
 
 -- given as many stores as it has, an accepted call is done
-made-done : (to on : List Store) → outcome (length (storesOf (make to on))) (make to on) ≡ done (length (storesOf (make to on)))
-unfolding outcome storesOf
-made-done to on = rw (le-leb (length (to ++ on)) (length (to ++ on)) (omega arith))
+made-done : (to on : List Store) (part : List ℕ) → outcome (allowed (make to on)) (make to on) part ≡ done (length (storesOf (make to on)))
+unfolding storesOf
+made-done to on part = outcome-none (allowed (make to on)) to on part refl ∙ rw (le-leb (length (to ++ on)) (length (to ++ on)) (omega arith))
 
 -- so the rule 0 tells of a call carried out that it is done
-told-counts : (plan : Plan) (content : List ℕ) (p : HostPlan) → Told plan content p
-    → counts (outcome (length (storesOf plan)) plan) (decided (length (storesOf plan)) plan) ≡ eqb (p .rule) 0
-unfolding outcome refusalOf
-told-counts (refuse r) content p e = sym (ap (λ (h : HostPlan). eqb (h .rule) 0) e ∙ no-rule-zero r)
-told-counts (make to on) content p t =
-    ap (λ (o : Outcome). counts o (decided (length (storesOf (make to on))) (make to on))) (made-done to on) ∙ sym (ap (λ (n : ℕ). eqb n 0) (t .0))
+told-counts : (plan : Plan) (content : List ℕ) (p : HostPlan) (part : List ℕ) → Told plan content p
+    → counts (outcome (allowed plan) plan part) (decided (madeOf (allowed plan) plan part) plan) ≡ eqb (p .rule) 0
+unfolding outcome decided refusalOf
+told-counts (refuse r) content p part e = sym (ap (λ (h : HostPlan). eqb (h .rule) 0) e ∙ no-rule-zero r)
+told-counts (make to on) content p part t =
+    ap (λ (o : Outcome). counts o (decided (madeOf (allowed (make to on)) (make to on) part) (make to on))) (made-done to on part)
+    ∙ sym (ap (λ (n : ℕ). eqb n 0) (t .0))
 
-told-done : (plan : Plan) (content : List ℕ) (p : HostPlan) → Told plan content p → p .rule ≡ 0
-    → outcome (length (storesOf plan)) plan ≡ done (length (storesOf plan))
+told-done : (plan : Plan) (content : List ℕ) (p : HostPlan) (part : List ℕ) → Told plan content p → p .rule ≡ 0
+    → outcome (allowed plan) plan part ≡ done (length (storesOf plan))
 unfolding refusalOf
-told-done (refuse r) content p e z = absurd (true≢false (sym (ap (λ (n : ℕ). eqb n 0) z) ∙ ap (λ (h : HostPlan). eqb (h .rule) 0) e ∙ no-rule-zero r))
-told-done (make to on) content p t z = made-done to on
+told-done (refuse r) content p part e z = absurd (true≢false (sym (ap (λ (n : ℕ). eqb n 0) z) ∙ ap (λ (h : HostPlan). eqb (h .rule) 0) e ∙ no-rule-zero r))
+told-done (make to on) content p part t z = made-done to on part
 
 -- ---- the deciding operation told
 
@@ -176,9 +184,9 @@ hosting-runs start st (carried-out {part} {book} hosting c sized content p plann
     (λ (x : List ℕ). Run start x (bookAfter c (eqb (p .rule) 0) book))
     (sym (told-left plan content p part t))
     (subst
-    (λ (b : Bool). Run start (imageAfter (length (storesOf plan)) plan part) (bookAfter c b book))
-    (told-counts plan content p t)
-    (ran (hosting-runs start st hosting) c sized (length (storesOf plan))))
+    (λ (b : Bool). Run start (imageAfter (allowed plan) plan part) (bookAfter c b book))
+    (told-counts plan content p part t)
+    (ran (hosting-runs start st hosting) c sized (allowed plan)))
 hosting-runs start st (power-failed {part} {part′} {book} hosting c sized content p planned k left) =
     let t = told-of c part content p planned in
     let run = hosting-runs start st hosting in
@@ -195,9 +203,9 @@ host-begins start (by-start-up before content p bytes up accepted) =
     (record {
       before = before;
       bytes = bytes;
-      n = length (storesOf (startUpPlan before));
+      context = allowed (startUpPlan before);
       stores = length (storesOf (startUpPlan before));
-      finished = told-done (startUpPlan before) content p up accepted;
+      finished = told-done (startUpPlan before) content p before up accepted;
       left = told-left (startUpPlan before) content p before up;
     })
 host-begins start (by-move from source target m) = move-begins start from source target m
@@ -208,8 +216,8 @@ host-keeps-the-book start part content book p begun hosting again =
     let holds = run-holds start began (hosting-runs start began hosting) in
     let told : Told (make [] (startUpStores part)) content p =
     subst (λ (plan : Plan). Told plan content p) (startUp-plan part (holding-accepted book part holds)) again in
-    let n = length (storesOf (startUpPlan part)) in (
+    let plan = startUpPlan part in (
       told .0,
-      ap valuesOf (told-left (startUpPlan part) content p part again)
-          ∙ startUp-values book part holds n n (told-done (startUpPlan part) content p again (told .0)),
+      ap valuesOf (told-left plan content p part again)
+          ∙ startUp-values book part holds (allowed plan) (length (storesOf plan)) (told-done plan content p part again (told .0)),
     )

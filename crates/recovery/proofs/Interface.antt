@@ -9,6 +9,7 @@ use Rattle.model.specs.declared.Layout.{Layout}
 use Rattle.model.specs.declared.Answer.{Answer}
 use Rattle.model.specs.declared.Answer.the-variants.{Done}
 use Rattle.model.specs.declared.Session.{Session}
+use Rattle.model.specs.declared.Context.{Context}
 use Rattle.model.specs.declared.Rule.{Rule}
 use mathlib.Core.Option.{Option, none, some}
 use Rattle.model.specs.Layout.{authenticated}
@@ -19,50 +20,51 @@ use Rattle.model.specs.Region.{valuesOf}
 use Rattle.model.specs.Rules.{getBroken, nextBroken}
 use Rattle.model.specs.Stores.{after, applyAll}
 use Rattle.model.specs.Set.{refuse, make}
-use Rattle.model.specs.Answers.{Outcome, done, refused, ruleNumber, answerOf, outcome, imageAfter, storesOf, decided, getPlan, nextPlan}
+use Rattle.model.specs.Answers.{Outcome, done, refused, ruleNumber, answerOf, outcome, imageAfter, madeOf, storesOf, decided, getPlan, nextPlan}
 use Rattle.model.specs.Move.{moveBroken, moveAnswer}
 use Rattle.model.specs.Book.{Call, set, get, next, startUp, planOf, counts, bookAfter, Run, begin, ran, cut, Begins, started, moved-in}
 use Rattle.recovery.specs.Interface.{Returned, MoveReturned, Begun, by-start-up, by-move, Calls, none-yet, returned, power-failed, InterfaceKeepsTheBook}
 use Rattle.recovery.proofs.Theorem.{demand3}
 
 -- get and next-name make no stores
-none-made : (n : ℕ) (o : Option Rule) (img : List ℕ) → imageAfter n (onSome o refuse (make [] [])) img ≡ img
+none-made : (x : Context) (o : Option Rule) (img : List ℕ) → imageAfter x (onSome o refuse (make [] [])) img ≡ img
 unfolding imageAfter storesOf after applyAll
-none-made n (some rule) img = rw take-nil
-none-made n none img = rw take-nil
+none-made x (some rule) img = rw take-nil
+none-made x none img = rw take-nil
 
-get-image : (n : ℕ) (s : Session) (k : Key) (buffer img : List ℕ) → imageAfter n (getPlan s k buffer img) img ≡ img
+get-image : (x : Context) (s : Session) (k : Key) (buffer img : List ℕ) → imageAfter x (getPlan s k buffer img) img ≡ img
 unfolding getPlan
-get-image n s k buffer img = none-made n (getBroken s k buffer img) img
+get-image x s k buffer img = none-made x (getBroken s k buffer img) img
 
-next-image : (n : ℕ) (s : Session) (k : Key) (buffer img : List ℕ) → imageAfter n (nextPlan s k buffer img) img ≡ img
+next-image : (x : Context) (s : Session) (k : Key) (buffer img : List ℕ) → imageAfter x (nextPlan s k buffer img) img ≡ img
 unfolding nextPlan
-next-image n s k buffer img = none-made n (nextBroken s k buffer img) img
+next-image x s k buffer img = none-made x (nextBroken s k buffer img) img
 
 -- a call that returned did what its plan says
-record Step (c : Call) (n : ℕ) (img img′ : List ℕ) (a : Answer) : Type 0 where
-  told : answerOf a ≡ outcome n (planOf c img)
-  left : img′ ≡ imageAfter n (planOf c img) img
+record Step (c : Call) (x : Context) (img img′ : List ℕ) (a : Answer) : Type 0 where
+  told : answerOf a ≡ outcome x (planOf c img) img
+  left : img′ ≡ imageAfter x (planOf c img) img
 
-step-of : (c : Call) (n : ℕ) (img img′ : List ℕ) (a : Answer) → Returned c n img img′ a → Step c n img img′ a
+step-of : (c : Call) (x : Context) (img img′ : List ℕ) (a : Answer) → Returned c x img img′ a → Step c x img img′ a
 unfolding planOf
-step-of (set s r) n img img′ a m = record { told = m .0; left = m .1 }
-step-of (get s k buffer) n img img′ a m = record { told = m .0; left = m .1 ∙ sym (get-image n s k buffer img) }
-step-of (next s k buffer) n img img′ a m = record { told = m .0; left = m .1 ∙ sym (next-image n s k buffer img) }
-step-of (startUp setup) n img img′ a m = record { told = m .0; left = m .1 }
+step-of (set s r) x img img′ a m = record { told = m .0; left = m .1 }
+step-of (get s k buffer) x img img′ a m = record { told = m .0; left = m .1 ∙ sym (get-image x s k buffer img) }
+step-of (next s k buffer) x img img′ a m = record { told = m .0; left = m .1 ∙ sym (next-image x s k buffer img) }
+step-of (startUp setup) x img img′ a m = record { told = m .0; left = m .1 }
 
 -- so the calls are a run
 pub calls-run : {start img : List ℕ} {book : List Value} → Calls start img book → Run start img book
 calls-run none-yet = begin
-calls-run {start} (returned {img} {img′} {book} calls c sized n a m) =
-    let s = step-of c n img img′ a m in
+calls-run {start} (returned {img} {img′} {book} calls c sized x a m) =
+    let s = step-of c x img img′ a m in
+    let made = madeOf x (planOf c img) img in
     subst
-    (λ (x : List ℕ). Run start x (bookAfter c (counts (answerOf a) (decided n (planOf c img))) book))
+    (λ (i : List ℕ). Run start i (bookAfter c (counts (answerOf a) (decided made (planOf c img))) book))
     (sym (s .left))
     (subst
-    (λ (o : Outcome). Run start (imageAfter n (planOf c img) img) (bookAfter c (counts o (decided n (planOf c img))) book))
+    (λ (o : Outcome). Run start (imageAfter x (planOf c img) img) (bookAfter c (counts o (decided made (planOf c img))) book))
     (sym (s .told))
-    (ran (calls-run calls) c sized n))
+    (ran (calls-run calls) c sized x))
 calls-run (power-failed calls c sized k left) = cut (calls-run calls) c sized k left
 
 -- ---- what they begin on
@@ -82,11 +84,11 @@ move-begins start from source target m =
     moved-in (record { form = from; source = source; target = target; accepted = accepted-move from authenticated source target (m .0); left = m .1 })
 
 begun-begins : (start : List ℕ) → Begun start → Begins start
-begun-begins start (by-start-up before bytes setup n stores up) =
-    started (record { before = before; bytes = bytes; n = n; stores = stores; finished = sym (up .0); left = up .1 })
+begun-begins start (by-start-up before bytes setup x stores up) =
+    started (record { before = before; bytes = bytes; context = x; stores = stores; finished = sym (up .0); left = up .1 })
 begun-begins start (by-move from source target m) = move-begins start from source target m
 
 pub interface-keeps-the-book : InterfaceKeepsTheBook
-interface-keeps-the-book start img img′ book setup n stores begun calls again =
-    let all = demand3 start _ _ (begun-begins start begun) (ran (calls-run calls) (startUp setup) tt n) in
+interface-keeps-the-book start img img′ book setup x stores begun calls again =
+    let all = demand3 start _ _ (begun-begins start begun) (ran (calls-run calls) (startUp setup) tt x) in
     ap valuesOf (again .1) ∙ all .1 stores (sym (again .0))

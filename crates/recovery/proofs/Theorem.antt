@@ -1,7 +1,7 @@
 -- Demand 3. Every call of a run keeps the invariant with the book: a set by what it keeps up to and from its deciding store, a start-up because it keeps the values, a get and a
 -- next-name because they store nothing. A done start-up leaves the image ready, and then its values are the book.
 -- Assumes nothing.
-use Prim.Native.Nat.{ℕ, _+_, _*_, _-_, _≤_, _<_}
+use Prim.Native.Nat.{ℕ, _+_, _*_, _-_, _≤_, _<_, min}
 use native.Mathlib.Omega.{arith}
 use mathlib.Core.Path.{_≡_, refl, sym, ap, _∙_, subst}
 use mathlib.Core.Logic.{inl, inr}
@@ -10,10 +10,11 @@ use mathlib.Core.List.{List, [], _∷_, _++_}
 use mathlib.Core.Option.{Option, none, some}
 use lib.ListN.{length, length-append}
 use lib.Seq.{take-nil}
-use lib.Dec.{leb}
+use lib.Dec.{leb, ltb}
 use borrow.Author.Tests.{leb-true, leb-false, le-leb}
 use Rattle.model.specs.Layout.{authenticated, stateAt}
 use Rattle.model.specs.declared.Session.{Session}
+use Rattle.model.specs.declared.Context.{Context}
 use Rattle.model.specs.Region.{valuesIn}
 use Rattle.model.specs.declared.Rule.{Rule}
 use Rattle.model.specs.Lists.{allFF, onSome, isSome, isEmpty}
@@ -26,11 +27,11 @@ use Rattle.model.specs.Work.{wellFormed, endsInFC, idle, pending, readyForStart
 use Rattle.model.specs.Request.{Request}
 use Rattle.model.specs.Change.{Change, nothing, remove, put, changeIn, step, without, spaceOf}
 use Rattle.model.specs.Rules.{setBroken, getBroken, nextBroken, startUpBroken}
-use Rattle.model.specs.Stores.{Store, byte, erase, run, mark, applyAll, after, Cut}
+use Rattle.model.specs.Stores.{Store, byte, erase, run, mark, applyAll, after, reach, Cut}
 use Rattle.model.specs.Compact.{encode, allUsed, nextRecord, compactTo, compactOn, fillSpare}
 use Rattle.model.specs.Set.{Plan, refuse, make, markState, leftover, entryStores, deleteTo, tailTo, tailOn, fitsTail, putPlan, changePlan, setPlan}
 use Rattle.model.specs.StartUp.{startUpStores, startUpPlan}
-use Rattle.model.specs.Answers.{ruleNumber, done, stopped, refused, outcome, imageAfter, storesOf, decided, getPlan, nextPlan}
+use Rattle.model.specs.Answers.{ruleNumber, done, stopped, refused, outcome, ended, deadOf, madeOf, imageAfter, storesOf, decided, getPlan, nextPlan}
 use Rattle.model.specs.Book.{Call, set, get, next, startUp, planOf, Sized, entered, counts, bookAfter, Run, begin, ran, cut, StartedUp, MovedInto, Begins, started, moved-in, Agrees, AgreesAll, Demand3}
 use Rattle.model.proofs.Tests.{or-left, or-right, true-and}
 use Rattle.model.proofs.Stores.{after-all}
@@ -289,30 +290,34 @@ unfolding startUpPlan
 startUp-plan img h = rw h
 
 -- a start-up that is done was accepted, and made all its stores
-pub record Finished (n : ℕ) (img : List ℕ) : Type 0 where
+pub record Finished (x : Context) (img : List ℕ) : Type 0 where
   pub accepted : startUpBroken img ≡ none
-  pub few : length (startUpStores img) ≤ n
-  pub left : imageAfter n (startUpPlan img) img ≡ applyAll (startUpStores img) img
+  pub left : imageAfter x (startUpPlan img) img ≡ applyAll (startUpStores img) img
 
-pub finished : (n stores : ℕ) (img : List ℕ) → outcome n (startUpPlan img) ≡ done stores → Finished n img
-unfolding startUpPlan outcome imageAfter storesOf
-finished n stores img h = go (startUpBroken img) refl h
+refused-not : (rule stores : ℕ) → refused rule ≡ done stores → ⊥
+refused-not rule stores e = let z : _≡_ {A = ℕ} 0 1 = cc in omega arith
+
+stopped-not : (stores : ℕ) → stopped ≡ done stores → ⊥
+stopped-not stores e = let z : _≡_ {A = ℕ} 0 1 = cc in omega arith
+
+-- done: all stores were made
+ended-done : (n reached len stores : ℕ) → ended n reached len ≡ done stores → len ≤ min n reached
+ended-done n reached len stores h = go (leb len (min n reached)) refl (ltb reached n) h
   where
-    refused-not : (rule stores : ℕ) → refused rule ≡ done stores → ⊥
-    refused-not rule stores e = let z : _≡_ {A = ℕ} 0 1 = cc in omega arith
+    go : (t : Bool) → leb len (min n reached) ≡ t → (u : Bool) → cond t (done len) (cond u (refused 23) stopped) ≡ done stores → len ≤ min n reached
+    go true e u f = leb-true len (min n reached) e
+    go false e true f = absurd (refused-not 23 stores f)
+    go false e false f = absurd (stopped-not stores f)
 
-    stopped-not : (stores : ℕ) → stopped ≡ done stores → ⊥
-    stopped-not stores e = let z : _≡_ {A = ℕ} 0 1 = cc in omega arith
-
-    within : (t : Bool) → leb (length (startUpStores img)) n ≡ t → cond t (done (length (startUpStores img))) stopped ≡ done stores → length (startUpStores img) ≤ n
-    within true e f = leb-true (length (startUpStores img)) n e
-    within false e f = absurd (stopped-not stores f)
-
-    go : (o : Option Rule) → startUpBroken img ≡ o → outcome n (onSome o refuse (make [] (startUpStores img))) ≡ done stores → Finished n img
+pub finished : (x : Context) (stores : ℕ) (img : List ℕ) → outcome x (startUpPlan img) img ≡ done stores → Finished x img
+unfolding startUpPlan outcome imageAfter madeOf storesOf
+finished x stores img h = go (startUpBroken img) refl h
+  where
+    go : (o : Option Rule) → startUpBroken img ≡ o → outcome x (onSome o refuse (make [] (startUpStores img))) img ≡ done stores → Finished x img
     go (some rule) e f = absurd (refused-not (ruleNumber rule) stores f)
     go none e f =
-        let few = within (leb (length (startUpStores img)) n) refl f in
-        record { accepted = e; few = few; left = rw e (after-all n (startUpStores img) img few) }
+        let few = ended-done (x .limit) (reach (deadOf x) (startUpStores img) img) (length (startUpStores img)) stores f in
+        record { accepted = e; left = rw e (after-all (min (x .limit) (reach (deadOf x) (startUpStores img) img)) (startUpStores img) img few) }
 
 -- ---- every call of a run keeps the invariant with the book
 
@@ -384,50 +389,62 @@ call-cut K img img′ (startUp setup) sized holds k left =
     subst (λ (vs : List Value). Holding vs img′) (sym (book-same (startUp setup) (decided k (startUpPlan img)) K refl))
     (startUp-cut K img img′ holds k left)
 
-refused-same : (c : Call) (n : ℕ) (rule : Rule) (K : List Value) → bookAfter c (decided n (refuse rule)) K ≡ bookAfter c (counts (outcome n (refuse rule)) (decided n (refuse rule))) K
-unfolding decided outcome
-refused-same c n rule K = refl
+refused-same : (c : Call) (x : Context) (rule : Rule) (img : List ℕ) (K : List Value)
+    → bookAfter c (decided (madeOf x (refuse rule) img) (refuse rule)) K ≡ bookAfter c (counts (outcome x (refuse rule) img) (decided (madeOf x (refuse rule) img) (refuse rule))) K
+unfolding outcome
+refused-same c x rule img K = refl
 
-made-counted : (n : ℕ) (c : Call) (K : List Value) (to on : List Store) → (isEmpty to ≡ true → entered c K ≡ K)
-    → bookAfter c (decided n (make to on)) K ≡ bookAfter c (counts (outcome n (make to on)) (decided n (make to on))) K
-unfolding outcome decided
-made-counted n c K to on decides = go (leb (length (to ++ on)) n) refl
+made-counted : (n reached : ℕ) (c : Call) (K : List Value) (to on : List Store) → (isEmpty to ≡ true → entered c K ≡ K)
+    → bookAfter c (decided (min n reached) (make to on)) K
+    ≡ bookAfter c (counts (ended n reached (length (to ++ on))) (decided (min n reached) (make to on))) K
+unfolding decided
+made-counted n reached c K to on decides = go (leb (length (to ++ on)) (min n reached)) refl (ltb reached n)
   where
     -- done: the deciding store, if any, is complete
-    complete : length (to ++ on) ≤ n → (e : Bool) → isEmpty to ≡ e → bookAfter c (not e && leb (length to) n) K ≡ bookAfter c true K
+    complete : length (to ++ on) ≤ min n reached → (e : Bool) → isEmpty to ≡ e → bookAfter c (not e && leb (length to) (min n reached)) K ≡ bookAfter c true K
     complete h true e = book-cond c false K ∙ sym (decides e) ∙ sym (book-cond c true K)
-    complete h false e = ap (λ (t : Bool). bookAfter c t K) (le-leb (length to) n (let l = length-append to on in omega arith))
+    complete h false e = ap (λ (t : Bool). bookAfter c t K) (le-leb (length to) (min n reached) (let l = length-append to on in omega arith))
 
-    go : (t : Bool) → leb (length (to ++ on)) n ≡ t
-        → bookAfter c (not (isEmpty to) && leb (length to) n) K ≡ bookAfter c (counts (cond t (done (length (to ++ on))) stopped) (not (isEmpty to) && leb (length to) n)) K
-    go true h = complete (leb-true (length (to ++ on)) n h) (isEmpty to) refl
-    go false h = refl
+    go : (t : Bool) → leb (length (to ++ on)) (min n reached) ≡ t → (u : Bool)
+        → bookAfter c (not (isEmpty to) && leb (length to) (min n reached)) K
+        ≡ bookAfter c (counts (cond t (done (length (to ++ on))) (cond u (refused 23) stopped)) (not (isEmpty to) && leb (length to) (min n reached))) K
+    go true h u = complete (leb-true (length (to ++ on)) (min n reached) h) (isEmpty to) refl
+    go false h true = refl
+    go false h false = refl
 
--- a call that ran with n is one cut after n whole stores; a done set with no deciding store changes nothing
-counted : (K : List Value) (img : List ℕ) (c : Call) → Sized c → Holding K img → (n : ℕ)
-    → bookAfter c (decided n (planOf c img)) K ≡ bookAfter c (counts (outcome n (planOf c img)) (decided n (planOf c img))) K
+made-accepted : (x : Context) (c : Call) (img : List ℕ) (K : List Value) (to on : List Store) → (isEmpty to ≡ true → entered c K ≡ K)
+    → bookAfter c (decided (madeOf x (make to on) img) (make to on)) K
+    ≡ bookAfter c (counts (outcome x (make to on) img) (decided (madeOf x (make to on) img) (make to on))) K
+unfolding outcome madeOf storesOf
+made-accepted x c img K to on decides = made-counted (x .limit) (reach (deadOf x) (to ++ on) img) c K to on decides
+
+-- a call that ran is one cut after the stores that it made; a done set with no deciding store changes nothing
+counted : (K : List Value) (img : List ℕ) (c : Call) → Sized c → Holding K img → (x : Context)
+    → bookAfter c (decided (madeOf x (planOf c img) img) (planOf c img)) K
+    ≡ bookAfter c (counts (outcome x (planOf c img) img) (decided (madeOf x (planOf c img) img) (planOf c img))) K
 unfolding planOf entered
-counted K img (get s key buffer) sized holds n = book-same (get s key buffer) _ K refl ∙ sym (book-same (get s key buffer) _ K refl)
-counted K img (next s key buffer) sized holds n = book-same (next s key buffer) _ K refl ∙ sym (book-same (next s key buffer) _ K refl)
-counted K img (startUp setup) sized holds n = book-same (startUp setup) _ K refl ∙ sym (book-same (startUp setup) _ K refl)
-counted K img (set s q) sized holds n = go (setBroken s q img) refl
+counted K img (get s key buffer) sized holds x = book-same (get s key buffer) _ K refl ∙ sym (book-same (get s key buffer) _ K refl)
+counted K img (next s key buffer) sized holds x = book-same (next s key buffer) _ K refl ∙ sym (book-same (next s key buffer) _ K refl)
+counted K img (startUp setup) sized holds x = book-same (startUp setup) _ K refl ∙ sym (book-same (startUp setup) _ K refl)
+counted K img (set s q) sized holds x = go (setBroken s q img) refl
   where
     go : (o : Option Rule) → setBroken s q img ≡ o
-        → bookAfter (set s q) (decided n (setPlan s q img)) K ≡ bookAfter (set s q) (counts (outcome n (setPlan s q img)) (decided n (setPlan s q img))) K
+        → bookAfter (set s q) (decided (madeOf x (setPlan s q img) img) (setPlan s q img)) K
+        ≡ bookAfter (set s q) (counts (outcome x (setPlan s q img) img) (decided (madeOf x (setPlan s q img) img) (setPlan s q img))) K
     go none e =
         let kept = set-kept s q img K e (sized .2) holds in
-        subst (λ (p : Plan). bookAfter (set s q) (decided n p) K ≡ bookAfter (set s q) (counts (outcome n p) (decided n p)) K) (sym (kept .plan))
-        (made-counted n (set s q) K (kept .to) (kept .on) (kept .decides))
+        subst (λ (p : Plan). bookAfter (set s q) (decided (madeOf x p img) p) K ≡ bookAfter (set s q) (counts (outcome x p img) (decided (madeOf x p img) p)) K) (sym (kept .plan))
+        (made-accepted x (set s q) img K (kept .to) (kept .on) (kept .decides))
     go (some rule) e =
-        subst (λ (p : Plan). bookAfter (set s q) (decided n p) K ≡ bookAfter (set s q) (counts (outcome n p) (decided n p)) K) (sym (set-refused s q img rule e))
-        (refused-same (set s q) n rule K)
+        subst (λ (p : Plan). bookAfter (set s q) (decided (madeOf x p img) p) K ≡ bookAfter (set s q) (counts (outcome x p img) (decided (madeOf x p img) p)) K) (sym (set-refused s q img rule e))
+        (refused-same (set s q) x rule img K)
 
 -- ---- the run
 
 -- what a done start-up leaves is ready, whatever image it began on
 started-ready : (start : List ℕ) → StartedUp start → Ready start
 started-ready start st =
-    let f = finished (st .n) (st .stores) (st .before) (st .finished) in
+    let f = finished (st .context) (st .stores) (st .before) (st .finished) in
     let up = startUp-any (st .before) (startUp-length (st .before) (f .accepted)) (startUp-ready (st .before) (f .accepted)) .up in
     subst Ready (sym (st .left ∙ f .left ∙ up .goes .left)) (up .ready)
 
@@ -448,28 +465,29 @@ begins-ready start (moved-in m) = moved-ready start m
 pub run-holds : (start : List ℕ) → Begins start → {img : List ℕ} {book : List Value} → Run start img book → Holding book img
 unfolding imageAfter
 run-holds start st begin = ready-holds start (begins-ready start st)
-run-holds start st (ran {img} {book} r c sized n) =
+run-holds start st (ran {img} {book} r c sized x) =
     let holds = run-holds start st r in
-    subst (λ (vs : List Value). Holding vs (after n (storesOf (planOf c img)) img)) (counted book img c sized holds n)
-    (call-cut book img (after n (storesOf (planOf c img)) img) c sized holds n (inl refl))
+    let k = madeOf x (planOf c img) img in
+    subst (λ (vs : List Value). Holding vs (after k (storesOf (planOf c img)) img)) (counted book img c sized holds x)
+    (call-cut book img (after k (storesOf (planOf c img)) img) c sized holds k (inl refl))
 run-holds start st (cut {img} {img′} {book} r c sized k left) = call-cut book img img′ c sized (run-holds start st r) k left
 
 -- a done start-up leaves the book's values
-pub startUp-values : (K : List Value) (img : List ℕ) → Holding K img → (n stores : ℕ) → outcome n (startUpPlan img) ≡ done stores
-    → valuesOf (imageAfter n (startUpPlan img) img) ≡ K
-startUp-values K img holds n stores h =
+pub startUp-values : (K : List Value) (img : List ℕ) → Holding K img → (x : Context) (stores : ℕ) → outcome x (startUpPlan img) img ≡ done stores
+    → valuesOf (imageAfter x (startUpPlan img) img) ≡ K
+startUp-values K img holds x stores h =
     let up = startUp-holding K img holds in
-    ap valuesOf (finished n stores img h .left ∙ up .goes .left) ∙ up .held
+    ap valuesOf (finished x stores img h .left ∙ up .goes .left) ∙ up .held
 
-agrees : (K : List Value) (img : List ℕ) → Holding K img → (c : Call) (n : ℕ) → Agrees c n img K
-agrees K img holds (set s q) n = tt
-agrees K img holds (get s key buffer) n = tt
-agrees K img holds (next s key buffer) n = tt
-agrees K img holds (startUp setup) n = λ stores h. startUp-values K img holds n stores h
+agrees : (K : List Value) (img : List ℕ) → Holding K img → (c : Call) (x : Context) → Agrees c x img K
+agrees K img holds (set s q) x = tt
+agrees K img holds (get s key buffer) x = tt
+agrees K img holds (next s key buffer) x = tt
+agrees K img holds (startUp setup) x = λ stores h. startUp-values K img holds x stores h
 
 agrees-all : (start : List ℕ) → Begins start → {img : List ℕ} {book : List Value} → (r : Run start img book) → AgreesAll r
 agrees-all start st begin = tt
-agrees-all start st (ran {img} {book} r c sized n) = (agrees-all start st r, agrees book img (run-holds start st r) c n)
+agrees-all start st (ran {img} {book} r c sized x) = (agrees-all start st r, agrees book img (run-holds start st r) c x)
 agrees-all start st (cut r c sized k left) = agrees-all start st r
 
 pub demand3 : Demand3

@@ -44,7 +44,8 @@ decidingDone k content p = ltb (p .deciding) 12 && leb (length (expandNumbers co
 -- A run of a host from the bytes `start` of a part: the part's bytes, and the book. Each call is planned over a copy that equals the part. Then
 -- * all its operations are carried out, and the book moves if the rule told is 0 ("a set that is done"); a refused call has no operations and moves nothing; or
 -- * the power fails: of the stores told the first k are complete and the next may be begun, as `Cut` says, and the book moves if the deciding operation was complete
---   ("or had that store complete"). A host that gives a plan up between two stores is of this kind too.
+--   ("or had that store complete"). A host that gives a plan up between two stores is of this kind too, and so is one whose part fails at a store, because a byte
+--   there has died: the stores before it are complete, and of its own bits none or some are cleared.
 -- `bookAfter` moves the book for a set only ("only a set .. changes it").
 pub data Hosting (start : List ℕ) : List ℕ → List Value → Type 0 where
   none-yet : Hosting start start (valuesOf start)

@@ -4,6 +4,7 @@ use mathlib.Core.Path.{_≡_}
 use mathlib.Core.List.{List}
 use Rattle.model.specs.declared.Layout.{Layout}
 use Rattle.model.specs.declared.Setup.{Setup}
+use Rattle.model.specs.declared.Context.{Context}
 use Rattle.model.specs.declared.Answer.{Answer}
 use Rattle.model.specs.declared.Answer.the-variants.{Done}
 use Rattle.model.specs.Layout.{authenticated}
@@ -12,18 +13,19 @@ use Rattle.model.specs.Region.{valuesOf}
 use Rattle.model.specs.Stores.{Bytes, Cut}
 use Rattle.model.specs.Set.{setPlan}
 use Rattle.model.specs.StartUp.{startUpPlan}
-use Rattle.model.specs.Answers.{answerOf, outcome, imageAfter, storesOf, decided, getPlan, nextPlan}
+use Rattle.model.specs.Answers.{answerOf, outcome, imageAfter, madeOf, storesOf, decided, getPlan, nextPlan}
 use Rattle.model.specs.Move.{moveAnswer, imageMoved}
 use Rattle.model.specs.Book.{Call, set, get, next, startUp, planOf, Sized, counts, bookAfter}
 
--- A call of the interface has returned: its arguments, n, the image before and after, and the answer. `engine::write::set`, `engine::read::get` and `next_name`, which
+-- A call of the interface has returned: its arguments, its context, the image before and after, and the answer. `engine::write::set`, `engine::read::get` and `next_name`, which
 -- are lent the image shared, and `engine::start::start_up` ensure it of their own arguments, for every input.
-abbrev pub Returned : Call → ℕ → List ℕ → List ℕ → Answer → Type 0
-Returned (set s r) n img img′ a = (answerOf a ≡ outcome n (setPlan s r img)) × (img′ ≡ imageAfter n (setPlan s r img) img)
-Returned (get s k buffer) n img img′ a = (answerOf a ≡ outcome n (getPlan s k buffer img)) × (img′ ≡ img)
-Returned (next s k buffer) n img img′ a = (answerOf a ≡ outcome n (nextPlan s k buffer img)) × (img′ ≡ img)
-Returned (startUp setup) n img img′ a =
-    (answerOf a ≡ outcome n (startUpPlan img)) × (img′ ≡ imageAfter n (startUpPlan img) img)
+abbrev pub Returned : Call → Context → List ℕ → List ℕ → Answer → Type 0
+Returned (set s r) x img img′ a =
+    (answerOf a ≡ outcome x (setPlan s r img) img) × (img′ ≡ imageAfter x (setPlan s r img) img)
+Returned (get s k buffer) x img img′ a = (answerOf a ≡ outcome x (getPlan s k buffer img) img) × (img′ ≡ img)
+Returned (next s k buffer) x img img′ a = (answerOf a ≡ outcome x (nextPlan s k buffer img) img) × (img′ ≡ img)
+Returned (startUp setup) x img img′ a =
+    (answerOf a ≡ outcome x (startUpPlan img) img) × (img′ ≡ imageAfter x (startUpPlan img) img)
 
 -- 02 (d): a move from one form to another has returned: the source, the target before and after, and the answer. `convert::move_values` ensures it of its own
 -- arguments, for any two forms and every input; it is lent the source shared.
@@ -35,13 +37,13 @@ MoveReturned from to img target target′ a =
 pub data Begun (start : List ℕ) : Type 0 where
   by-start-up : (before : List ℕ)
       → Bytes before
-      → (setup : Setup) (n stores : ℕ)
-      → Returned (startUp setup) n before start (Done stores)
+      → (setup : Setup) (x : Context) (stores : ℕ)
+      → Returned (startUp setup) x before start (Done stores)
       → Begun start
   by-move : (from : Layout) (source target : List ℕ) → MoveReturned from authenticated source target start (Done 0) → Begun start
 
--- Calls one after the other on one image, each returned or cut by a power failure; beside them the book, from the calls' arguments and answers, and of a stopped or cut
--- one whether its deciding store was complete.
+-- Calls one after the other on one image, each returned or cut by a power failure; beside them the book, from the calls' arguments and answers, and of a stopped, failed
+-- or cut one whether its deciding store was complete.
 pub data Calls (start : List ℕ) : List ℕ → List Value → Type 0 where
   none-yet : Calls start start (valuesOf start)
   returned : {img img′ : List ℕ}
@@ -49,10 +51,10 @@ pub data Calls (start : List ℕ) : List ℕ → List Value → Type 0 where
       → Calls start img book
       → (c : Call)
       → Sized c
-      → (n : ℕ)
+      → (x : Context)
       → (a : Answer)
-      → Returned c n img img′ a
-      → Calls start img′ (bookAfter c (counts (answerOf a) (decided n (planOf c img))) book)
+      → Returned c x img img′ a
+      → Calls start img′ (bookAfter c (counts (answerOf a) (decided (madeOf x (planOf c img) img) (planOf c img))) book)
   power-failed : {img img′ : List ℕ}
       {book : List Value}
       → Calls start img book
@@ -62,12 +64,12 @@ pub data Calls (start : List ℕ) : List ℕ → List Value → Type 0 where
       → Cut (storesOf (planOf c img)) k img img′
       → Calls start img′ (bookAfter c (decided k (planOf c img)) book)
 
--- These are the functions of the interface, and this holds of every list of calls to them: begun so, and however many of the calls were stopped or cut, a
+-- These are the functions of the interface, and this holds of every list of calls to them: begun so, and however many of the calls were stopped, failed or cut, a
 -- start-up that returns done leaves exactly the values of the book.
 abbrev pub InterfaceKeepsTheBook : Type 0
 InterfaceKeepsTheBook =
-    (start img img′ : List ℕ) (book : List Value) (setup : Setup) (n stores : ℕ)
+    (start img img′ : List ℕ) (book : List Value) (setup : Setup) (x : Context) (stores : ℕ)
     → Begun start
     → Calls start img book
-    → Returned (startUp setup) n img img′ (Done stores)
+    → Returned (startUp setup) x img img′ (Done stores)
     → valuesOf img′ ≡ book

@@ -6,11 +6,11 @@ use mathlib.Core.Path.{_≡_, refl, ap, _∙_}
 use mathlib.Core.List.{List, [], _∷_, _++_, append-nil}
 use lib.ListN.{replicate}
 use Rattle.model.specs.Set.{make}
-use Rattle.model.specs.Answers.{done, outcome, storesOf}
+use Rattle.model.specs.Answers.{done, storesOf}
 use Rattle.model.specs.Book.{Call, set, startUp, planOf}
 use Rattle.table.proofs.Pieces.{store, clear, flat}
 use Rattle.table.proofs.Runs.{resumption}
-use Rattle.table.proofs.Row.{Row, Holds, HoldAll, end, _and_, held, computed, refuses, unlimited, plain, ff, zeros, header, headerOf, image, guid, rate, four, behindState, startId, rateHeader, rateEntry, setting, rateStands}
+use Rattle.table.proofs.Row.{Row, Holds, HoldAll, end, _and_, held, computed, told, refuses, plain, ff, zeros, header, headerOf, image, guid, rate, four, behindState, startId, rateHeader, rateEntry, setting, rateStands}
 
 -- ---- a 3E entry alone is the value: 76 stores to replace it, 3E becomes 3C to delete it, an equal set stores nothing
 
@@ -335,7 +335,7 @@ resumed-plan = resumption (resumed .image) (resumed .stores) refl refl tt refl
 resumed-holds : Holds resumed
 unfolding computed
 resumed-holds =
-    held resumed (ap (outcome unlimited) resumed-plan) (ap storesOf resumed-plan ∙ append-nil (flat (resumed .stores))) tt tt refl refl
+    held resumed (ap told resumed-plan) (ap storesOf resumed-plan ∙ append-nil (flat (resumed .stores))) tt tt refl refl
 
 -- ---- b = 2, nothing pending: spare erased, work block erased, and a tail that is not all FF compacted, with a lone 3E entry carried
 

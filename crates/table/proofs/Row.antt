@@ -2,7 +2,8 @@
 -- after a long list of stores is found by a law, laying the list's pieces over the image before.
 -- Assumes nothing.
 use Prim.Native.Nat.{ℕ}
-use mathlib.Core.Path.{_≡_, ap, _∙_}
+use mathlib.Core.Path.{_≡_, refl, ap, _∙_}
+use mathlib.Core.Bool.{cond}
 use mathlib.Core.List.{List, [], _∷_, _++_}
 use lib.ListN.{length, replicate}
 use lib.Dec.{T, leb, leb→le}
@@ -11,10 +12,12 @@ use Rattle.model.specs.declared.Session.{Session}
 use Rattle.model.specs.Image.{region}
 use Rattle.model.specs.Region.{tailAt}
 use Rattle.model.specs.Stores.{after}
-use Rattle.model.specs.Answers.{Outcome, refused, outcome, imageAfter, storesOf}
+use Rattle.model.specs.Set.{Plan, refuse, make}
+use Rattle.model.specs.Answers.{Outcome, done, stopped, refused, ruleNumber, outcome, imageAfter, storesOf}
 use Rattle.model.specs.Book.{Call, set, planOf}
 use Rattle.table.proofs.Evaluated.{evaluated}
 use Rattle.model.proofs.Stores.{after-all}
+use Rattle.model.proofs.Failing.{unworn, outcome-none, image-none}
 use Rattle.table.proofs.Pieces.{Piece, flat, laidAll, allInside, flat-laid}
 
 -- an image, a call; its answer, its stores in their order, the whole image after it, and the offset of that region's tail
@@ -31,9 +34,9 @@ abbrev pub unlimited : ℕ
 unlimited = 100000
 
 pub record Holds (row : Row) : Type 0 where
-  pub answer : outcome unlimited (planOf (row .call) (row .image)) ≡ row .answer
+  pub answer : outcome (unworn unlimited) (planOf (row .call) (row .image)) (row .image) ≡ row .answer
   pub stores : storesOf (planOf (row .call) (row .image)) ≡ flat (row .stores)
-  pub left : imageAfter unlimited (planOf (row .call) (row .image)) (row .image) ≡ row .left
+  pub left : imageAfter (unworn unlimited) (planOf (row .call) (row .image)) (row .image) ≡ row .left
   pub tail : tailAt (region (row .left)) ≡ row .tail
 
 -- every row of a table holds
@@ -42,21 +45,31 @@ pub data HoldAll : List Row → Type 0 where
   end : HoldAll []
   _and_ : {row : Row} {rows : List Row} → Holds row → HoldAll rows → HoldAll (row ∷ rows)
 
+-- a plan's answer where no byte is dead, so that none is looked for
+unfoldable pub told : Plan → Outcome
+told (refuse rule) = refused (ruleNumber rule)
+told (make to on) = cond (leb (length (to ++ on)) unlimited) (done (length (to ++ on))) stopped
+
+pub plan-told : (p : Plan) (img : List ℕ) → outcome (unworn unlimited) p img ≡ told p
+unfolding outcome told
+plan-told (refuse rule) img = refl
+plan-told (make to on) img = outcome-none (unworn unlimited) to on img refl
+
 module _ (row : Row) where
-  pub held : outcome unlimited (planOf (row .call) (row .image)) ≡ row .answer
+  pub held : told (planOf (row .call) (row .image)) ≡ row .answer
       → storesOf (planOf (row .call) (row .image)) ≡ flat (row .stores)
       → T (leb (length (flat (row .stores))) unlimited)
       → T (allInside (length (row .image)) (row .stores))
       → laidAll (row .stores) (row .image) ≡ row .left
       → tailAt (region (row .left)) ≡ row .tail
       → Holds row
-  unfolding imageAfter
   held answer stores few inside left tail =
+      let plan = planOf (row .call) (row .image) in
       let whole = after-all unlimited (flat (row .stores)) (row .image) (leb→le (length (flat (row .stores))) unlimited few) in
       record {
-        answer = answer;
+        answer = plan-told plan (row .image) ∙ answer;
         stores = stores;
-        left = ap (λ ss. after unlimited ss (row .image)) stores ∙ whole ∙ flat-laid (row .stores) (row .image) inside ∙ left;
+        left = image-none (unworn unlimited) plan (row .image) refl ∙ ap (λ ss. after unlimited ss (row .image)) stores ∙ whole ∙ flat-laid (row .stores) (row .image) inside ∙ left;
         tail = tail;
       }
 
@@ -66,7 +79,7 @@ refuses img at call rule = record { image = img; call = call; answer = refused r
 
 -- all that a row's evaluation opens
 unfoldable pub computed : Unit {0}
-unfolding evaluated flat laidAll allInside
+unfolding evaluated flat laidAll allInside told
 computed = tt
 
 -- ---- what the rows are made of; every byte is written out here, and none is taken from the definitions

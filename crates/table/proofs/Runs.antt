@@ -19,6 +19,7 @@ use Rattle.model.specs.Rules.{startUpBroken}
 use Rattle.model.specs.Set.{Plan, refuse, make}
 use Rattle.model.specs.StartUp.{resume, tidySpare, tidyWork, tidyTail, andThen, startUpStores, startUpPlan}
 use Rattle.model.specs.Answers.{done, outcome, imageAfter, storesOf, decided}
+use Rattle.model.proofs.Failing.{unworn, outcome-none, image-none}
 use Rattle.model.specs.Book.{Call, startUp, planOf, Sized, bookAfter, Run, begin, ran, cut, StartedUp, started, Demand3}
 use Rattle.model.proofs.Stores.{after-all, after-append}
 use Rattle.table.proofs.Pieces.{Piece, flat, laidAll, allInside, flat-laid}
@@ -36,9 +37,10 @@ bytes [] t = tt
 bytes (b ∷ l) t = let h = both (isByte b) (all isByte l) t in (ltb→lt b 256 (h .0), bytes l (h .1))
 
 -- a start-up with nothing to do has left the image that it found
-pub rested : (img : List ℕ) → T (all isByte img) → outcome 0 (startUpPlan img) ≡ done 0 → StartedUp img
-unfolding imageAfter after applyAll
-rested img small idle = record { before = img; bytes = bytes img small; n = 0; stores = 0; finished = idle; left = refl }
+pub rested : (img : List ℕ) → T (all isByte img) → outcome (unworn 0) (startUpPlan img) img ≡ done 0 → StartedUp img
+unfolding after applyAll
+rested img small idle =
+    record { before = img; bytes = bytes img small; context = unworn 0; stores = 0; finished = idle; left = sym (image-none (unworn 0) (startUpPlan img) img refl) }
 
 module _ (img : List ℕ) (c : Call) (sized : Sized c) (k : ℕ) where
   -- the image when k stores of the call are complete, and the book then
@@ -73,14 +75,14 @@ pub lost : {start img : List ℕ}
     → StartedUp start
     → Run start img book
     → (n stores : ℕ)
-    → outcome n (startUpPlan img) ≡ done stores
+    → outcome (unworn n) (startUpPlan img) img ≡ done stores
     → (left : List ℕ)
-    → imageAfter n (startUpPlan img) img ≡ left
+    → imageAfter (unworn n) (startUpPlan img) img ≡ left
     → (valuesOf left ≡ book → ⊥)
     → Demand3
     → ⊥
 lost up run n stores finished left same other demand =
-    other (ap valuesOf (sym same) ∙ demand _ _ _ (started up) (ran run (startUp plain) tt n) .1 stores finished)
+    other (ap valuesOf (sym same) ∙ demand _ _ _ (started up) (ran run (startUp plain) tt (unworn n)) .1 stores finished)
 
 -- what follows a resumption is judged on the image that it leaves, found by laying its pieces over the image before
 pub resumption : (img : List ℕ) (ps : List Piece)
@@ -108,7 +110,7 @@ pub lost-laid : {start img : List ℕ}
     → (valuesOf (laidAll ps img) ≡ book → ⊥)
     → Demand3
     → ⊥
-unfolding outcome imageAfter storesOf
+unfolding storesOf
 lost-laid {img = img} up run ps plan inside other =
     let n = length (flat ps ++ []) in
     lost
@@ -116,9 +118,10 @@ lost-laid {img = img} up run ps plan inside other =
     run
     n
     n
-    (ap (outcome n) plan ∙ rw (le-leb n n (omega arith)))
+    (ap (λ (p : Plan). outcome (unworn n) p img) plan ∙ outcome-none (unworn n) [] (flat ps ++ []) img refl ∙ rw (le-leb n n (omega arith)))
     (laidAll ps img)
-    (ap (λ (p : Plan). imageAfter n p img) plan
+    (ap (λ (p : Plan). imageAfter (unworn n) p img) plan
+    ∙ image-none (unworn n) (make [] (flat ps ++ [])) img refl
     ∙ after-all n (flat ps ++ []) img (omega arith)
     ∙ ap (λ (ss : List Store). applyAll ss img) (append-nil (flat ps))
     ∙ flat-laid ps img inside)
