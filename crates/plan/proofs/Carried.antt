@@ -1,141 +1,165 @@
--- What the executor's loop goes by: the operation at a place of the list, the stores up to within it, and the list's end.
+-- What the executor's loop goes by: of the call's list the first stores are made, and what is left is the rest of one operation and those behind it.
 -- Assumes nothing.
-use Prim.Native.Nat.{ℕ, zero, suc, _+_, _-_, _≤_, _<_}
-use native.Mathlib.Nat.{add-zero}
+use Prim.Native.Nat.{ℕ, zero, suc, _+_, _-_, _≤_, _<_, min}
+use native.Mathlib.Nat.{add-zero, zero-add}
 use native.Mathlib.Numerals.{add-one}
 use native.Mathlib.Omega.{arith}
-use mathlib.Core.Path.{_≡_, refl, sym, ap, ap₂, _∙_, subst}
-use mathlib.Core.List.{List, [], _∷_, _++_, append-nil}
-use lib.ListN.{length, getD, take, drop, length-append, take-append-drop}
-use lib.Seq.{split-at, take-suc, take-all, take-take}
-use borrow.Author.Tests.{le-leb, lt-leb, lt-ltb, le-ltb}
-use Rattle.model.specs.Layout.{stateAt}
-use Rattle.model.specs.Entry.{headerSize}
-use Rattle.model.specs.Stores.{Store, apply, after}
-use Rattle.model.specs.Answers.{done, stopped}
-use Rattle.model.proofs.Stores.{after-all}
+use mathlib.Core.Path.{_≡_, refl, sym, ap, _∙_, subst}
+use mathlib.Core.Bool.{true}
+use mathlib.Core.List.{List, [], _∷_, _++_, append-assoc, append-nil}
+use lib.ListN.{length, getD, take, drop, length-append, length-drop, drop-of-length-le}
+use lib.Seq.{drop-drop, drop-append-seam}
+use Rattle.model.specs.Stores.{Store, apply, applyAll, after, fails, reach}
+use Rattle.model.specs.Answers.{Outcome, done, stopped, refused, ended}
+use Rattle.model.proofs.Stores.{applyAll-append}
+use Rattle.model.proofs.Failing.{reach-few, after-more, reach-more, reach-here, ended-done, ended-stopped, ended-worn}
 use Rattle.plan.specs.declared.Step.{Step}
-use Rattle.plan.specs.declared.Step.the-variants.{Nothing, Program, Header}
+use Rattle.plan.specs.declared.Step.the-variants.{Nothing}
 use Rattle.plan.specs.declared.Op.{Op}
-use Rattle.plan.specs.Plan.{storesOfStep, expand, op, sizeOf, storeAt, many, Advances, Fits, OneBit, AllFit, AllOneBit, Ready, ended}
-use Rattle.plan.proofs.Stores.{expand-append, length-step, turn, one-bit-here, fit-here}
+use Rattle.plan.specs.Plan.{storesOfStep, expand, op, sizeOf, restOf, Fits, OneBit, AllFit, AllOneBit, Ready, FirstFails, Made, Turned}
+use Rattle.plan.proofs.Stores.{after-none, stepAt, expand-from, bits-from, rest-whole, rest-end, rest-some}
 
--- the first operations make no more stores than all
-pub expand-front : (c : List ℕ) (ops : List Op) (m : ℕ) → length (expand c (take m ops)) ≤ length (expand c ops)
-expand-front c ops m =
-    let e = ap (λ (l : List Op). length (expand c l)) (sym (take-append-drop m ops)) ∙ ap length (expand-append c (take m ops) (drop m ops)) ∙ length-append (expand c (take m ops)) (expand c (drop m ops)) in
-    omega (arith, e)
+-- ---- lists
 
-pub expand-grows : (c : List ℕ) (ops : List Op) (m : ℕ) → length (expand c (take m ops)) ≤ length (expand c (take (m + 1) ops))
-expand-grows c ops m =
-    let e = ap (λ (l : List Op). length (expand c l)) (take-take m (m + 1) ops (omega arith)) in
-    omega (arith, e, expand-front c (take (m + 1) ops) m)
+drop-more : (k : ℕ) (ss xs ys : List Store) → drop k ss ≡ xs ++ ys → drop (k + length xs) ss ≡ ys
+drop-more k ss xs ys h = sym (drop-drop (length xs) k ss) ∙ ap (drop (length xs)) h ∙ drop-append-seam xs ys
 
--- the whole list
-pub expand-whole : (c : List ℕ) (ops : List Op) (m : ℕ) → length ops ≤ m → length (expand c (take m ops)) ≡ length (expand c ops)
-expand-whole c ops m h = ap (λ (l : List Op). length (expand c l)) (take-all m ops h)
+drop-none : (k : ℕ) (ss : List Store) → drop k ss ≡ [] → length ss ≤ k
+drop-none k ss h = let e = sym (length-drop k ss) ∙ ap length h in omega (arith, e)
 
-module _ (c : List ℕ) (ops : List Op) (img : List ℕ) (ready : Ready c ops img) (k : ℕ) (h : k < length ops) where
-  abbrev here : Op
-  here = getD ops k (op Nothing)
+drop-some : (k : ℕ) (ss : List Store) → 1 ≤ length (drop k ss) → k < length ss
+drop-some k ss h = let e = length-drop k ss in omega (arith, e)
 
-  whole : ops ≡ take k ops ++ (here ∷ drop (suc k) ops)
-  whole = split-at ops k (op Nothing) h
+-- ---- a plan underway
 
-  pub fits : Fits (length c) (length img) (here .step)
-  fits =
-      fit-here (length c) (length img) (take k ops) here (drop (suc k) ops)
-      (subst (λ (l : List Op). AllFit (length c) (length img) l) whole (ready .fit))
+-- with no store made the image is as it was
+pub unchanged : {dead : List ℕ} {ss : List Store} {left : ℕ} {before after : List ℕ} {k : ℕ} {rest : List Store} → Made dead ss left before after k rest → k ≡ 0 → after ≡ before
+unfolding applyAll
+unchanged m z = go (m .stores) (m .many ∙ z) (m .image)
+  where
+    go : {before after : List ℕ} (ss : List Store) → length ss ≡ 0 → after ≡ applyAll ss before → after ≡ before
+    go [] e f = f
+    go (s ∷ ss) e f = absurd (omega arith)
 
-  -- the stores up to the operation's end
-  pub next-length : length (expand c (take (k + 1) ops)) ≡ length (expand c (take k ops)) + sizeOf (here .step)
-  unfolding expand
-  next-length =
-      ap (λ (n : ℕ). length (expand c (take n ops))) (add-one k)
-      ∙ ap (λ (l : List Op). length (expand c l)) (take-suc ops k (op Nothing) h)
-      ∙ ap length (expand-append c (take k ops) (here ∷ []))
-      ∙ length-append (expand c (take k ops)) (storesOfStep c (here .step) ++ [])
-      ∙ ap (λ (l : List Store). length (expand c (take k ops)) + length l) (append-nil (storesOfStep c (here .step)))
-      ∙ ap (λ (n : ℕ). length (expand c (take k ops)) + n) (length-step c (length img) (here .step) fits)
+-- the first `made` stores of a plan are made, none of them failed, and what is left begins within an operation
+pub record Underway (dead c : List ℕ) (ops : List Op) (img₀ : List ℕ) (k i : ℕ) (img : List ℕ) (made : ℕ) : Type 0 where
+  pub left : drop made (expand c ops) ≡ restOf c (stepAt ops k) i ++ expand c (drop (suc k) ops)
+  pub image : img ≡ after made (expand c ops) img₀
+  pub reached : made ≤ reach dead (expand c ops) img₀
+  pub bit : i ≡ 0 → OneBit (stepAt ops k) img
+  pub bits : AllOneBit c (drop (suc k) ops) (applyAll (restOf c (stepAt ops k) i) img)
 
-  module _ (i made : ℕ) (l : i < sizeOf (here .step)) (e : made ≡ length (expand c (take k ops)) + i) where
-    -- one store more
-    pub one-more : apply (storeAt c (here .step) i) (after made (expand c ops) img) ≡ after (made + 1) (expand c ops) img
-    one-more =
-        let t = turn c (take k ops) here (drop (suc k) ops) img (length img) i fits l in
-        subst
-        (λ (n : ℕ). apply (storeAt c (here .step) i) (after n (expand c ops) img) ≡ after (n + 1) (expand c ops) img)
-        (sym e)
-        (subst
-        (λ (x : List Op). apply (storeAt c (here .step) i) (after (length (expand c (take k ops)) + i) (expand c x) img) ≡ after (length (expand c (take k ops)) + i + 1) (expand c x) img)
-        (sym whole)
-        t)
+module _ (dead c : List ℕ) (ops : List Op) (img₀ : List ℕ) where
+  -- an operation begins
+  begins : (k : ℕ) (img : List ℕ) (made : ℕ) → drop made (expand c ops) ≡ expand c (drop k ops) → img ≡ after made (expand c ops) img₀
+      → made ≤ reach dead (expand c ops) img₀ → AllOneBit c (drop k ops) img → Underway dead c ops img₀ k 0 img made
+  begins k img made left image reached bits =
+      let b = bits-from c ops k img bits in
+      let whole = rest-whole c (stepAt ops k) in
+      record {
+        left = left ∙ expand-from c ops k ∙ ap (λ (l : List Store). l ++ expand c (drop (suc k) ops)) (sym whole);
+        image = image;
+        reached = reached;
+        bit = λ z. b .0;
+        bits = subst (λ (l : List Store). AllOneBit c (drop (suc k) ops) (applyAll l img)) (sym whole) (b .1);
+      }
 
-    -- a mark finds what it asks for
-    pub bit-there : OneBit (here .step) (after made (expand c ops) img)
-    bit-there =
-        let t = one-bit-here c (take k ops) here (drop (suc k) ops) img (length img) i fits l (subst (λ (x : List Op). AllOneBit c x img) whole (ready .bits)) in
-        subst (λ (n : ℕ). OneBit (here .step) (after n (expand c ops) img)) (sym e)
-        (subst (λ (x : List Op). OneBit (here .step) (after (length (expand c (take k ops)) + i) (expand c x) img)) (sym whole) t)
+  pub underway-begins : Ready c ops img₀ → Underway dead c ops img₀ 0 0 img₀ 0
+  underway-begins ready = begins 0 img₀ 0 refl (sym (after-none (expand c ops) img₀)) (omega arith) (ready .bits)
 
-  -- and so many more
-  pub many-more : (i made : ℕ) → made ≡ length (expand c (take k ops)) + i → (r : ℕ) → i + r ≤ sizeOf (here .step)
-      → many c (here .step) i r (after made (expand c ops) img) ≡ after (made + r) (expand c ops) img
-  unfolding many
-  many-more i made e zero l = ap (λ (n : ℕ). after n (expand c ops) img) (sym (add-zero made))
-  many-more i made e (suc r) l =
-      ap (λ (x : List ℕ). apply (storeAt c (here .step) (i + r)) x) (many-more i made e r (omega arith))
-      ∙ one-more (i + r) (made + r) (omega arith) (omega arith)
-      ∙ ap (λ (n : ℕ). after n (expand c ops) img) (let q : made + r + 1 ≡ made + suc r = omega arith in q)
+  -- some stores of it are made
+  pub underway-turns : (k i : ℕ) (img : List ℕ) (made left : ℕ) (img′ : List ℕ) (n : ℕ) → Underway dead c ops img₀ k i img made
+      → Turned dead c (stepAt ops k) i left img img′ n → 1 ≤ n → Underway dead c ops img₀ k (i + n) img′ (made + n)
+  unfolding applyAll
+  underway-turns k i img made left img′ n u t some =
+      let m = t .1 in
+      let ss = expand c ops in
+      let xs = m .stores in
+      let behind = restOf c (stepAt ops k) (i + n) in
+      let ys = behind ++ expand c (drop (suc k) ops) in
+      let front : drop made ss ≡ xs ++ ys =
+      u .left ∙ ap (λ (l : List Store). l ++ expand c (drop (suc k) ops)) (m .whole) ∙ append-assoc xs behind (expand c (drop (suc k) ops)) in
+      let few = reach-few dead ss img₀ in
+      let same : made + length xs ≡ made + n = ap (λ (x : ℕ). made + x) (m .many) in
+      let spared : reach dead xs (after made ss img₀) ≡ length xs =
+      subst (λ (x : List ℕ). reach dead xs x ≡ length xs) (u .image) (m .spared ∙ sym (m .many)) in
+      let far = reach-more dead made ss xs ys img₀ front (u .reached) spared in
+      record {
+        left = ap (λ (x : ℕ). drop x ss) (sym same) ∙ drop-more made ss xs ys front;
+        image =
+            m .image
+            ∙ ap (applyAll xs) (u .image)
+            ∙ sym (after-more made ss xs ys img₀ front (omega (arith, u .reached)))
+            ∙ ap (λ (x : ℕ). after x ss img₀) same;
+        reached = omega (arith, m .many);
+        bit = λ z. absurd (omega arith);
+        bits =
+            subst (λ (x : List ℕ). AllOneBit c (drop (suc k) ops) (applyAll behind x)) (sym (m .image))
+            (subst (λ (x : List ℕ). AllOneBit c (drop (suc k) ops) x) (ap (λ (l : List Store). applyAll l img) (m .whole) ∙ applyAll-append xs behind img) (u .bits));
+      }
 
--- one store is the first of many
-pub many-one : (c : List ℕ) (s : Step) (i : ℕ) (img : List ℕ) → apply (storeAt c s i) img ≡ many c s i 1 img
-unfolding many
-many-one c s i img = ap (λ (n : ℕ). apply (storeAt c s n) img) (sym (add-zero i))
+  -- all of it are made: on to the next one
+  pub underway-next : (k i : ℕ) (img : List ℕ) (made : ℕ) → Underway dead c ops img₀ k i img made → i ≡ sizeOf (stepAt ops k) → Underway dead c ops img₀ (k + 1) 0 img made
+  unfolding applyAll
+  underway-next k i img made u e =
+      let none : restOf c (stepAt ops k) i ≡ [] = ap (restOf c (stepAt ops k)) e ∙ rest-end c (stepAt ops k) in
+      subst (λ (x : ℕ). Underway dead c ops img₀ x 0 img made) (sym (add-one k))
+      (begins (suc k) img made
+      (u .left ∙ ap (λ (l : List Store). l ++ expand c (drop (suc k) ops)) none)
+      (u .image)
+      (u .reached)
+      (subst (λ (l : List Store). AllOneBit c (drop (suc k) ops) (applyAll l img)) none (u .bits)))
 
-pub many-none : (c : List ℕ) (s : Step) (i : ℕ) (img : List ℕ) → img ≡ many c s i 0 img
-unfolding many
-many-none c s i img = refl
+  -- ---- how it ends
 
-pub many-next : (c : List ℕ) (s : Step) (i r : ℕ) (img : List ℕ) → apply (storeAt c s (i + r)) (many c s i r img) ≡ many c s i (r + 1) img
-unfolding many
-many-next c s i r img = ap (λ (n : ℕ). many c s i n img) (sym (add-one r))
+  abbrev Ends : Outcome → ℕ → List ℕ → Type 0
+  Ends o n img = (o ≡ ended n (reach dead (expand c ops) img₀) (length (expand c ops))) × (img ≡ after (min n (reach dead (expand c ops) img₀)) (expand c ops) img₀)
 
--- the list's end is not reached
-pub ends-stopped : (n : ℕ) (ss : List Store) → n < length ss → stopped ≡ ended n ss
-unfolding ended
-ends-stopped n ss h = rw (lt-leb (length ss) n h)
+  -- no operation is left
+  pub underway-done : (k i : ℕ) (img : List ℕ) (made n : ℕ) → Underway dead c ops img₀ k i img made → length ops ≤ k → made ≤ n → Ends (done made) n img
+  unfolding restOf expand
+  underway-done k i img made n u l h =
+      let none : drop made (expand c ops) ≡ [] =
+      u .left ∙ ap (λ (s : Step). restOf c s i ++ expand c (drop (suc k) ops)) (past ops k l) ∙ ap (expand c) (drop-of-length-le ops {i = suc k} (omega arith)) in
+      let all = drop-none made (expand c ops) none in
+      let few = reach-few dead (expand c ops) img₀ in
+      let whole : made ≡ length (expand c ops) = omega (arith, u .reached) in
+      let same : made ≡ min n (reach dead (expand c ops) img₀) = omega (arith, u .reached) in (
+        ap done whole ∙ sym (ended-done n (reach dead (expand c ops) img₀) (length (expand c ops)) (omega arith) (omega (arith, u .reached))),
+        u .image ∙ ap (λ (x : ℕ). after x (expand c ops) img₀) same,
+      )
+    where
+      past : (ops : List Op) (k : ℕ) → length ops ≤ k → stepAt ops k ≡ Nothing
+      past [] k h = refl
+      past (o ∷ ops) zero h = absurd (omega arith)
+      past (o ∷ ops) (suc k) h = past ops k (omega arith)
 
--- it is
-pub ends-done : (n made : ℕ) (ss : List Store) (img : List ℕ) → made ≡ length ss → made ≤ n
-    → (done made ≡ ended n ss) × (after made ss img ≡ after n ss img)
-unfolding ended
-ends-done n made ss img e h =
-    let l : length ss ≤ n = omega arith in
-    (rw (le-leb (length ss) n l, e), after-all made ss img (omega arith) ∙ sym (after-all n ss img l))
+  some-left : (k i : ℕ) (img : List ℕ) (made : ℕ) → Underway dead c ops img₀ k i img made → 1 ≤ length (restOf c (stepAt ops k) i) → made < length (expand c ops)
+  some-left k i img made u some =
+      let e = ap length (u .left) ∙ length-append (restOf c (stepAt ops k) i) (expand c (drop (suc k) ops)) in
+      drop-some made (expand c ops) (omega (arith, e))
 
--- stores of two operations that are the same, one by one
-many-as : (c : List ℕ) (s t : Step) (i j r : ℕ) (img : List ℕ) → ((k : ℕ) → k < r → storeAt c s (i + k) ≡ storeAt c t (j + k)) → many c s i r img ≡ many c t j r img
-unfolding many
-many-as c s t i j zero img h = refl
-many-as c s t i j (suc r) img h =
-    ap₂ apply (h r (omega arith)) (many-as c s t i j r img (λ k l. h k (omega arith)))
+  -- n stores are made, and some are left
+  pub underway-stopped : (k i : ℕ) (img : List ℕ) (made n : ℕ) → Underway dead c ops img₀ k i img made
+      → Fits (length c) (length img₀) (stepAt ops k) → i < sizeOf (stepAt ops k) → made ≡ n → Ends stopped n img
+  underway-stopped k i img made n u fits l e =
+      let some = some-left k i img made u (rest-some c (length img₀) (stepAt ops k) i fits l) in
+      let same : made ≡ min n (reach dead (expand c ops) img₀) = omega (arith, u .reached) in (
+        sym (ended-stopped n (reach dead (expand c ops) img₀) (length (expand c ops)) (omega arith) (omega (arith, u .reached))),
+        u .image ∙ ap (λ (x : ℕ). after x (expand c ops) img₀) same,
+      )
 
--- a header's stores before its state, and behind it, are those of a run that leaves its place out
-module _ (c : List ℕ) (at from i r : ℕ) (img : List ℕ) where
-  pub header-front : i + r ≤ stateAt → many c (Program at from headerSize) i r img ≡ many c (Header at from) i r img
-  header-front h = many-as c (Program at from headerSize) (Header at from) i i r img (λ k l. rw (lt-ltb (i + k) stateAt (omega arith)))
-
-  pub header-rest : stateAt ≤ i → many c (Program at from headerSize) (i + 1) r img ≡ many c (Header at from) i r img
-  header-rest h =
-      many-as c (Program at from headerSize) (Header at from) (i + 1) i r img
-      (λ k l. let e : i + 1 + k ≡ i + k + 1 = omega arith in rw (le-ltb (i + k) stateAt (omega arith), e))
-
--- what an operation asks, and what was made of it, where it is known
-pub asked-as : {s t : Step} → s ≡ t → (held long i : ℕ) (img : List ℕ) → i < sizeOf s → Fits held long s → OneBit s img
-    → (i < sizeOf t) × Fits held long t × OneBit t img
-asked-as e held long i img l f b =
-    subst (λ (x : Step). (i < sizeOf x) × Fits held long x × OneBit x img) e (l, f, b)
-
-pub advances-as : {s t : Step} → s ≡ t → (c img : List ℕ) (i left r : ℕ) {img′ : List ℕ} → Advances c t i left img img′ r → Advances c s i left img img′ r
-advances-as e c img i left r a = rw e a
+  -- the next one fails
+  pub underway-worn : (k i : ℕ) (img : List ℕ) (made n : ℕ) → Underway dead c ops img₀ k i img made → FirstFails dead (restOf c (stepAt ops k) i) img → made < n → Ends (refused 23) n img
+  underway-worn k i img made n u f l = go (restOf c (stepAt ops k) i) refl f
+    where
+      go : (ss : List Store) → restOf c (stepAt ops k) i ≡ ss → FirstFails dead ss img → Ends (refused 23) n img
+      go [] e f = absurd f
+      go (s ∷ ss) e f =
+          let there : drop made (expand c ops) ≡ s ∷ (ss ++ expand c (drop (suc k) ops)) = u .left ∙ ap (λ (l : List Store). l ++ expand c (drop (suc k) ops)) e in
+          let here = reach-here dead made (expand c ops) (ss ++ expand c (drop (suc k) ops)) s img₀ there (u .reached) (ap (fails dead s) (sym (u .image)) ∙ f) in
+          let some = some-left k i img made u (subst (λ (l : List Store). 1 ≤ length l) (sym e) (omega arith)) in
+          let same : made ≡ min n (reach dead (expand c ops) img₀) = omega arith in (
+            sym (ended-worn n (reach dead (expand c ops) img₀) (length (expand c ops)) (omega arith) (omega arith)),
+            u .image ∙ ap (λ (x : ℕ). after x (expand c ops) img₀) same,
+          )

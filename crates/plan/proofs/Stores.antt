@@ -1,25 +1,24 @@
--- The stores of operations: a list's are its parts' in turn, each operation makes as many as it says, and one more after the first i are the first i + 1.
+-- The stores of operations: a list's are its parts' in turn, and each operation makes as many as it says, part by part.
 -- Assumes nothing.
 use Prim.Native.Nat.{ℕ, zero, suc, _+_, _-_, _≤_, _<_}
-use native.Mathlib.Nat.{add-zero, add-suc, suc-add, le-of-suc-le-suc}
-use native.Mathlib.Numerals.{add-one}
+use native.Mathlib.Nat.{add-zero, zero-add, sub-zero, add-suc, suc-add, add-assoc}
 use native.Mathlib.Omega.{arith}
-use mathlib.Core.Path.{_≡_, refl, sym, ap, _∙_, subst}
+use mathlib.Core.Path.{_≡_, refl, sym, ap, ap₂, _∙_, subst}
 use mathlib.Core.Bool.{Bool, true, false, cond}
-use mathlib.Core.List.{List, [], _∷_, _++_, append-assoc}
-use lib.ListN.{length, getD, drop, length-append, length-drop}
-use lib.Seq.{length-take-le, getD-take, getD-drop}
-use lib.Dec.{ltb}
-use borrow.Author.Tests.{ltb-true, ltb-false}
+use mathlib.Core.List.{List, [], _∷_, _++_, append-assoc, append-nil}
+use lib.ListN.{length, getD, take, drop, length-append, length-drop}
+use lib.Seq.{length-take-le, take-add, drop-drop}
+use lib.Dec.{eqb, ltb}
+use borrow.Author.Tests.{ltb-true, ltb-false, lt-ltb, le-ltb, ne-eqb}
 use Rattle.model.specs.Lists.{part}
 use Rattle.model.specs.Layout.{stateAt}
 use Rattle.model.specs.Entry.{headerSize}
 use Rattle.model.specs.Stores.{Store, byte, erase, apply, applyAll, after, run, erases}
-use Rattle.model.proofs.Stores.{applyAll-append, after-all, after-append}
+use Rattle.model.proofs.Stores.{applyAll-append}
 use Rattle.plan.specs.declared.Step.{Step}
 use Rattle.plan.specs.declared.Step.the-variants.{Nothing, Mark, Erase, Program, Header}
 use Rattle.plan.specs.declared.Op.{Op}
-use Rattle.plan.specs.Plan.{behindState, storesOfStep, expand, sizeOf, storeAt, Fits, OneBit, AllFit, AllOneBit}
+use Rattle.plan.specs.Plan.{behindState, storesOfStep, expand, op, sizeOf, runOf, restOf, Fits, OneBit, AllFit, AllOneBit}
 
 pub length-run : (at : ℕ) (bs : List ℕ) → length (run at bs) ≡ length bs
 unfolding run
@@ -28,6 +27,9 @@ length-run at (b ∷ bs) = ap suc (length-run (suc at) bs)
 
 length-part : (from len : ℕ) (c : List ℕ) → from + len ≤ length c → length (part from len c) ≡ len
 length-part from len c h = length-take-le len (drop from c) (rw length-drop (omega arith))
+
+pub length-runOf : (c : List ℕ) (at from len : ℕ) → from + len ≤ length c → length (runOf c at from len) ≡ len
+length-runOf c at from len h = length-run at (part from len c) ∙ length-part from len c h
 
 pub length-erases : (b n : ℕ) → length (erases b n) ≡ n
 unfolding erases
@@ -47,147 +49,150 @@ expand-append c (x ∷ xs) ys =
     ap (λ (l : List Store). storesOfStep c (x .step) ++ l) (expand-append c xs ys)
     ∙ sym (append-assoc (storesOfStep c (x .step)) (expand c xs) (expand c ys))
 
+-- the operation at a place; none past the end
+abbrev pub stepAt : List Op → ℕ → Step
+stepAt ops k = getD ops k (op Nothing) .step
+
+-- the stores from a place on begin with those of the operation there
+pub expand-from : (c : List ℕ) (ops : List Op) (k : ℕ) → expand c (drop k ops) ≡ storesOfStep c (stepAt ops k) ++ expand c (drop (suc k) ops)
+unfolding expand storesOfStep
+expand-from c [] zero = refl
+expand-from c [] (suc k) = refl
+expand-from c (o ∷ ops) zero = refl
+expand-from c (o ∷ ops) (suc k) = expand-from c ops k
+
+-- and what is asked of them with what is asked of it
+pub bits-from : (c : List ℕ) (ops : List Op) (k : ℕ) (img : List ℕ) → AllOneBit c (drop k ops) img
+    → OneBit (stepAt ops k) img × AllOneBit c (drop (suc k) ops) (applyAll (storesOfStep c (stepAt ops k)) img)
+bits-from c [] zero img h = (tt, tt)
+bits-from c [] (suc k) img h = (tt, tt)
+bits-from c (o ∷ ops) zero img h = h
+bits-from c (o ∷ ops) (suc k) img h = bits-from c ops k img h
+
+pub fits-at : (held long : ℕ) (ops : List Op) (k : ℕ) → AllFit held long ops → Fits held long (stepAt ops k)
+fits-at held long [] k h = tt
+fits-at held long (o ∷ ops) zero h = h .0
+fits-at held long (o ∷ ops) (suc k) h = fits-at held long ops k (h .1)
+
 -- ---- the stores of one operation
 
-pub length-step : (c : List ℕ) (long : ℕ) (s : Step) → Fits (length c) long s → length (storesOfStep c s) ≡ sizeOf s
-unfolding storesOfStep
-length-step c long Nothing h = refl
-length-step c long (Mark at v) h = refl
-length-step c long (Erase first count) h = length-erases first count
-length-step c long (Program at from len) h = length-run at (part from len c) ∙ length-part from len c (h .0)
-length-step c long (Header at from) h =
-    length-append (run at (part from stateAt c)) (run (at + stateAt + 1) (part (from + stateAt + 1) behindState c))
-    ∙ omega (arith, length-run at (part from stateAt c), length-run (at + stateAt + 1) (part (from + stateAt + 1) behindState c), length-part from stateAt c (omega (arith, h .0)), length-part (from + stateAt + 1) behindState c (omega (arith, h .0)))
+run-append : (at : ℕ) (xs ys : List ℕ) → run at (xs ++ ys) ≡ run at xs ++ run (at + length xs) ys
+unfolding run
+run-append at [] ys = ap (λ (n : ℕ). run n ys) (sym (add-zero at))
+run-append at (x ∷ xs) ys =
+    ap (λ (l : List Store). byte at x ∷ l) (run-append (suc at) xs ys ∙ ap (λ (n : ℕ). run (suc at) xs ++ run n ys) (suc-add at (length xs) ∙ sym (add-suc at (length xs))))
 
-run-suc : (at : ℕ) (bs : List ℕ) (i : ℕ) (img : List ℕ) → i < length bs
-    → apply (byte (at + i) (getD bs i 0)) (after i (run at bs) img) ≡ after (suc i) (run at bs) img
-unfolding run after applyAll
-run-suc at [] i img h = absurd (omega arith)
-run-suc at (b ∷ bs) zero img h = rw add-zero
-run-suc at (b ∷ bs) (suc i) img h = rw (add-suc, ← suc-add at i) (run-suc (suc at) bs i (apply (byte at b) img) (le-of-suc-le-suc h))
+-- some bytes of the content, and those behind them
+pub run-split : (c : List ℕ) (at from k m : ℕ) → from + k ≤ length c → runOf c at from (k + m) ≡ runOf c at from k ++ runOf c (at + k) (from + k) m
+run-split c at from k m h =
+    ap (run at) (take-add k m (drop from c))
+    ∙ run-append at (part from k c) (take m (drop k (drop from c)))
+    ∙ ap₂ (λ (n : ℕ) (l : List ℕ). runOf c at from k ++ run (at + n) (take m l)) (length-part from k c h) (drop-drop k from c)
 
-erases-suc : (b n i : ℕ) (img : List ℕ) → i < n → apply (erase (b + i)) (after i (erases b n) img) ≡ after (suc i) (erases b n) img
-unfolding erases after applyAll
-erases-suc b zero i img h = absurd (omega arith)
-erases-suc b (suc n) zero img h = rw add-zero
-erases-suc b (suc n) (suc i) img h = rw (add-suc, ← suc-add b i) (erases-suc (suc b) n i (apply (erase b) img) (le-of-suc-le-suc h))
+pub run-nil : (c : List ℕ) (at from : ℕ) → runOf c at from 0 ≡ []
+unfolding run
+run-nil c at from = refl
 
--- a run of the content
-part-suc : (c : List ℕ) (at from len i : ℕ) (img : List ℕ) → from + len ≤ length c → i < len
-    → apply (byte (at + i) (getD c (from + i) 0)) (after i (run at (part from len c)) img) ≡ after (suc i) (run at (part from len c)) img
-part-suc c at from len i img h l =
-    let bs : List ℕ = part from len c in
-    let n : length bs ≡ len = length-part from len c h in
-    let e : getD bs i 0 ≡ getD c (from + i) 0 = getD-take len (drop from c) i 0 l ∙ getD-drop from c i 0 in
-    ap (λ (v : ℕ). apply (byte (at + i) v) (after i (run at bs) img)) (sym e) ∙ run-suc at bs i img (rw n l)
+erases-split : (b k m : ℕ) → erases b (k + m) ≡ erases b k ++ erases (b + k) m
+unfolding erases
+erases-split b zero m = ap₂ (λ (x y : ℕ). erases x y) (sym (add-zero b)) (zero-add m)
+erases-split b (suc k) m =
+    ap (erases b) (suc-add k m)
+    ∙ ap (λ (l : List Store). erase b ∷ l) (erases-split (suc b) k m ∙ ap (λ (n : ℕ). erases (suc b) k ++ erases n m) (suc-add b k ∙ sym (add-suc b k)))
 
--- one store more of a list's front, and of what follows it
-front-suc : (xs ys : List Store) (i : ℕ) (s : Store) (img : List ℕ) → i < length xs → apply s (after i xs img) ≡ after (suc i) xs img
-    → apply s (after i (xs ++ ys) img) ≡ after (suc i) (xs ++ ys) img
-front-suc xs ys i s img h e =
-    let a : i - length xs ≡ 0 = omega arith in
-    let b : suc i - length xs ≡ 0 = omega arith in
-    let within : (k : ℕ) → k - length xs ≡ 0 → after k (xs ++ ys) img ≡ after k xs img = λ k z. after-append k xs ys img ∙ ap (λ (n : ℕ). after n ys (after k xs img)) z ∙ after-none ys (after k xs img) in
-    ap (apply s) (within i a) ∙ e ∙ sym (within (suc i) b)
+-- all of them
+pub rest-whole : (c : List ℕ) (s : Step) → restOf c s 0 ≡ storesOfStep c s
+unfolding restOf storesOfStep
+rest-whole c Nothing = refl
+rest-whole c (Mark at v) = refl
+rest-whole c (Erase first count) = rw (add-zero, sub-zero)
+rest-whole c (Program at from len) = rw (add-zero at, add-zero from, sub-zero)
+rest-whole c (Header at from) = rw (add-zero at, add-zero from)
 
-rest-suc : (xs ys : List Store) (i j : ℕ) (s : Store) (img : List ℕ) → i ≡ length xs + j → apply s (after j ys (applyAll xs img)) ≡ after (suc j) ys (applyAll xs img)
-    → apply s (after i (xs ++ ys) img) ≡ after (suc i) (xs ++ ys) img
-rest-suc xs ys i j s img h e =
-    let beyond : (k m : ℕ) → k ≡ length xs + m → after k (xs ++ ys) img ≡ after m ys (applyAll xs img) = λ k m z. after-append k xs ys img ∙ ap (λ (n : ℕ). after n ys (after k xs img)) (let y : k - length xs ≡ m = omega arith in y) ∙ ap (after m ys) (after-all k xs img (omega arith)) in
-    ap (apply s) (beyond i j h) ∙ e ∙ sym (beyond (suc i) (suc j) (omega arith))
+-- none
+pub rest-end : (c : List ℕ) (s : Step) → restOf c s (sizeOf s) ≡ []
+unfolding restOf erases run
+rest-end c Nothing = refl
+rest-end c (Mark at v) = refl
+rest-end c (Erase first count) = let z : count - count ≡ 0 = omega arith in rw z
+rest-end c (Program at from len) = let z : len - len ≡ 0 = omega arith in rw z
+rest-end c (Header at from) = refl
 
-header-suc : (c : List ℕ) (at from i : ℕ) (img : List ℕ) → from + headerSize ≤ length c → i < stateAt + behindState
-    → apply (storeAt c (Header at from) i) (after i (storesOfStep c (Header at from)) img) ≡ after (suc i) (storesOfStep c (Header at from)) img
-unfolding storesOfStep
-header-suc c at from i img h l = go (ltb i stateAt) refl
+-- from a place within it there are some
+pub rest-some : (c : List ℕ) (long : ℕ) (s : Step) (i : ℕ) → Fits (length c) long s → i < sizeOf s → 1 ≤ length (restOf c s i)
+unfolding restOf
+rest-some c long Nothing i h l = absurd (omega arith)
+rest-some c long (Mark at v) i h l = let z : i ≡ 0 = omega arith in rw z (omega arith)
+rest-some c long (Erase first count) i h l = rw (length-erases (first + i) (count - i)) (omega arith)
+rest-some c long (Program at from len) i h l = rw (length-runOf c (at + i) (from + i) (len - i) (omega (arith, h .0))) (omega arith)
+rest-some c long (Header at from) i h l = go (ltb i stateAt) refl
   where
-    xs : List Store
-    xs = run at (part from stateAt c)
-
-    ys : List Store
-    ys = run (at + stateAt + 1) (part (from + stateAt + 1) behindState c)
-
-    long : length xs ≡ stateAt
-    long = length-run at (part from stateAt c) ∙ length-part from stateAt c (omega arith)
-
     go : (t : Bool) → ltb i stateAt ≡ t
-        → apply (byte (at + cond t i (i + 1)) (getD c (from + cond t i (i + 1)) 0)) (after i (xs ++ ys) img) ≡ after (suc i) (xs ++ ys) img
-    go true e = let k = ltb-true i stateAt e in let n = long in
-        front-suc xs ys i (byte (at + i) (getD c (from + i) 0)) img (omega arith) (part-suc c at from stateAt i img (omega arith) k)
-    go false e = let k = ltb-false i stateAt e in let n = long in
-        let j = i - stateAt in
-        let p : at + stateAt + 1 + j ≡ at + (i + 1) = omega arith in
-        let q : from + stateAt + 1 + j ≡ from + (i + 1) = omega arith in
-        rest-suc xs ys i j (byte (at + (i + 1)) (getD c (from + (i + 1)) 0)) img (omega arith)
-        (rw (← p, ← q) (part-suc c (at + stateAt + 1) (from + stateAt + 1) behindState j (applyAll xs img) (omega arith) (omega arith)))
+        → 1 ≤ length (cond t (runOf c (at + i) (from + i) (stateAt - i) ++ runOf c (at + stateAt + 1) (from + stateAt + 1) behindState) (runOf c (at + i + 1) (from + i + 1) (stateAt + behindState - i)))
+    go true e =
+        let k = ltb-true i stateAt e in
+        rw (length-append (runOf c (at + i) (from + i) (stateAt - i)) (runOf c (at + stateAt + 1) (from + stateAt + 1) behindState), length-runOf c (at + i) (from + i) (stateAt - i) (omega (arith, h .0))) (omega arith)
+    go false e = rw (length-runOf c (at + i + 1) (from + i + 1) (stateAt + behindState - i) (omega (arith, h .0))) (omega arith)
 
-step-turn : (c : List ℕ) (long : ℕ) (s : Step) (i : ℕ) (img : List ℕ) → Fits (length c) long s → i < sizeOf s
-    → apply (storeAt c s i) (after i (storesOfStep c s) img) ≡ after (suc i) (storesOfStep c s) img
-unfolding storesOfStep after applyAll
-step-turn c long Nothing i img h l = absurd (omega arith)
-step-turn c long (Mark at v) zero img h l = refl
-step-turn c long (Mark at v) (suc i) img h l = absurd (omega arith)
-step-turn c long (Erase first count) i img h l = erases-suc first count i img l
-step-turn c long (Program at from len) i img h l = part-suc c at from len i img (h .0) l
-step-turn c long (Header at from) i img h l = header-suc c at from i img (h .0) l
+-- one block more
+pub erase-rest : (c : List ℕ) (first count i : ℕ) → i < count → restOf c (Erase first count) i ≡ erase (first + i) ∷ restOf c (Erase first count) (i + 1)
+unfolding restOf erases
+erase-rest c first count i l =
+    let n : count - i ≡ suc (count - (i + 1)) = omega arith in
+    let e : suc (first + i) ≡ first + (i + 1) = omega arith in
+    rw (n, ← e)
 
--- ---- an operation among others
+-- so many bytes more, of a run and of a header
+pub program-rest : (c : List ℕ) (at from len i k : ℕ) → from + len ≤ length c → i + k ≤ len
+    → restOf c (Program at from len) i ≡ runOf c (at + i) (from + i) k ++ restOf c (Program at from len) (i + k)
+unfolding restOf
+program-rest c at from len i k h l =
+    let n : len - i ≡ k + (len - (i + k)) = omega arith in
+    let p : at + i + k ≡ at + (i + k) = omega arith in
+    let q : from + i + k ≡ from + (i + k) = omega arith in
+    ap (runOf c (at + i) (from + i)) n
+    ∙ run-split c (at + i) (from + i) k (len - (i + k)) (omega arith)
+    ∙ ap₂ (λ (x y : ℕ). runOf c (at + i) (from + i) k ++ runOf c x y (len - (i + k))) p q
 
--- what was asked of a list of operations is asked of each, on the image as those before it leave it
-pub bits-split : (c : List ℕ) (pre : List Op) (o : Op) (post : List Op) (img : List ℕ) → AllOneBit c (pre ++ (o ∷ post)) img
-    → OneBit (o .step) (applyAll (expand c pre) img)
-unfolding expand applyAll
-bits-split c [] o post img h = h .0
-bits-split c (p ∷ pre) o post img h =
-    subst (λ (x : List ℕ). OneBit (o .step) x) (sym (applyAll-append (storesOfStep c (p .step)) (expand c pre) img))
-    (bits-split c pre o post (applyAll (storesOfStep c (p .step)) img) (h .1))
+module _ (c : List ℕ) (at from i k : ℕ) (h : from + headerSize ≤ length c) where
+  behind : List Store
+  behind = runOf c (at + stateAt + 1) (from + stateAt + 1) behindState
 
-pub fit-here : (held long : ℕ) (pre : List Op) (o : Op) (post : List Op) → AllFit held long (pre ++ (o ∷ post)) → Fits held long (o .step)
-fit-here held long [] o post h = h .0
-fit-here held long (p ∷ pre) o post h = fit-here held long pre o post (h .1)
-
-module _ (c : List ℕ) (pre : List Op) (o : Op) (post : List Op) (img : List ℕ) where
-  -- the first stores of the list, up to within this operation
-  pub within : (i : ℕ) → i ≤ length (storesOfStep c (o .step))
-      → after (length (expand c pre) + i) (expand c (pre ++ (o ∷ post))) img ≡ after i (storesOfStep c (o .step)) (applyAll (expand c pre) img)
-  unfolding expand
-  within i h =
-      let xs = expand c pre in
-      let ys = storesOfStep c (o .step) in
-      let zs = expand c post in
-      let a : length xs + i - length xs ≡ i = omega arith in
-      let b : i - length ys ≡ 0 = omega arith in
-      ap (λ (l : List Store). after (length xs + i) l img) (expand-append c pre (o ∷ post))
-      ∙ after-append (length xs + i) xs (ys ++ zs) img
-      ∙ ap (λ (k : ℕ). after k (ys ++ zs) (after (length xs + i) xs img)) a
-      ∙ ap (λ (x : List ℕ). after i (ys ++ zs) x) (after-all (length xs + i) xs img (omega arith))
-      ∙ after-append i ys zs (applyAll xs img)
-      ∙ ap (λ (k : ℕ). after k zs (after i ys (applyAll xs img))) b
-      ∙ after-none zs (after i ys (applyAll xs img))
-
-  -- one store more
-  pub turn : (long i : ℕ) → Fits (length c) long (o .step) → i < sizeOf (o .step)
-      → apply (storeAt c (o .step) i) (after (length (expand c pre) + i) (expand c (pre ++ (o ∷ post))) img)
-      ≡ after (length (expand c pre) + i + 1) (expand c (pre ++ (o ∷ post))) img
-  turn long i h l =
-      let n = length-step c long (o .step) h in
-      ap (λ (x : List ℕ). apply (storeAt c (o .step) i) x) (within i (omega arith))
-      ∙ step-turn c long (o .step) i (applyAll (expand c pre) img) h l
-      ∙ sym (within (suc i) (omega arith))
-      ∙ ap (λ (k : ℕ). after k (expand c (pre ++ (o ∷ post))) img) (add-suc (length (expand c pre)) i ∙ sym (add-one (length (expand c pre) + i)))
-
-  -- what it asks of the image that it finds
-  pub one-bit-here : (long i : ℕ) → Fits (length c) long (o .step) → i < sizeOf (o .step) → AllOneBit c (pre ++ (o ∷ post)) img
-      → OneBit (o .step) (after (length (expand c pre) + i) (expand c (pre ++ (o ∷ post))) img)
-  one-bit-here long i h l b = go (o .step) refl l
+  -- before the state
+  pub header-front : i < stateAt → i + k ≤ stateAt
+      → restOf c (Header at from) i ≡ runOf c (at + i) (from + i) k ++ restOf c (Header at from) (i + k)
+  unfolding restOf behind
+  header-front f l =
+      let n : stateAt - i ≡ k + (stateAt - (i + k)) = omega arith in
+      let p : at + i + k ≡ at + (i + k) = omega arith in
+      let q : from + i + k ≡ from + (i + k) = omega arith in
+      let whole : runOf c (at + i) (from + i) (stateAt - i) ≡ runOf c (at + i) (from + i) k ++ runOf c (at + (i + k)) (from + (i + k)) (stateAt - (i + k)) =
+      ap (runOf c (at + i) (from + i)) n
+      ∙ run-split c (at + i) (from + i) k (stateAt - (i + k)) (omega arith)
+      ∙ ap₂ (λ (x y : ℕ). runOf c (at + i) (from + i) k ++ runOf c x y (stateAt - (i + k))) p q in
+      ap (λ (t : Bool). cond t (runOf c (at + i) (from + i) (stateAt - i) ++ behind) (runOf c (at + i + 1) (from + i + 1) (stateAt + behindState - i))) (lt-ltb i stateAt f)
+      ∙ ap (λ (l : List Store). l ++ behind) whole
+      ∙ append-assoc (runOf c (at + i) (from + i) k) (runOf c (at + (i + k)) (from + (i + k)) (stateAt - (i + k))) behind
+      ∙ ap (λ (l : List Store). runOf c (at + i) (from + i) k ++ l) (go (ltb (i + k) stateAt) refl)
     where
-      go : (s : Step) → o .step ≡ s → i < sizeOf s → OneBit s (after (length (expand c pre) + i) (expand c (pre ++ (o ∷ post))) img)
-      go Nothing e k = tt
-      go (Mark at v) e k =
-          let z : i ≡ 0 = omega arith in
-          let b′ : OneBit (Mark at v) (applyAll (expand c pre) img) = subst (λ (s : Step). OneBit s (applyAll (expand c pre) img)) e (bits-split c pre o post img b) in
-          let w = within i (omega arith) in
-          subst (λ (x : List ℕ). OneBit (Mark at v) x) (sym (w ∙ ap (λ (k : ℕ). after k (storesOfStep c (o .step)) (applyAll (expand c pre) img)) z ∙ after-none (storesOfStep c (o .step)) (applyAll (expand c pre) img))) b′
-      go (Erase first count) e k = tt
-      go (Program at from len) e k = tt
-      go (Header at from) e k = tt
+      go : (t : Bool) → ltb (i + k) stateAt ≡ t
+          → runOf c (at + (i + k)) (from + (i + k)) (stateAt - (i + k)) ++ behind
+          ≡ cond t (runOf c (at + (i + k)) (from + (i + k)) (stateAt - (i + k)) ++ behind) (runOf c (at + (i + k) + 1) (from + (i + k) + 1) (stateAt + behindState - (i + k)))
+      go true e = refl
+      go false e =
+          let m = ltb-false (i + k) stateAt e in
+          let z : i + k ≡ stateAt = omega arith in
+          rw z (ap (λ (l : List Store). l ++ behind) (run-nil c (at + stateAt) (from + stateAt)))
+
+  -- behind it
+  pub header-rest : stateAt ≤ i → i + k ≤ stateAt + behindState
+      → restOf c (Header at from) i ≡ runOf c (at + i + 1) (from + i + 1) k ++ restOf c (Header at from) (i + k)
+  unfolding restOf
+  header-rest f l =
+      let n : stateAt + behindState - i ≡ k + (stateAt + behindState - (i + k)) = omega arith in
+      let p : at + i + 1 + k ≡ at + (i + k) + 1 = omega arith in
+      let q : from + i + 1 + k ≡ from + (i + k) + 1 = omega arith in
+      rw (le-ltb i stateAt f, le-ltb (i + k) stateAt (omega arith))
+      (ap (runOf c (at + i + 1) (from + i + 1)) n
+      ∙ run-split c (at + i + 1) (from + i + 1) k (stateAt + behindState - (i + k)) (omega arith)
+      ∙ ap₂ (λ (x y : ℕ). runOf c (at + i + 1) (from + i + 1) k ++ runOf c x y (stateAt + behindState - (i + k))) p q)

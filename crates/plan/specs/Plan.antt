@@ -1,17 +1,16 @@
 -- A plan's operations, and the stores that they are.
-use Prim.Native.Nat.{ℕ, zero, suc, _+_, _*_, _-_, _≤_, _<_}
+use Prim.Native.Nat.{ℕ, _+_, _*_, _-_, _≤_, _<_}
 use mathlib.Core.Path.{_≡_}
 use mathlib.Core.Bool.{Bool, true, false, cond}
 use mathlib.Core.List.{List, [], _∷_, _++_}
 use lib.ListN.{length, getD}
 use lib.Bits.{bitAnd}
-use lib.Dec.{leb, ltb}
+use lib.Dec.{eqb, ltb}
 use Rattle.model.specs.Lists.{part}
 use Rattle.model.specs.Image.{block}
 use Rattle.model.specs.Layout.{stateAt}
 use Rattle.model.specs.Entry.{headerSize}
-use Rattle.model.specs.Stores.{Store, byte, erase, apply, applyAll, run, mark, erases, difference}
-use Rattle.model.specs.Answers.{Outcome, done, stopped}
+use Rattle.model.specs.Stores.{Store, byte, applyAll, run, mark, erases, difference, fails, reach}
 use Rattle.plan.specs.declared.Step.{Step}
 use Rattle.plan.specs.declared.Step.the-variants.{Nothing, Mark, Erase, Program, Header}
 use Rattle.plan.specs.declared.Op.{Op}
@@ -54,17 +53,21 @@ sizeOf (Erase first count) = count
 sizeOf (Program at from len) = len
 sizeOf (Header at from) = stateAt + behindState
 
--- the place in a header of its bytes without state
-abbrev pub aroundState : ℕ → ℕ
-aroundState i = cond (ltb i stateAt) i (i + 1)
+-- bytes of the content stored
+abbrev pub runOf : List ℕ → ℕ → ℕ → ℕ → List Store
+runOf content at from len = run at (part from len content)
 
--- the store at a place of an operation's list
-abbrev pub storeAt : List ℕ → Step → ℕ → Store
-storeAt content Nothing i = byte 0 0
-storeAt content (Mark at v) i = byte at v
-storeAt content (Erase first count) i = erase (first + i)
-storeAt content (Program at from len) i = byte (at + i) (getD content (from + i) 0)
-storeAt content (Header at from) i = byte (at + aroundState i) (getD content (from + aroundState i) 0)
+-- the stores of an operation from a place of its list on
+unfoldable pub restOf : List ℕ → Step → ℕ → List Store
+restOf content Nothing i = []
+restOf content (Mark at v) i = cond (eqb i 0) (mark at v) []
+restOf content (Erase first count) i = erases (first + i) (count - i)
+restOf content (Program at from len) i = runOf content (at + i) (from + i) (len - i)
+restOf content (Header at from) i =
+    cond
+    (ltb i stateAt)
+    (runOf content (at + i) (from + i) (stateAt - i) ++ runOf content (at + stateAt + 1) (from + stateAt + 1) behindState)
+    (runOf content (at + i + 1) (from + i + 1) (stateAt + behindState - i))
 
 -- an operation lies within a content and an image of these lengths
 abbrev pub Fits : ℕ → ℕ → Step → Type 0
@@ -96,10 +99,6 @@ pub record Ready (content : List ℕ) (ops : List Op) (img : List ℕ) : Type 0 
   pub fit : AllFit (length content) (length img) ops
   pub bits : AllOneBit content ops img
 
--- the answer of a call that is given n stores: "stopped exactly if its list of stores is longer than n"
-unfoldable pub ended : ℕ → List Store → Outcome
-ended n ss = cond (leb (length ss) n) (done (length ss)) stopped
-
 -- a plan's marks are at places of a kind
 abbrev pub MarkAt : (ℕ → Bool) → Step → Type 0
 MarkAt marks Nothing = Unit {0}
@@ -112,11 +111,29 @@ abbrev pub AllMarks : (ℕ → Bool) → List Op → Type 0
 AllMarks marks [] = Unit {0}
 AllMarks marks (o ∷ os) = MarkAt marks (o .step) × AllMarks marks os
 
--- so many stores of an operation, from a place of its list on
-unfoldable pub many : List ℕ → Step → ℕ → ℕ → List ℕ → List ℕ
-many content s i zero img = img
-many content s i (suc r) img = apply (storeAt content s (i + r)) (many content s i r img)
+-- the first store of a list fails
+abbrev pub FirstFails : List ℕ → List Store → List ℕ → Type 0
+FirstFails dead [] img = ⊥
+FirstFails dead (s ∷ ss) img = fails dead s img ≡ true
 
--- r stores of an operation are made from a place of its list on, one at least and no more than are left
-abbrev pub Advances : List ℕ → Step → ℕ → ℕ → List ℕ → List ℕ → ℕ → Type 0
-Advances content s i left before after r = (1 ≤ r) × (i + r ≤ sizeOf s) × (r ≤ left) × (after ≡ many content s i r before)
+-- of a list of stores the first k are made, no more than are left; with none made, the first one fails
+pub record Made (dead : List ℕ) (ss : List Store) (left : ℕ) (before after : List ℕ) (k : ℕ) (rest : List Store) : Type 0 where
+  pub stores : List Store
+  pub whole : ss ≡ stores ++ rest
+  pub many : length stores ≡ k
+  pub few : k ≤ left
+  pub image : after ≡ applyAll stores before
+  pub spared : reach dead stores before ≡ k
+  pub worn : k ≡ 0 → FirstFails dead ss before
+
+-- the first k bytes of some of the content are stored; with none stored, the first one fails
+pub record Programmed (dead content : List ℕ) (at from left : ℕ) (before after : List ℕ) (k : ℕ) : Type 0 where
+  pub few : k ≤ left
+  pub image : after ≡ applyAll (runOf content at from k) before
+  pub spared : reach dead (runOf content at from k) before ≡ k
+  pub worn : k ≡ 0 → fails dead (byte at (getD content from 0)) before ≡ true
+
+-- k stores of an operation are made from a place of its list on
+abbrev pub Turned : List ℕ → List ℕ → Step → ℕ → ℕ → List ℕ → List ℕ → ℕ → Type 0
+Turned dead content s i left before after k =
+    (i + k ≤ sizeOf s) × Made dead (restOf content s i) left before after k (restOf content s (i + k))

@@ -1,35 +1,35 @@
--- `flash::make_stores` meets its contract. The loop's invariant: the image is as after the first `made` stores of the call's list, n only ending them.
+-- `flash::make_stores` meets its contract. The loop's invariant: the image is as after the first `made` stores of the call's list, of which none failed, n only
+-- ending them (`Underway`).
 -- Assumes nothing.
 use Prim.Native.Nat.{ℕ, _+_, _-_, _≤_}
 use native.Mathlib.Omega.{arith}
 use mathlib.Core.Path.{_≡_, refl, sym, ap, _∙_, subst}
 use mathlib.Core.List.{List}
-use lib.ListN.{length, take, getD}
+use lib.ListN.{length}
 use denote.Ref.{now}
 use borrow.Author.Needs.{needs}
-use Rattle.model.specs.Stores.{after}
-use Rattle.plan.specs.declared.Step.the-variants.{Nothing}
-use Rattle.plan.specs.Plan.{expand, op, Fits, OneBit}
-use Rattle.plan.proofs.Stores.{after-none}
-use Rattle.plan.proofs.Carried.{expand-front, expand-grows, expand-whole, fits, next-length, many-more, bit-there, ends-stopped, ends-done}
+use Rattle.plan.specs.Plan.{sizeOf, Fits, OneBit}
+use Rattle.plan.proofs.Stores.{stepAt, fits-at}
+use Rattle.plan.proofs.Carried.{Underway, unchanged, underway-begins, underway-turns, underway-next, underway-done, underway-stopped, underway-worn}
 use Rattle.flash.proofs.make_stores.Statement.{statement}
 use Rattle.flash.proofs.make_stores.Tie as tie
 
 abbrev Inv-loop : tie.InvT-loop
-Inv-loop image₀ content plan n made₀ op₀ i₀ image made op i =
+Inv-loop image₀ content n dead plan made₀ op₀ i₀ image made op i =
     (op ≤ 12)
     × (made ≤ n)
     × (length image ≡ length image₀)
-    × (made ≡ length (expand content (take op plan)) + i)
-    × (made ≤ length (expand content (take (op + 1) plan)))
-    × (image ≡ after made (expand content plan) image₀)
+    × (i ≤ sizeOf (stepAt plan op))
+    × Underway dead content plan image₀ op i image made
 
 abbrev μ-loop : tie.MeasureT-loop
-μ-loop image₀ content plan n made₀ op₀ i₀ image made op i = (n - made) + (12 - op)
+μ-loop image₀ content n dead plan made₀ op₀ i₀ image made op i = (n - made) + (12 - op)
 
 loop-holds : tie.Need-loop-holds Inv-loop μ-loop
-unfolding expand
-loop-holds c = (omega arith, omega arith, refl, refl, omega arith, sym (after-none _ _))
+loop-holds c =
+    let s = c .before .before .before in
+    let a = s .args in
+    (omega arith, omega arith, refl, omega arith, underway-begins (now (a .dead)) (now (a .content)) (a .t2) (now (a .image)) (s .pre))
 
 mul-o : tie.Need-mul-o Inv-loop μ-loop
 mul-o c = search needs
@@ -46,17 +46,12 @@ same-length c = c .before .before .before .before .before .loop .inv .2
 returns : tie.Need-returns Inv-loop μ-loop
 returns c =
     let l = c .before .before .before .before .before .loop in
-    let s = c .before .before .before .before .before .before .before .before in
-    let content = now (s .args .content) in
-    let plan = s .args .t2 in
-    let img = now (s .args .image) in
-    let long : length plan ≡ 12 = s .good .1 .0 .1 .0 .1 in
-    let t = c .before .before .before .before .loop-test .taken in
-    let n = next-length content plan img (s .pre) (l .op) (omega arith) in
-    let m = expand-front content plan (l .op + 1) in
+    let s = c .before .before .before .before .before .before .before .before .before in
+    let a = s .args in
+    let t = c .before .if1 .taken in
     let z = c .before .before .size .ensures in
-    let e : l .made ≡ s .args .context .limit = c .if2 .taken in
-    (ends-stopped (s .args .context .limit) (expand content plan) (omega arith), l .inv .5 ∙ ap (λ (k : ℕ). after k (expand content plan) img) e)
+    underway-stopped (now (a .dead)) (now (a .content)) (a .t2) (now (a .image)) (l .op) (l .i) (l .image) (l .made) (a .n) (l .inv .4)
+    (fits-at (length (now (a .content))) (length (now (a .image))) (a .t2) (l .op) (s .pre .fit)) (omega arith) (c .if2 .taken)
 
 sub-stores : tie.Need-sub-stores Inv-loop μ-loop
 sub-stores c = search needs
@@ -64,54 +59,51 @@ sub-stores c = search needs
 stores-requires : tie.Need-stores-requires Inv-loop μ-loop
 stores-requires c κs =
     let l = c .before .before .before .before .before .before .loop in
-    let s = c .before .before .before .before .before .before .before .before .before in
-    let content = now (s .args .content) in
-    let plan = s .args .t2 in
-    let img = now (s .args .image) in
-    let long : length plan ≡ 12 = s .good .1 .0 .1 .0 .1 in
-    let t = c .before .before .before .before .before .loop-test .taken in
+    let s = c .before .before .before .before .before .before .before .before .before .before in
+    let a = s .args in
     let z = c .before .before .before .size .ensures in
-    let f = fits content plan img (s .pre) (l .op) (omega arith) in
-    let b = bit-there content plan img (s .pre) (l .op) (omega arith) (l .i) (l .made) (omega arith) (l .inv .3) in (
+    let f = fits-at (length (now (a .content))) (length (now (a .image))) (a .t2) (l .op) (s .pre .fit) in (
       omega arith,
       omega arith,
-      subst (λ (k : ℕ). Fits (length content) k (getD plan (l .op) (op Nothing) .step)) (sym (l .inv .2)) f,
-      subst (λ (x : List ℕ). OneBit (getD plan (l .op) (op Nothing) .step) x) (sym (l .inv .5)) b,
+      subst (λ (k : ℕ). Fits (length (now (a .content))) k (stepAt (a .t2) (l .op))) (sym (l .inv .2)) f,
+      l .inv .4 .bit,
     )
 
+same-length-2 : tie.Need-same-length-2 Inv-loop μ-loop
+same-length-2 c = search needs
+
+returns-2 : tie.Need-returns-2 Inv-loop μ-loop
+returns-2 c =
+    let l = c .before .before .before .before .before .before .before .before .before .before .loop in
+    let s = c .before .before .before .before .before .before .before .before .before .before .before .before .before .before in
+    let a = s .args in
+    let f = c .before .before .before .stores in
+    let m = f .ensures .1 in
+    let t = c .before .before .before .before .before .if2 .left in
+    let none = underway-worn (now (a .dead)) (now (a .content)) (a .t2) (now (a .image)) (l .op) (l .i) (l .image) (l .made) (a .n) (l .inv .4) (m .worn (c .if3 .taken)) (omega arith) in
+    (none .0, unchanged m (c .if3 .taken) ∙ none .1)
+
 add-made : tie.Need-add-made Inv-loop μ-loop
-add-made c =
-    let f = c .before .before .stores in
-    omega (arith, f .ensures .2)
+add-made c = omega (arith, c .before .before .before .stores .ensures .1 .few)
 
 add-i : tie.Need-add-i Inv-loop μ-loop
-add-i c =
-    let f = c .before .before .stores in
-    omega (arith, f .ensures .1)
+add-i c = omega (arith, c .before .before .before .stores .ensures .0)
 
 loop-less : tie.Need-loop-less Inv-loop μ-loop
-loop-less c =
-    let f = c .before .before .stores in
-    omega (arith, f .ensures .0, f .ensures .2)
+loop-less c = omega (arith, c .before .before .before .stores .ensures .1 .few, c .if3 .left)
 
 loop-again : tie.Need-loop-again Inv-loop μ-loop
 loop-again c =
-    let l = c .before .before .before .before .before .before .before .before .before .loop in
-    let s = c .before .before .before .before .before .before .before .before .before .before .before .before in
-    let content = now (s .args .content) in
-    let plan = s .args .t2 in
-    let img = now (s .args .image) in
-    let long : length plan ≡ 12 = s .good .1 .0 .1 .0 .1 in
-    let t = c .before .before .before .before .before .before .before .before .loop-test .taken in
-    let z = c .before .before .before .before .before .before .size .ensures in
-    let f = c .before .before .stores in
-    let n = next-length content plan img (s .pre) (l .op) (omega arith) in (
-      omega arith,
-      omega (arith, f .ensures .2),
+    let l = c .before .before .before .before .before .before .before .before .before .before .loop in
+    let s = c .before .before .before .before .before .before .before .before .before .before .before .before .before .before in
+    let a = s .args in
+    let f = c .before .before .before .stores in
+    let some = c .if3 .left in (
+      l .inv .0,
+      omega (arith, f .ensures .1 .few),
       f .kept .0 ∙ l .inv .2,
-      omega arith,
-      omega (arith, f .ensures .1),
-      f .ensures .3 ∙ rw (l .inv .5) (many-more content plan img (s .pre) (l .op) (omega arith) (l .i) (l .made) (l .inv .3) (f .result) (omega (arith, f .ensures .1))),
+      f .ensures .0,
+      underway-turns (now (a .dead)) (now (a .content)) (a .t2) (now (a .image)) (l .op) (l .i) (l .image) (l .made) (a .n - l .made) (f .last .0) (f .result) (l .inv .4) (f .ensures) (omega (arith, some)),
     )
 
 add-op : tie.Need-add-op Inv-loop μ-loop
@@ -123,33 +115,22 @@ loop-less-2 c = search needs
 loop-again-2 : tie.Need-loop-again-2 Inv-loop μ-loop
 loop-again-2 c =
     let l = c .before .before .before .before .loop in
-    let s = c .before .before .before .before .before .before .before in
-    let content = now (s .args .content) in
-    let plan = s .args .t2 in
-    let img = now (s .args .image) in
-    let long : length plan ≡ 12 = s .good .1 .0 .1 .0 .1 in
-    let t = c .before .before .before .loop-test .taken in
+    let s = c .before .before .before .before .before .before .before .before in
+    let a = s .args in
     let z = c .before .size .ensures in
-    let n = next-length content plan img (s .pre) (l .op) (omega arith) in
-    let g = expand-grows content plan (l .op + 1) in
-    (omega arith, omega arith, l .inv .2, omega arith, omega arith, l .inv .5)
+    let t = c .if1 .left in
+    (omega arith, l .inv .1, l .inv .2, omega arith, underway-next (now (a .dead)) (now (a .content)) (a .t2) (now (a .image)) (l .op) (l .i) (l .image) (l .made) (l .inv .4) (omega arith))
 
-same-length-2 : tie.Need-same-length-2 Inv-loop μ-loop
-same-length-2 c = c .before .loop .inv .2
+same-length-3 : tie.Need-same-length-3 Inv-loop μ-loop
+same-length-3 c = c .before .loop .inv .2
 
-returns-2 : tie.Need-returns-2 Inv-loop μ-loop
-returns-2 c =
+returns-3 : tie.Need-returns-3 Inv-loop μ-loop
+returns-3 c =
     let l = c .before .loop in
-    let s = c .before .before .before .before in
-    let content = now (s .args .content) in
-    let plan = s .args .t2 in
-    let img = now (s .args .image) in
-    let long : length plan ≡ 12 = s .good .1 .0 .1 .0 .1 in
-    let t = c .loop-test .left in
-    let a = expand-whole content plan (l .op) (omega arith) in
-    let b = expand-whole content plan (l .op + 1) (omega arith) in
-    let e = ends-done (s .args .context .limit) (l .made) (expand content plan) img (omega arith) (l .inv .1) in
-    (e .0, l .inv .5 ∙ e .1)
+    let s = c .before .before .before .before .before in
+    let a = s .args in
+    let long : length (a .t2) ≡ 12 = s .good .1 .0 .1 .0 .1 in
+    underway-done (now (a .dead)) (now (a .content)) (a .t2) (now (a .image)) (l .op) (l .i) (l .image) (l .made) (a .n) (l .inv .4) (omega arith) (l .inv .1)
 
 pub make-stores-spec : {M : Type 1} → statement M
 make-stores-spec =
@@ -165,6 +146,8 @@ make-stores-spec =
     returns
     sub-stores
     stores-requires
+    same-length-2
+    returns-2
     add-made
     add-i
     loop-less
@@ -172,5 +155,5 @@ make-stores-spec =
     add-op
     loop-less-2
     loop-again-2
-    same-length-2
-    returns-2)
+    same-length-3
+    returns-3)

@@ -1,26 +1,40 @@
--- `flash::program` meets its contract: of a run all that are left, else as many as n allows. Assumes nothing.
+-- `flash::program` meets its contract: no more than are left, and of those the ones before the first that fails. Assumes nothing.
 use native.Mathlib.Omega.{arith}
+use denote.Ref.{now}
+use Rattle.flash.proofs.Dead.{programmed, reach-within}
 use borrow.Author.Needs.{needs}
 use Rattle.flash.proofs.program.Statement.{statement}
 use Rattle.flash.proofs.program.Tie as tie
 
-sub-least : tie.Need-sub-least
-sub-least c = search needs
-
 least-requires : tie.Need-least-requires
 least-requires c κs = search needs
 
+spared-requires : tie.Need-spared-requires
+spared-requires c κs = search needs
+
 put-run-requires : tie.Need-put-run-requires
-put-run-requires c κs = search needs
+put-run-requires c κs =
+    let s = c .before .before .before .before .before .before .before in
+    let a = s .args in
+    let e = c .before .before .before .least .ensures in
+    let k =
+    reach-within (now (a .dead)) (now (a .content)) (a .at) (a .from) (c .before .before .before .least .result) (now (a .image)) (c .before .spared .result) (omega (arith, s .pre .2, e .0))
+    (c .before .spared .ensures) in
+    (omega (arith, s .pre .2, e .0, k), omega (arith, s .pre .3, e .0, k))
 
 same-length : tie.Need-same-length
 same-length c = search needs
 
 returns : tie.Need-returns
 returns c =
-    let s = c .before .before .before .before .before .before .before in
-    let e = c .before .before .before .before .least .ensures in
-    (e .2 (omega (arith, s .pre .0)) (s .pre .1), omega (arith, s .pre .0, e .0), e .1, c .before .before .put-run .ensures)
+    let s = c .before .before .before .before .before .before .before .before .before .before in
+    let a = s .args in
+    let e = c .before .before .before .before .before .before .least .ensures in
+    let n = c .before .before .before .before .before .before .least .result in
+    let p =
+    programmed (now (a .dead)) (now (a .content)) (a .at) (a .from) n (a .left) (c .before .before .before .before .spared .result) (now (a .image)) _
+    (omega (arith, s .pre .2, e .0)) (e .2 (s .pre .0) (s .pre .1)) (e .1) (c .before .before .before .before .spared .ensures) (c .before .before .put-run .ensures) in
+    (omega (arith, p .0, e .0), p .1)
 
 pub program-spec : {M : Type 1} → statement M
-program-spec = tie.close (tie.spec sub-least least-requires put-run-requires same-length returns)
+program-spec = tie.close (tie.spec least-requires spared-requires put-run-requires same-length returns)

@@ -1,31 +1,26 @@
--- `flash::put_run` meets its contract: after j turns j bytes more are stored. Assumes nothing.
+-- `flash::put_run` meets its contract: after j turns j bytes are stored. Assumes nothing.
 use Prim.Native.Nat.{ℕ, _+_, _-_, _≤_}
 use native.Mathlib.Omega.{arith}
-use mathlib.Core.Path.{_≡_, refl, ap, _∙_}
-use lib.ListN.{length, getD, length-set}
+use mathlib.Core.Path.{_≡_, refl, sym, ap, _∙_}
+use mathlib.Core.List.{List}
+use lib.ListN.{length, getD, set, length-set}
 use denote.Ref.{now}
-use Rattle.model.specs.Stores.{apply}
-use Rattle.plan.specs.declared.Step.the-variants.{Program}
-use Rattle.plan.specs.Plan.{storeAt, many}
-use Rattle.plan.proofs.Carried.{many-none, many-next}
+use Rattle.model.specs.Stores.{applyAll}
+use Rattle.plan.specs.Plan.{runOf}
+use Rattle.flash.proofs.Dead.{run-none, run-more}
 use borrow.Author.Needs.{needs}
 use Rattle.flash.proofs.put_run.Statement.{statement}
 use Rattle.flash.proofs.put_run.Tie as tie
 
 abbrev Inv-loop : tie.InvT-loop
-Inv-loop image₀ at from len i r content j₀ image j =
-    (j ≤ r) × (length image ≡ length image₀) × (image ≡ many content (Program at from len) i j image₀)
+Inv-loop image₀ at from r content j₀ image j =
+    (j ≤ r) × (length image ≡ length image₀) × (image ≡ applyAll (runOf content at from j) image₀)
 
 abbrev μ-loop : tie.MeasureT-loop
-μ-loop image₀ at from len i r content j₀ image j =
-    r - j
+μ-loop image₀ at from r content j₀ image j = r - j
 
 loop-holds : tie.Need-loop-holds Inv-loop μ-loop
-loop-holds c =
-    (omega arith, refl, many-none _ _ _ _)
-
-add-k : tie.Need-add-k Inv-loop μ-loop
-add-k c = search needs
+loop-holds c = (omega arith, refl, run-none (now (c .args .content)) (c .args .at) (c .args .from) (now (c .args .image)))
 
 add-image : tie.Need-add-image Inv-loop μ-loop
 add-image c = search needs
@@ -46,14 +41,14 @@ loop-less : tie.Need-loop-less Inv-loop μ-loop
 loop-less c = search needs
 
 loop-again : tie.Need-loop-again Inv-loop μ-loop
-unfolding apply
 loop-again c =
     let l = c .before .before .loop in
-    let a = c .before .before .before .args in
-    let s = Program (a .at) (a .from) (a .len) in (
+    let s = c .before .before .before in
+    let a = s .args in
+    let v = getD (now (a .content)) (a .from + l .j) 0 in (
       omega arith,
-      length-set (l .image) (a .at + (a .i + l .j)) (getD (now (a .content)) (a .from + (a .i + l .j)) 0) ∙ l .inv .1,
-      ap (apply (storeAt (now (a .content)) s (a .i + l .j))) (l .inv .2) ∙ many-next (now (a .content)) s (a .i) (l .j) (now (a .image)),
+      length-set (l .image) (a .at + l .j) v ∙ l .inv .1,
+      ap (λ (x : List ℕ). set x (a .at + l .j) v) (l .inv .2) ∙ run-more (now (a .content)) (a .at) (a .from) (l .j) (now (a .image)) (omega (arith, s .pre .0)),
     )
 
 same-length : tie.Need-same-length Inv-loop μ-loop
@@ -64,7 +59,7 @@ returns c =
     let l = c .before .loop in
     let a = c .before .before .args in
     let all : l .j ≡ a .r = omega arith in
-    l .inv .2 ∙ ap (λ (k : ℕ). many (now (a .content)) (Program (a .at) (a .from) (a .len)) (a .i) k (now (a .image))) all
+    l .inv .2 ∙ ap (λ (k : ℕ). applyAll (runOf (now (a .content)) (a .at) (a .from) k) (now (a .image))) all
 
 pub put-run-spec : {M : Type 1} → statement M
 put-run-spec =
@@ -73,7 +68,6 @@ put-run-spec =
     Inv-loop
     μ-loop
     loop-holds
-    add-k
     add-image
     shared-slice-read-image
     add-image-2
