@@ -141,8 +141,9 @@ pub extern "C" fn vs_get(
     buffer: &mut [u8],
 ) -> Reply
     ensures { λ r. ⌜ (r .answer
-        ≡ numbersOf (outcome (context .limit)
-        (getPlan session (keyed (now (name .entry)) (now (vendor .entry))) (now (buffer .entry)) (now (image .entry)))))
+        ≡ numbersOf (outcome context
+        (getPlan session (keyed (now (name .entry)) (now (vendor .entry))) (now (buffer .entry)) (now (image .entry)))
+        (now (image .entry))))
         × Gives
         (getReply session (keyed (now (name .entry)) (now (vendor .entry))) (now (buffer .entry)) (now (image .entry)))
         (r .size) (r .attributes) (r .needed) (now (buffer .exit)) ⌝ }
@@ -167,8 +168,9 @@ pub extern "C" fn vs_next_name(
     buffer: &mut [u8],
 ) -> Reply
     ensures { λ r. ⌜ (r .answer
-        ≡ numbersOf (outcome (context .limit)
-        (nextPlan session (keyed (now (name .entry)) (now (vendor .entry))) (now (buffer .entry)) (now (image .entry)))))
+        ≡ numbersOf (outcome context
+        (nextPlan session (keyed (now (name .entry)) (now (vendor .entry))) (now (buffer .entry)) (now (image .entry)))
+        (now (image .entry))))
         × Gives
         (nextReply session (keyed (now (name .entry)) (now (vendor .entry))) (now (buffer .entry)) (now (image .entry)))
         (r .size) (r .attributes) (r .needed) (now (buffer .exit)) ⌝ }
@@ -197,10 +199,11 @@ pub extern "C" fn vs_set(
     content: &mut [u8; layout::CONTENT],
 ) -> Answered
     ensures { λ r. ⌜ (r
-        ≡ numbersOf (outcome (context .limit)
-        (setPlan session (requestOf (now (name .entry)) (now (vendor .entry)) attributes (now (bytes .entry)) presence verdict) (now (image .entry)))))
+        ≡ numbersOf (outcome context
+        (setPlan session (requestOf (now (name .entry)) (now (vendor .entry)) attributes (now (bytes .entry)) presence verdict) (now (image .entry)))
+        (now (image .entry))))
         × (now (image .exit)
-        ≡ imageAfter (context .limit)
+        ≡ imageAfter context
         (setPlan session (requestOf (now (name .entry)) (now (vendor .entry)) attributes (now (bytes .entry)) presence verdict) (now (image .entry)))
         (now (image .entry)))
         × Kept
@@ -229,8 +232,8 @@ pub extern "C" fn vs_format(
     image: &mut [u8],
     content: &mut [u8; layout::CONTENT],
 ) -> Answered
-    ensures { λ r. ⌜ (r ≡ numbersOf (outcome (context .limit) (formatPlan (now (image .entry)))))
-        × (now (image .exit) ≡ imageAfter (context .limit) (formatPlan (now (image .entry))) (now (image .entry)))
+    ensures { λ r. ⌜ (r ≡ numbersOf (outcome context (formatPlan (now (image .entry))) (now (image .entry))))
+        × (now (image .exit) ≡ imageAfter context (formatPlan (now (image .entry))) (now (image .entry)))
         × Kept (formatPlan (now (image .entry))) (now (content .entry)) (now (content .exit)) ⌝ }
 {
     let answer = engine::write::format(context, image, content);
@@ -244,9 +247,9 @@ pub extern "C" fn vs_start_up(
     setup: Setup,
     content: &mut [u8; layout::CONTENT],
 ) -> Started
-    ensures { λ r. ⌜ (r .answer ≡ numbersOf (outcome (context .limit) (startUpPlan (now (image .entry)))))
+    ensures { λ r. ⌜ (r .answer ≡ numbersOf (outcome context (startUpPlan (now (image .entry))) (now (image .entry))))
         × (r .session ≡ freshSession setup)
-        × (now (image .exit) ≡ imageAfter (context .limit) (startUpPlan (now (image .entry))) (now (image .entry)))
+        × (now (image .exit) ≡ imageAfter context (startUpPlan (now (image .entry))) (now (image .entry)))
         × Kept (startUpPlan (now (image .entry))) (now (content .entry)) (now (content .exit)) ⌝ }
 {
     let started = engine::start::start_up(context, image, setup, content);

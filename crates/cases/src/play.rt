@@ -32,12 +32,15 @@ use model::Setup;
 
 fn context(step: &[u8]) -> Context {
     let n = fields::long(step, 1);
+    let mut limit = n as u64;
     if n == 0xFFFFFFFF {
-        return Context {
-            limit: 0xFFFFFFFFFFFFFFFF,
-        };
+        limit = 0xFFFFFFFFFFFFFFFF;
     }
-    Context { limit: n as u64 }
+    Context {
+        limit,
+        count: 0,
+        dead: [0; 16],
+    }
 }
 
 // An answer alone on its line.

@@ -9,7 +9,7 @@ use mathlib.Core.Bool.{Bool, true, false}
 use mathlib.Core.List.{List, [], _∷_}
 use mathlib.Core.Option.{Option, none, some}
 use lib.ListN.{length, drop, length-take}
-use lib.Dec.{eqb, ltb, leb·zero}
+use lib.Dec.{eqb, ltb}
 use Rattle.model.specs.Layout.{authenticated}
 use Rattle.model.specs.Lists.{onSome, overlay}
 use Rattle.model.specs.Image.{region}
@@ -25,6 +25,9 @@ use Rattle.model.specs.Book as book
 use Rattle.recovery.specs.Interface.{Returned}
 use Rattle.model.specs.Set.{refuse, make}
 use Rattle.model.specs.declared.Session.{Session}
+use Rattle.model.specs.declared.Context.{Context}
+use Rattle.model.specs.Stores.{reach}
+use Rattle.model.proofs.Failing.{ended-done}
 use Rattle.model.specs.declared.Rule.{Rule}
 use Rattle.model.specs.declared.Rule.the-variants.{Absent, Buffer}
 use Rattle.model.specs.declared.Answer.the-variants.{Done}
@@ -40,11 +43,12 @@ use Rattle.query.proofs.Held.{valueIn, session-get}
 use Rattle.engine.specs.Read.{foundBroken, readBroken, replyOf, foundReply, shortOf, replyTo, refusedGot, Answered, nextAt, nextBrokenAt, nextReplyAt}
 use Rattle.engine.proofs.Opened.{Opens, Refuses}
 
--- no stores: done with 0, whatever n is
-pub no-stores : (n : ℕ) (broken : Option Rule) → outcome n (onSome broken refuse (make [] [])) ≡ onSome broken (λ rule. refused (ruleNumber rule)) (done 0)
-unfolding outcome
-no-stores n none = rw (leb·zero n)
-no-stores n (some rule) = refl
+-- no stores: done with 0, whatever the context is
+pub no-stores : (x : Context) (broken : Option Rule) (img : List ℕ)
+    → outcome x (onSome broken refuse (make [] [])) img ≡ onSome broken (λ rule. refused (ruleNumber rule)) (done 0)
+unfolding outcome reach
+no-stores x none img = ended-done (x .limit) 0 0 (omega arith) (omega arith)
+no-stores x (some rule) img = refl
 
 -- a rule before 14 is broken
 pub answered-refused : (rule : Rule) → eqb (ruleNumber rule) 14 ≡ false → (broken : Option Rule) → broken ≡ some rule
@@ -150,13 +154,13 @@ region-name phase k img r runtime p q = ap₂ (λ (t : Bool) (x : List ℕ). nam
 
 -- ---- whole calls
 
-pub get-answered : (n : ℕ) (s : Session) (k : Key) (buffer img : List ℕ) {got : Got} {after : List ℕ}
+pub get-answered : (x : Context) (s : Session) (k : Key) (buffer img : List ℕ) {got : Got} {after : List ℕ}
     → Read img (valueToGet s k (valuesOf img)) gotBytes (λ v. v .attributes) buffer (wellNamed (k .name)) got after
-    → Returned (book.get s k buffer) n img img (got .answer)
+    → Returned (book.get s k buffer) x img img (got .answer)
     × Gives (getReply s k buffer img) (got .size) (got .attributes) (got .needed) after
 unfolding getPlan getReply getBroken rule3 readBroken replyOf
-get-answered n s k buffer img h =
-    ((h .answer ∙ sym (no-stores n (getBroken s k buffer img)), refl), (h .size, h .attributes, h .needed, h .buffer))
+get-answered x s k buffer img h =
+    ((h .answer ∙ sym (no-stores x (getBroken s k buffer img) img), refl), (h .size, h .attributes, h .needed, h .buffer))
 
 -- a name has no attributes
 no-attributes : (s : Session) (k : Key) (buffer img : List ℕ) → nextReply s k buffer img .attributes ≡ 0
@@ -169,10 +173,10 @@ no-attributes s k buffer img = go (nextBroken s k buffer img) (valueToName s k (
     go none (some w) = refl
     go none none = refl
 
-pub next-answered : (n : ℕ) (s : Session) (k : Key) (buffer img : List ℕ) {got : Got} {after : List ℕ}
+pub next-answered : (x : Context) (s : Session) (k : Key) (buffer img : List ℕ) {got : Got} {after : List ℕ}
     → Answered (nextBrokenAt (s .phase) k buffer img) (nextReplyAt (s .phase) k buffer img) got after
-    → Returned (book.next s k buffer) n img img (got .answer)
+    → Returned (book.next s k buffer) x img img (got .answer)
     × Gives (nextReply s k buffer img) (got .size) 0 (got .needed) after
 unfolding nextPlan nextReply nextBroken rule3Next readBroken replyOf nameAt seenAt valueToName seen atRuntime
-next-answered n s k buffer img h =
-    ((h .answer ∙ sym (no-stores n (nextBroken s k buffer img)), refl), (h .size, sym (no-attributes s k buffer img), h .needed, h .buffer))
+next-answered x s k buffer img h =
+    ((h .answer ∙ sym (no-stores x (nextBroken s k buffer img) img), refl), (h .size, sym (no-attributes s k buffer img), h .needed, h .buffer))

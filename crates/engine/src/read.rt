@@ -161,7 +161,7 @@ pub fn get(
 ) -> Got
     ensures { λ r. ⌜ Returned
         (book.get s (keyed (now (name .entry)) (now (vendor .entry))) (now (buffer .entry)))
-        (c .limit) (now (image .entry)) (now (image .entry)) (r .answer)
+        c (now (image .entry)) (now (image .entry)) (r .answer)
         × Gives
         (getReply s (keyed (now (name .entry)) (now (vendor .entry))) (now (buffer .entry)) (now (image .entry)))
         (r .size) (r .attributes) (r .needed) (now (buffer .exit)) ⌝ }
@@ -220,7 +220,7 @@ pub fn next_name(
 ) -> Named
     ensures { λ r. ⌜ Returned
         (book.next s (keyed (now (name .entry)) (now (vendor .entry))) (now (buffer .entry)))
-        (c .limit) (now (image .entry)) (now (image .entry)) (r .answer)
+        c (now (image .entry)) (now (image .entry)) (r .answer)
         × Gives
         (nextReply s (keyed (now (name .entry)) (now (vendor .entry))) (now (buffer .entry)) (now (image .entry)))
         (r .size) 0 (r .needed) (now (buffer .exit)) ⌝ }

@@ -31,7 +31,7 @@ pub fn start_up(
     setup: Setup,
     content: &mut [u8; layout::CONTENT],
 ) -> Started
-    ensures { λ r. ⌜ Returned (book.startUp setup) (c .limit) (now (image .entry)) (now (image .exit)) (r .answer)
+    ensures { λ r. ⌜ Returned (book.startUp setup) c (now (image .entry)) (now (image .exit)) (r .answer)
         × (r .session ≡ freshSession setup)
         × Kept (startUpPlan (now (image .entry))) (now (content .entry)) (now (content .exit)) ⌝ }
 {

@@ -136,7 +136,7 @@ pub fn plan_set(
     }
 }
 
-// A set, a delete or an append: planned, then carried out up to n.
+// A set, a delete or an append: planned, then carried out up to n, or to a store that fails.
 pub fn set(
     c: Context,
     s: Session,
@@ -151,7 +151,7 @@ pub fn set(
 ) -> Answer
     ensures { λ r. ⌜ Returned
         (book.set s (requestOf (now (name .entry)) (now (vendor .entry)) attributes (now (bytes .entry)) presence verdict))
-        (c .limit) (now (image .entry)) (now (image .exit)) r
+        c (now (image .entry)) (now (image .exit)) r
         × Kept
         (setPlan s (requestOf (now (name .entry)) (now (vendor .entry)) attributes (now (bytes .entry)) presence verdict) (now (image .entry)))
         (now (content .entry)) (now (content .exit)) ⌝ }
@@ -211,10 +211,10 @@ pub fn plan_format(image: &[u8], content: &mut [u8; layout::CONTENT]) -> Planned
     plan::accept(wipe(b), 12)
 }
 
-// An empty region: planned, then carried out up to n.
+// An empty region: planned, then carried out up to n, or to a store that fails.
 pub fn format(c: Context, image: &mut [u8], content: &mut [u8; layout::CONTENT]) -> Answer
-    ensures { λ r. ⌜ (answerOf r ≡ outcome (c .limit) (formatPlan (now (image .entry))))
-        × (now (image .exit) ≡ imageAfter (c .limit) (formatPlan (now (image .entry))) (now (image .entry)))
+    ensures { λ r. ⌜ (answerOf r ≡ outcome c (formatPlan (now (image .entry))) (now (image .entry)))
+        × (now (image .exit) ≡ imageAfter c (formatPlan (now (image .entry))) (now (image .entry)))
         × Kept (formatPlan (now (image .entry))) (now (content .entry)) (now (content .exit)) ⌝ }
 {
     let planned = plan_format(image, content);

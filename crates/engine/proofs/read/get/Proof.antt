@@ -64,7 +64,7 @@ returns c =
     let found = getAt (c .before .before .before .before .at-runtime .result) k (values (entries r)) in
     let here = read-found img found gotBytes (λ v. v .attributes) (now (a .buffer)) o (c .before .before .get-from .ensures) in
     let value = region-get (a .s) k img r (c .before .before .before .before .at-runtime .result) (c .before .before .before .before .before .cut .ensures ∙ o .ready .cut) (c .before .before .before .before .at-runtime .ensures) in
-    get-answered (a .c .limit) (a .s) k (now (a .buffer)) img (read-as img gotBytes (λ v. v .attributes) (now (a .buffer)) value (c .before .before .before .before .before .before .before .before .before .before .is-named .ensures) here)
+    get-answered (a .c) (a .s) k (now (a .buffer)) img (read-as img gotBytes (λ v. v .attributes) (now (a .buffer)) value (c .before .before .before .before .before .before .before .before .before .before .is-named .ensures) here)
 
 returns-2 : tie.Need-returns-2
 returns-2 c =
@@ -75,7 +75,7 @@ returns-2 c =
     let x = refuses img (t .0 .0) (c .before .before .before .before .before .is-named .result) (sym (c .before .before .before .before .«open» .ensures) ∙ t .1) in
     let value = valueToGet (a .s) k (valuesOf img) in
     rw (c .refused .ensures)
-    (get-answered (a .c .limit) (a .s) k (now (a .buffer)) img
+    (get-answered (a .c) (a .s) k (now (a .buffer)) img
     (read-as img gotBytes (λ v. v .attributes) (now (a .buffer)) refl (c .before .before .before .before .before .is-named .ensures) (read-refused img value gotBytes (λ v. v .attributes) (now (a .buffer)) x)))
 
 pub get-spec : {M : Type 1} → statement M

@@ -20,7 +20,7 @@ same-length c = search needs
 returns : tie.Need-returns
 returns c =
     let a = c .before .before .before .before .before .before .before .before .before .before .before .args in
-    (planned-end (a .c .limit) (now (a .image)) (c .before .before .before .before .before .before .plan-start-up .ensures .same) (c .before .before .carry-out .ensures), c .before .before .before .before .before .before .before .before .before .fresh .ensures, c .before .before .before .before .before .before .plan-start-up .ensures .kept)
+    (planned-end (a .c) (now (a .image)) (c .before .before .before .before .before .before .plan-start-up .ensures .same) (c .before .before .carry-out .ensures), c .before .before .before .before .before .before .before .before .before .fresh .ensures, c .before .before .before .before .before .before .plan-start-up .ensures .kept)
 
 pub start-up-spec : {M : Type 1} → statement M
 start-up-spec =

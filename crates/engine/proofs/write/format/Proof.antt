@@ -17,7 +17,7 @@ same-length c = search needs
 returns : tie.Need-returns
 returns c =
     let a = c .before .before .before .before .before .before .before .before .before .before .args in
-    let e = planned-end (a .c .limit) (now (a .image)) (c .before .before .before .before .before .before .plan-format .ensures .same) (c .before .before .carry-out .ensures) in
+    let e = planned-end (a .c) (now (a .image)) (c .before .before .before .before .before .before .plan-format .ensures .same) (c .before .before .carry-out .ensures) in
     (e .0, e .1, c .before .before .before .before .before .before .plan-format .ensures .kept)
 
 pub format-spec : {M : Type 1} → statement M

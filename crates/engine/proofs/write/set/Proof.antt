@@ -17,7 +17,7 @@ same-length c = search needs
 returns : tie.Need-returns
 returns c =
     let a = c .before .before .before .before .before .before .before .before .before .before .before .before .args in
-    (planned-end (a .c .limit) (now (a .image)) (c .before .before .before .before .before .before .plan-set .ensures .same) (c .before .before .carry-out .ensures), c .before .before .before .before .before .before .plan-set .ensures .kept)
+    (planned-end (a .c) (now (a .image)) (c .before .before .before .before .before .before .plan-set .ensures .same) (c .before .before .carry-out .ensures), c .before .before .before .before .before .before .plan-set .ensures .kept)
 
 pub set-spec : {M : Type 1} → statement M
 set-spec = tie.close (tie.spec plan-set-requires carry-out-requires same-length returns)
