@@ -9,7 +9,8 @@ use Rattle.model.specs.declared.Session.{Session}
 use Rattle.model.specs.Answers.{done}
 use Rattle.model.specs.Book.{Call, set}
 use Rattle.table.proofs.Pieces.{store}
-use Rattle.table.proofs.Row.{Row, Holds, HoldAll, end, _and_, held, computed, refuses, boot, ff, zeros, header, image, guid, rate, four, behindState, startId, setting, platform, pk, described}
+use Rattle.table.proofs.Row.{Row, Holds, HoldAll, end, _and_, computed, refuses, boot, ff, zeros, header, image, guid, rate, four, behindState, startId, setting, platform, pk, described}
+use Rattle.table.proofs.Held.{held}
 
 -- 1 April and 1 October 2024; the second with other bytes than zeros behind what is compared, as another writer may have left it
 abbrev spring : List ℕ

@@ -5,6 +5,8 @@ pub mod Evaluated
 pub mod Pieces
 -- A row of a table of cases, and what the rows are made of
 pub mod Row
+-- How a row is shown to hold
+pub mod Held
 -- Images of runs, by pieces; runs that refute a claim
 pub mod Runs
 -- The cases with a star of "Values to try": one table, one theorem
@@ -17,3 +19,5 @@ pub mod Appends
 pub mod Moves
 -- Calls that make no stores, and formatting
 pub mod Replies
+-- Cases of 02 (h)
+pub mod Worn

@@ -10,7 +10,8 @@ use Rattle.model.specs.Answers.{done, storesOf}
 use Rattle.model.specs.Book.{Call, set, startUp, planOf}
 use Rattle.table.proofs.Pieces.{store, clear, flat}
 use Rattle.table.proofs.Runs.{resumption}
-use Rattle.table.proofs.Row.{Row, Holds, HoldAll, end, _and_, held, computed, told, refuses, plain, ff, zeros, header, headerOf, image, guid, rate, four, behindState, startId, rateHeader, rateEntry, setting, rateStands}
+use Rattle.table.proofs.Row.{Row, Holds, HoldAll, end, _and_, computed, refuses, plain, ff, zeros, header, headerOf, image, guid, rate, four, behindState, startId, rateHeader, rateEntry, setting, rateStands}
+use Rattle.table.proofs.Held.{held, told}
 
 -- ---- a 3E entry alone is the value: 76 stores to replace it, 3E becomes 3C to delete it, an equal set stores nothing
 

@@ -9,9 +9,9 @@ use Rattle.model.specs.Name.{Key}
 use Rattle.model.specs.Session.{movedTo}
 use Rattle.model.specs.StartUp.{formatPlan}
 use Rattle.model.specs.Answers.{done, refused, outcome, storesOf, Reply, getReply, nextReply, lockOutcome, lockSession}
-use Rattle.model.proofs.Failing.{unworn}
 use Rattle.table.proofs.Pieces.{store, clear, flat}
-use Rattle.table.proofs.Row.{computed, plan-told, unlimited, plain, boot, zeros, header, guid, rate, four, rateStands}
+use Rattle.table.proofs.Row.{computed, quiet, plain, boot, zeros, header, guid, rate, four, rateStands}
+use Rattle.table.proofs.Held.{plan-told}
 
 abbrev theRate : Key
 theRate = record { name = rate; vendor = guid }
@@ -119,10 +119,10 @@ formatted : storesOf (formatPlan (replicate 12288 0x00)) ≡ flat (clear 0 ∷ c
 unfolding computed
 formatted = refl
 
-formattedDone : outcome (unworn unlimited) (formatPlan (replicate 12288 0x00)) (replicate 12288 0x00) ≡ done 31
+formattedDone : outcome quiet (formatPlan (replicate 12288 0x00)) (replicate 12288 0x00) ≡ done 31
 unfolding computed
 formattedDone = plan-told (formatPlan (replicate 12288 0x00)) (replicate 12288 0x00)
 
-formattedShort : outcome (unworn unlimited) (formatPlan (replicate 12287 0x00)) (replicate 12287 0x00) ≡ refused 1
+formattedShort : outcome quiet (formatPlan (replicate 12287 0x00)) (replicate 12287 0x00) ≡ refused 1
 unfolding computed
 formattedShort = plan-told (formatPlan (replicate 12287 0x00)) (replicate 12287 0x00)

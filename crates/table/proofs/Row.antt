@@ -1,24 +1,18 @@
--- A row of a table of cases: an image and a call, and what document 01 says of them. It holds by evaluation of the definitions; only the image
--- after a long list of stores is found by a law, laying the list's pieces over the image before.
+-- A row of a table of cases: an image and a call, and what document 01 says of them; and what the rows are made of.
 -- Assumes nothing.
 use Prim.Native.Nat.{ℕ}
-use mathlib.Core.Path.{_≡_, refl, ap, _∙_}
-use mathlib.Core.Bool.{cond}
+use mathlib.Core.Path.{_≡_}
 use mathlib.Core.List.{List, [], _∷_, _++_}
-use lib.ListN.{length, replicate}
-use lib.Dec.{T, leb, leb→le}
+use lib.ListN.{replicate}
 use Rattle.model.specs.declared.Setup.{Setup}
 use Rattle.model.specs.declared.Session.{Session}
+use Rattle.model.specs.declared.Context.{Context}
 use Rattle.model.specs.Image.{region}
 use Rattle.model.specs.Region.{tailAt}
-use Rattle.model.specs.Stores.{after}
-use Rattle.model.specs.Set.{Plan, refuse, make}
-use Rattle.model.specs.Answers.{Outcome, done, stopped, refused, ruleNumber, outcome, imageAfter, storesOf}
+use Rattle.model.specs.Answers.{Outcome, refused, outcome, imageAfter, storesOf}
 use Rattle.model.specs.Book.{Call, set, planOf}
 use Rattle.table.proofs.Evaluated.{evaluated}
-use Rattle.model.proofs.Stores.{after-all}
-use Rattle.model.proofs.Failing.{unworn, outcome-none, image-none}
-use Rattle.table.proofs.Pieces.{Piece, flat, laidAll, allInside, flat-laid}
+use Rattle.table.proofs.Pieces.{Piece, flat, laidAll, allInside}
 
 -- an image, a call; its answer, its stores in their order, the whole image after it, and the offset of that region's tail
 pub record Row : Type 0 where
@@ -33,10 +27,14 @@ pub record Row : Type 0 where
 abbrev pub unlimited : ℕ
 unlimited = 100000
 
+-- no stop, and no dead byte
+abbrev pub quiet : Context
+quiet = record { limit = unlimited; count = 0; dead = [] }
+
 pub record Holds (row : Row) : Type 0 where
-  pub answer : outcome (unworn unlimited) (planOf (row .call) (row .image)) (row .image) ≡ row .answer
+  pub answer : outcome quiet (planOf (row .call) (row .image)) (row .image) ≡ row .answer
   pub stores : storesOf (planOf (row .call) (row .image)) ≡ flat (row .stores)
-  pub left : imageAfter (unworn unlimited) (planOf (row .call) (row .image)) (row .image) ≡ row .left
+  pub left : imageAfter quiet (planOf (row .call) (row .image)) (row .image) ≡ row .left
   pub tail : tailAt (region (row .left)) ≡ row .tail
 
 -- every row of a table holds
@@ -45,41 +43,13 @@ pub data HoldAll : List Row → Type 0 where
   end : HoldAll []
   _and_ : {row : Row} {rows : List Row} → Holds row → HoldAll rows → HoldAll (row ∷ rows)
 
--- a plan's answer where no byte is dead, so that none is looked for
-unfoldable pub told : Plan → Outcome
-told (refuse rule) = refused (ruleNumber rule)
-told (make to on) = cond (leb (length (to ++ on)) unlimited) (done (length (to ++ on))) stopped
-
-pub plan-told : (p : Plan) (img : List ℕ) → outcome (unworn unlimited) p img ≡ told p
-unfolding outcome told
-plan-told (refuse rule) img = refl
-plan-told (make to on) img = outcome-none (unworn unlimited) to on img refl
-
-module _ (row : Row) where
-  pub held : told (planOf (row .call) (row .image)) ≡ row .answer
-      → storesOf (planOf (row .call) (row .image)) ≡ flat (row .stores)
-      → T (leb (length (flat (row .stores))) unlimited)
-      → T (allInside (length (row .image)) (row .stores))
-      → laidAll (row .stores) (row .image) ≡ row .left
-      → tailAt (region (row .left)) ≡ row .tail
-      → Holds row
-  held answer stores few inside left tail =
-      let plan = planOf (row .call) (row .image) in
-      let whole = after-all unlimited (flat (row .stores)) (row .image) (leb→le (length (flat (row .stores))) unlimited few) in
-      record {
-        answer = plan-told plan (row .image) ∙ answer;
-        stores = stores;
-        left = image-none (unworn unlimited) plan (row .image) refl ∙ ap (λ ss. after unlimited ss (row .image)) stores ∙ whole ∙ flat-laid (row .stores) (row .image) inside ∙ left;
-        tail = tail;
-      }
-
 -- a call that breaks a rule, on an image whose tail begins at an offset
 abbrev pub refuses : List ℕ → ℕ → Call → ℕ → Row
 refuses img at call rule = record { image = img; call = call; answer = refused rule; stores = []; left = img; tail = at }
 
 -- all that a row's evaluation opens
 unfoldable pub computed : Unit {0}
-unfolding evaluated flat laidAll allInside told
+unfolding evaluated flat laidAll allInside
 computed = tt
 
 -- ---- what the rows are made of; every byte is written out here, and none is taken from the definitions

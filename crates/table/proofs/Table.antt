@@ -7,7 +7,8 @@ use lib.ListN.{replicate}
 use Rattle.model.specs.Answers.{done}
 use Rattle.model.specs.Book.{Call, set, startUp}
 use Rattle.table.proofs.Pieces.{store, clear}
-use Rattle.table.proofs.Row.{Row, Holds, HoldAll, end, _and_, held, computed, refuses, plain, boot, ff, zeros, header, image, empty, guid, rate, four, behindState, startId, rateHeader, rateEntry, setting, rateStands, platform, pk, described}
+use Rattle.table.proofs.Row.{Row, Holds, HoldAll, end, _and_, computed, refuses, plain, boot, ff, zeros, header, image, empty, guid, rate, four, behindState, startId, rateHeader, rateEntry, setting, rateStands, platform, pk, described}
+use Rattle.table.proofs.Held.{held}
 
 -- ---- "New: 75 stores; entry 28 to 104 with padding."
 
