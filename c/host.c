@@ -1,6 +1,6 @@
 /* A host of the variable store.
  *
- *   host         a small flash part: set, append, delete, and power cuts in a compaction
+ *   host         a small flash part: set, append, delete, power cuts in a compaction, and a byte that dies
  *   host IMAGE   lists the variables of an image file
  *
  * It shows how a firmware's variable driver is built on varstore.h: start up at every power-on, keep the session, ask with an empty buffer first, and carry
@@ -12,35 +12,38 @@
 
 #include "varstore.h"
 
-#if VS_INTERFACE != 2
-#error "this host knows the operations of interface 2"
+#if VS_INTERFACE != 3
+#error "this host knows the operations of interface 3"
 #endif
 
-static const vs_context no_limit = {VS_NO_LIMIT};
+static const vs_context no_limit = {.limit = VS_NO_LIMIT};
 static const vs_setup setup = {0, 0}; /* no custom mode, no reserve */
 
 static const char *rule_text(uint32_t rule)
 {
     static const char *const texts[] = {
-        "no rule",
-        "image length",
-        "image not ready for a call",
-        "name not well formed",
-        "attributes not allowed",
-        "key name with other attributes",
-        "locked",
-        "not allowed over the standing value",
-        "descriptor malformed",
-        "signature verdict missing",
-        "time stamp not later",
-        "not found",
-        "data too long",
-        "no room",
-        "buffer too short",
-        "lock after the boot phase",
-        "lock list full",
+        [0] = "no rule",
+        [VS_LENGTH] = "image length",
+        [VS_UNREADY] = "image not ready for a call",
+        [VS_NAME] = "name not well formed",
+        [VS_ATTRIBUTES] = "attributes not allowed",
+        [VS_KEY_ATTRIBUTES] = "key name with other attributes",
+        [VS_LOCKED] = "locked",
+        [VS_STANDING] = "not allowed over the standing value",
+        [VS_DESCRIPTOR] = "descriptor malformed",
+        [VS_VERDICT] = "signature verdict missing",
+        [VS_STAMP] = "time stamp not later",
+        [VS_ABSENT] = "not found",
+        [VS_DATA_SIZE] = "data too long",
+        [VS_ROOM] = "no room",
+        [VS_BUFFER] = "buffer too short",
+        [VS_LOCK_PHASE] = "lock after the boot phase",
+        [VS_LOCK_SPACE] = "lock list full",
+        [VS_SOURCE] = "source not fit for a move",
+        [VS_TIME_BASED_VALUE] = "a value with time-based authentication",
+        [VS_WORN] = "a byte no longer clears",
     };
-    return rule < sizeof texts / sizeof texts[0] ? texts[rule] : "unknown rule";
+    return rule < sizeof texts / sizeof texts[0] && texts[rule] != NULL ? texts[rule] : "unknown rule";
 }
 
 static int told(const char *what, vs_answer answer)
@@ -129,7 +132,8 @@ static int list_file(const char *path)
 /* ---- a flash part
  *
  * In a driver `program` and `erase` are commands to the part. They return when it has completed them, and tell whether it has.
- * This part is played: its power fails when so many stores are complete, before the next one begins or inside it.
+ * This part is played: its power fails when so many stores are complete, before the next one begins or inside it; and one of its bytes may have died, which
+ * it does not tell: bits that are to fall there stay.
  */
 
 enum { BLOCK = VS_BLOCK, PART = BLOCK * 3, PLAIN = VS_NV | VS_BOOT_ACCESS | VS_RUNTIME_ACCESS };
@@ -139,12 +143,13 @@ static struct {
     uint64_t programs, erases; /* that are complete */
     uint64_t power;            /* stores until the power fails */
     int inside;                /* whether it fails inside a store */
-} part = {.power = UINT64_MAX};
+    size_t dead;               /* a byte that no longer clears; PART if there is none */
+} part = {.power = UINT64_MAX, .dead = PART};
 
 /* Bits only fall. A byte store that has begun has left one or more of them: here the lowest that was to fall. */
 static int program(size_t at, uint8_t byte)
 {
-    uint8_t to_fall = part.bytes[at] & (uint8_t)~byte;
+    uint8_t to_fall = at == part.dead ? 0 : part.bytes[at] & (uint8_t)~byte;
     if (part.power == 0) {
         uint8_t lowest = to_fall & (uint8_t)-to_fall;
         part.bytes[at] ^= part.inside ? to_fall ^ lowest : 0;
@@ -176,54 +181,84 @@ static int erase(size_t block)
  *
  * The copy is what the library is lent; the part itself it never sees. Each store is complete on the part before it is made on the copy, so that the two
  * are the same when the plan is carried out. Where a store fails, the copy is of no use any more: the part is read again and a start-up carried out, as at
- * power-on.
+ * power-on. Every byte programmed is read back: one that has kept a bit which was to fall is dead, and its store has failed. The host remembers it; a host whose
+ * calls store into memory would give it to them in their context.
  */
 
 static uint8_t image[PART], content[VS_CONTENT];
+static vs_context known = {.limit = VS_NO_LIMIT}; /* the dead bytes found so far */
 
-/* Bytes of the content, or one that marks a state, in rising order. */
-static int store(size_t at, const uint8_t *bytes, size_t len)
+static void remember(size_t at)
 {
-    for (size_t i = 0; i < len; i++) {
-        if (!program(at + i, bytes[i])) {
-            return 0;
+    for (uint32_t i = 0; i < known.count; i++) {
+        if (known.dead[i] == at) {
+            return;
         }
-        image[at + i] &= bytes[i];
     }
-    return 1;
+    if (known.count < sizeof known.dead / sizeof known.dead[0]) {
+        known.dead[known.count++] = (uint32_t)at;
+    }
 }
 
-static int erase_blocks(size_t first, size_t count)
+/* Whether a plan was carried out: its next store was made, the power failed, or the byte is dead. */
+enum stored { FAILED, MADE, WORN };
+
+/* Bytes of the content, or one that marks a state, in rising order. */
+static enum stored store(size_t at, const uint8_t *bytes, size_t len)
+{
+    for (size_t i = 0; i < len; i++) {
+        uint8_t wanted = image[at + i] & bytes[i];
+        if (!program(at + i, bytes[i])) {
+            return FAILED;
+        }
+        if (part.bytes[at + i] != wanted) {
+            remember(at + i);
+            return WORN;
+        }
+        image[at + i] = wanted;
+    }
+    return MADE;
+}
+
+static enum stored erase_blocks(size_t first, size_t count)
 {
     for (size_t block = first; block < first + count; block++) {
         if (!erase(block)) {
-            return 0;
+            return FAILED;
         }
         memset(image + BLOCK * block, 0xFF, BLOCK);
     }
-    return 1;
+    return MADE;
 }
 
-static int operate(const vs_operation *o)
+static enum stored header(size_t at, const uint8_t *bytes, size_t len)
+{
+    /* the third byte is the state */
+    enum stored before = store(at, bytes, 2);
+    return before == MADE ? store(at + 3, bytes + 3, len - 3) : before;
+}
+
+static enum stored operate(const vs_operation *o)
 {
     const uint8_t value = (uint8_t)o->from, *bytes = content + o->from;
     switch (o->kind) {
     case VS_NOTHING:
-        return 1;
+        return MADE;
     case VS_MARK:
         return store(o->at, &value, 1);
     case VS_ERASE:
         return erase_blocks(o->at, o->len);
     case VS_PROGRAM:
         return store(o->at, bytes, o->len);
-    case VS_HEADER: /* the third byte is the state */
-        return store(o->at, bytes, 2) && store(o->at + 3, bytes + 3, o->len - 3);
+    case VS_HEADER:
+        return header(o->at, bytes, o->len);
     default:
-        return 0;
+        return FAILED;
     }
 }
 
-/* A planned call is carried out. Done is told when its last store is complete; the values in the content are then cleared. */
+/* A planned call is carried out. Done is told when its last store is complete; the values in the content are then cleared. Where a byte has died the caller
+ * learns what the library itself would answer, VS_WORN. */
 static vs_answer carry_out(const vs_plan *plan)
 {
     if (plan->rule != 0) {
@@ -231,8 +266,9 @@ static vs_answer carry_out(const vs_plan *plan)
     }
     uint64_t before = part.programs + part.erases;
     for (size_t i = 0; i < VS_OPERATIONS; i++) {
-        if (!operate(&plan->operations[i])) {
-            return (vs_answer){VS_STOPPED, 0, 0};
+        enum stored stored = operate(&plan->operations[i]);
+        if (stored != MADE) {
+            return stored == WORN ? (vs_answer){VS_REFUSED, VS_WORN, 0} : (vs_answer){VS_STOPPED, 0, 0};
         }
     }
     memset(content, 0, sizeof content);
@@ -348,6 +384,52 @@ static void cut(const uint8_t *before, uint64_t complete, int inside)
            rate(&session));
 }
 
+/* A set tried on a copy in memory, with the dead bytes that are known: whether it would fail, before the part is touched. */
+static vs_answer tried(const vs_session *session, const char *text, const void *data, size_t size)
+{
+    static uint8_t copy[PART];
+    uint8_t name[VS_LARGEST_NAME];
+    size_t name_size = utf16(text, name);
+    memcpy(copy, image, PART);
+    return vs_set(known, *session, copy, PART, name, name_size, our_vendor, PLAIN, data, size, 0, VS_BY_NONE, content);
+}
+
+/* A byte dies where the next entry would begin: sets in the tail are refused, and what stands remains. */
+static void worn_tail(vs_session *session)
+{
+    static const uint8_t old_rate[4] = {100}, new_rate[4] = {200}, note[] = {1, 2, 3};
+    format();
+    power_on(session);
+    set(session, "RATE", PLAIN, old_rate, sizeof old_rate);
+    part.dead = vs_check(image, PART).tail;
+    printf("a byte dies at %zu, where the next entry begins\n", part.dead);
+    print_answer("set NOTE", set(session, "NOTE", PLAIN, note, sizeof note));
+    print_answer("start-up", power_on(session));
+    print_answer("set RATE", set(session, "RATE", PLAIN, new_rate, sizeof new_rate));
+    print_answer("start-up", power_on(session));
+    print_answer("set RATE, tried on a copy", tried(session, "RATE", new_rate, sizeof new_rate));
+    printf("RATE is %d\n", rate(session));
+}
+
+/* A byte dies under a value that a compaction copies: the copy fails there, behind the store that decides, and so does every start-up. What stands in the spare is
+ * whole: brought onto a part that has no such byte, it starts up with the new value. */
+static void worn_region(vs_session *session, const uint8_t *before)
+{
+    static const uint8_t new_rate[4] = {200};
+    memcpy(part.bytes, before, PART);
+    power_on(session);
+    part.dead = 2000;
+    printf("a byte dies at %zu, under a value that a compaction copies\n", part.dead);
+    print_answer("set RATE", set(session, "RATE", PLAIN, new_rate, sizeof new_rate));
+    print_answer("start-up", power_on(session));
+    memcpy(image, part.bytes, PART);
+    print_answer("check", vs_check(image, PART).answer);
+    part.dead = PART;
+    printf("the same bytes on another part\n");
+    print_answer("start-up", power_on(session));
+    printf("RATE is %d\n", rate(session));
+}
+
 /* A compaction of one block makes 8,197 stores; number 4,098 decides. */
 static int story(void)
 {
@@ -364,6 +446,9 @@ static int story(void)
         cut(full, in[i] - 1, 1);
     }
     printf("complete: %llu byte programs, %llu block erases\n", (unsigned long long)part.programs, (unsigned long long)part.erases);
+    worn_tail(&session);
+    worn_region(&session, full);
+    printf("dead bytes found: %u, at %u and %u\n", (unsigned)known.count, (unsigned)known.dead[0], (unsigned)known.dead[1]);
     return memcmp(image, part.bytes, PART) != 0;
 }
 
@@ -376,7 +461,7 @@ int main(int argc, char **argv)
         fprintf(stderr,
                 "usage: host [IMAGE]\n"
                 "  with IMAGE: lists the variables of an image file: name, attributes, data\n"
-                "  without: a small flash part, and power cuts in a compaction\n");
+                "  without: a small flash part, power cuts in a compaction, and a byte that dies\n");
         return 2;
     }
     return list_file(argv[1]);

@@ -18,7 +18,7 @@
 
 enum { BLOCKS = 7, IMAGE = VS_LARGEST_IMAGE, STACK = 1 << 18, PAINT = 0xC5, ADDRESS = 8, ALLOWED = 6 * 1024, PLAIN = VS_NV | VS_BOOT_ACCESS };
 
-static const vs_context no_limit = {VS_NO_LIMIT};
+static const vs_context no_limit = {.limit = VS_NO_LIMIT};
 static const vs_setup setup = {0, 0}; /* no custom mode, no reserve */
 static const uint8_t vendor[16] = {1}, zeros[2048];
 static uint8_t image[IMAGE], plain[IMAGE], buffer[2048], content[VS_CONTENT], stack[STACK];

@@ -17,7 +17,7 @@ enum {
     PLAIN = VS_NV | VS_BOOT_ACCESS | VS_RUNTIME_ACCESS
 };
 
-static const vs_context no_limit = {VS_NO_LIMIT};
+static const vs_context no_limit = {.limit = VS_NO_LIMIT};
 static const vs_setup setup = {0, 0}; /* no custom mode, no reserve */
 static const uint8_t vendor[16] = {0x01, 0x02, 0x03, 0x04, 0x05, 0x06, 0x07, 0x08, 0x09, 0x0A, 0x0B, 0x0C, 0x0D, 0x0E, 0x0F, 0x10};
 static const uint8_t rate[] = {'R', 0, 'A', 0, 'T', 0, 'E', 0, 0, 0};
@@ -82,7 +82,7 @@ static int rate_is_absent(const uint8_t *store)
 
 static vs_answer set(uint64_t limit, uint8_t *store, size_t length, const uint8_t *name, size_t name_size, uint32_t attributes, const uint8_t *data, size_t size)
 {
-    return vs_set((vs_context){limit}, session, store, length, name, name_size, vendor, attributes, data, size, 0, VS_BY_NONE, content);
+    return vs_set((vs_context){.limit = limit}, session, store, length, name, name_size, vendor, attributes, data, size, 0, VS_BY_NONE, content);
 }
 
 static vs_answer set_rate(uint64_t limit, uint8_t *store, const uint8_t *data)
