@@ -2,7 +2,7 @@
 
 pub type Guid = [u8; 16];
 
-/// Rules a call can break, by their numbers. Those of 01 are in checking order; 02's are not: a move tries 1, 19, 20, 13.
+/// Rules a call can break, by their numbers. Those of 01 are in checking order; 02's are not: a move tries 1, 19, 20, 13, and 23 is met by a store.
 #[derive(Clone, Copy, PartialEq, Eq, PartialOrd, Ord, Debug)]
 #[repr(u32)]
 pub enum Rule {
@@ -24,10 +24,11 @@ pub enum Rule {
     LockSpace,
     Source = 19,
     TimeBased,
+    Worn = 23,
 }
 
 impl Rule {
-    pub const ALL: [Rule; 18] = [
+    pub const ALL: [Rule; 19] = [
         Rule::Length,
         Rule::Unready,
         Rule::Name,
@@ -46,6 +47,7 @@ impl Rule {
         Rule::LockSpace,
         Rule::Source,
         Rule::TimeBased,
+        Rule::Worn,
     ];
 
     pub fn number(self) -> u32 {
@@ -65,15 +67,33 @@ pub enum Answer {
     Refused(Rule),
 }
 
-/// What every call and start-up takes: the number n of stores after which it is stopped.
+/// Places for dead addresses.
+pub const DEAD: usize = 16;
+
+/// What every call and start-up takes: the number n of stores after which it is stopped, and 02 (h)'s dead addresses, offsets in the image. There are `count`
+/// of them; above 16 it counts as 16.
 #[derive(Clone, Copy, PartialEq, Eq, Debug)]
 #[repr(C)]
 pub struct Context {
     pub limit: u64,
+    pub count: u32,
+    pub dead: [u32; DEAD],
 }
 
 impl Context {
-    pub const NO_LIMIT: Context = Context { limit: u64::MAX };
+    pub const NO_LIMIT: Context = Context::with(u64::MAX);
+
+    /// Stopped after n stores, on a chip where nothing is dead.
+    pub const fn with(limit: u64) -> Context {
+        Context { limit, count: 0, dead: [0; DEAD] }
+    }
+
+    /// The same on a chip with dead bytes: those addresses that have a place, and how many were given.
+    pub fn worn(limit: u64, dead: &[u32]) -> Context {
+        let mut context = Context { limit, count: dead.len() as u32, dead: [0; DEAD] };
+        context.dead.iter_mut().zip(dead).for_each(|(place, address)| *place = *address);
+        context
+    }
 }
 
 pub const BOOT: u32 = 0;

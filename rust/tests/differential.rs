@@ -15,7 +15,7 @@ use common::random::Random;
 use common::stored::{carry_out, Call};
 use common::{same_bytes, stamped};
 use varstore::calls::{Read, ENGINE, PAPER};
-use varstore::interface::{Answer, Context, Reply, Session, Setup};
+use varstore::interface::{Answer, Context, Reply, Rule, Session, Setup};
 use varstore::paper;
 use varstore::paper::layout::Authenticated;
 use varstore::paper::request::{DB, KEK};
@@ -27,14 +27,19 @@ const GARBAGE: [Content; 2] = [[0xA5; size_of::<Content>()], [0; size_of::<Conte
 /// How often each call has given each answer.
 type Tally = BTreeMap<(&'static str, String), usize>;
 
-/// A current image and session, which every call leaves as both implementations left them.
+/// A current image and session, which every call leaves as both implementations left them, and the dead addresses that go with a call.
 struct Pair<'t> {
     image: Vec<u8>,
     session: Session,
+    dead: Vec<u32>,
     tally: &'t mut Tally,
 }
 
-impl Pair<'_> {
+impl<'t> Pair<'t> {
+    fn new(image: Vec<u8>, session: Session, tally: &'t mut Tally) -> Pair<'t> {
+        Pair { image, session, dead: vec![], tally }
+    }
+
     fn count(&mut self, call: &'static str, answer: Answer) {
         let kind = match answer {
             Answer::Done(0) => "done without stores".into(),
@@ -62,7 +67,7 @@ impl Pair<'_> {
 
     fn read(&mut self, what: &'static str, ours: Read, theirs: Read, name: &Name, limit: u64, buffer: &[u8]) -> (Reply, Vec<u8>) {
         let (mut first, mut second) = (buffer.to_vec(), buffer.to_vec());
-        let context = Context { limit };
+        let context = Context::worn(limit, &self.dead);
         let reply = ours(context, &self.session, &self.image, name.key(), &mut first);
         let other = theirs(context, &self.session, &self.image, name.key(), &mut second);
         assert_eq!(reply, other, "{what} of {name:X?} with a buffer of {}", buffer.len());
@@ -73,15 +78,15 @@ impl Pair<'_> {
 
     /// A call that may store, with a content full of other bytes than it needs. Where nothing limits it, its plan is looked at too.
     fn store(&mut self, what: &'static str, call: &Call, limit: u64) -> Answer {
-        let (before, context) = (self.image.clone(), Context { limit });
+        let (before, context) = (self.image.clone(), Context::worn(limit, &self.dead));
         let (ours, session) = call.by(&PAPER, context, &self.session, &mut self.image);
         for garbage in GARBAGE {
             let (mut content, mut other) = (garbage, before.clone());
             let (theirs, their_session) = call.by_engine(context, &self.session, &mut other, &mut content);
-            assert_eq!(ours, theirs, "{what} up to {limit} in phase {}: {call:?}", self.session.phase);
+            assert_eq!(ours, theirs, "{what} up to {limit} with {:?} dead in phase {}: {call:?}", self.dead, self.session.phase);
             same_session(&session, &their_session);
             same_bytes(&format!("image after {what}"), &self.image, &other);
-            assert!(!matches!(ours, Answer::Refused(_)) || content == garbage, "the content of a refused {what}");
+            assert!(!matches!(ours, Answer::Refused(rule) if rule != Rule::Worn) || content == garbage, "the content of a refused {what}");
             if limit < u64::MAX {
                 break;
             }
@@ -92,8 +97,8 @@ impl Pair<'_> {
         ours
     }
 
-    /// The engine's plan of a call on the image before it: rule, stores and deciding store are the paper's, and carried out they leave the image that the call
-    /// left. A refused call keeps the content.
+    /// The engine's plan of a call on the image before it: rule, stores and deciding store are the paper's, and carried out on a part with the same dead bytes
+    /// they leave the image that the call left. A refused call keeps the content.
     fn plan(&mut self, what: &'static str, call: &Call, before: &[u8], garbage: Content) {
         let mut content = garbage;
         let plan = match (call.plan(&self.session, before, &mut content), call.stores(&self.session, before)) {
@@ -110,9 +115,19 @@ impl Pair<'_> {
             (theirs, ours) => panic!("{what} is planned {theirs:?}, and has {:?} stores: {call:?}", ours.map(|list| list.len())),
         };
         let mut part = before.to_vec();
-        carry_out(&plan, &content, u64::MAX, &mut part);
+        let made = carry_out(&plan, &content, u64::MAX, paper::dead(&Context::worn(u64::MAX, &self.dead)), &mut part);
         same_bytes("image after the plan", &self.image, &part);
-        *self.tally.entry(("plan", format!("{what} that {}", deeds(&plan)))).or_default() += 1;
+        let deeds = if made.failed { "fails" } else { deeds(&plan) };
+        *self.tally.entry(("plan", format!("{what} that {deeds}"))).or_default() += 1;
+    }
+
+    /// Other dead addresses from here on, with an eye to the next call: none, most often.
+    fn wear(&mut self, r: &mut Random, next: &Call) {
+        self.dead.clear();
+        if r.once_in(3) {
+            let list = next.stores(&self.session, &self.image).ok();
+            self.dead = generate::dead(r, list.as_ref(), self.image.len());
+        }
     }
 
     fn set(&mut self, asked: &Asked, limit: u64) -> Answer {
@@ -141,29 +156,35 @@ impl Pair<'_> {
         self.session = ours;
     }
 
-    /// The set's answer and image for every n of a short list, and for those around its turning points of a long one.
+    /// The set's answer and image for every n of a short list, and for those around its turning points of a long one; then with some bytes dead.
     fn set_with_stops(&mut self, r: &mut Random, asked: &Asked) {
-        let before = self.image.clone();
-        if let Ok(list) = paper::set_stores(&self.session, &self.image, &asked.request()) {
-            for limit in limits(r, &list) {
-                self.image.copy_from_slice(&before);
-                self.set(asked, limit);
-            }
-        }
-        self.image.copy_from_slice(&before);
+        self.store_with_stops(r, "set", &Call::Set(asked.clone()));
         self.set(asked, u64::MAX);
     }
 
     fn start_up_with_stops(&mut self, r: &mut Random) {
-        let before = self.image.clone();
-        if let Ok(list) = paper::start_up_stores(&self.image) {
-            for limit in limits(r, &list) {
-                self.image.copy_from_slice(&before);
-                self.start_up(limit, Setup::PLAIN);
-            }
-        }
-        self.image.copy_from_slice(&before);
+        self.store_with_stops(r, "startup", &Call::StartUp(Setup::PLAIN));
         self.start_up(u64::MAX, Setup { custom: 1, reserve: 100 });
+    }
+
+    /// Leaves the image as before, and no byte dead.
+    fn store_with_stops(&mut self, r: &mut Random, what: &'static str, call: &Call) {
+        let (before, session) = (self.image.clone(), self.session);
+        let Ok(list) = call.stores(&session, &before) else { return };
+        let tried = |pair: &mut Self, limit| {
+            pair.image.copy_from_slice(&before);
+            pair.session = session;
+            pair.store(what, call, limit);
+        };
+        limits(r, &list).into_iter().for_each(|limit| tried(self, limit));
+        for _ in 0..4 {
+            self.dead = generate::dead(r, Some(&list), before.len());
+            let made = list.make_worn(u64::MAX, paper::dead(&Context::worn(u64::MAX, &self.dead)), &mut before.clone()).stores as u64;
+            [made.saturating_sub(1), made, made + 1, u64::MAX].into_iter().for_each(|limit| tried(self, limit));
+        }
+        self.dead.clear();
+        self.image.copy_from_slice(&before);
+        self.session = session;
     }
 }
 
@@ -253,14 +274,19 @@ fn random_call(pair: &mut Pair, r: &mut Random) {
         3..=5 => random_next(pair, r),
         6 => {
             let setup = Setup { custom: r.pick(&[0, 1, 2, u32::MAX]), reserve: r.pick(&[0, 1, 4096, 4097, u32::MAX]) };
+            pair.wear(r, &Call::StartUp(setup));
             pair.start_up(limit(r), setup);
         }
         7 => pair.session = generate::session(r),
-        8 if r.once_in(4) => pair.format(limit(r)),
+        8 if r.once_in(4) => {
+            pair.wear(r, &Call::Format);
+            pair.format(limit(r));
+        }
         9 => pair.lock(&generate::name(r)),
         10 => pair.phase(r.pick(&[0, 1, 2, 3, u32::MAX])),
         _ => {
             let asked = generate::asked_on(r, &pair.image);
+            pair.wear(r, &Call::Set(asked.clone()));
             pair.set(&asked, limit(r));
         }
     }
@@ -271,23 +297,25 @@ fn random_call(pair: &mut Pair, r: &mut Random) {
 fn any_call() {
     let tally = rounds(1000, |r, tally| {
         let image = generate::image(r).0;
-        let mut pair = Pair { image, session: generate::session(r), tally };
+        let mut pair = Pair::new(image, generate::session(r), tally);
         pair.check();
         for _ in 0..r.below(30) {
             random_call(&mut pair, r);
         }
         enumerate(&mut pair, r);
     });
-    expect_seen(&tally, "set", &["done", "done without stores", "stopped"]);
+    expect_seen(&tally, "set", &["done", "done without stores", "stopped", "refused 23"]);
     for rule in 2..=13 {
         expect_seen(&tally, "set", &[&format!("refused {rule}")]);
     }
     expect_seen(&tally, "get", &["done without stores", "refused 2", "refused 3", "refused 11", "refused 14"]);
     expect_seen(&tally, "next", &["done without stores", "refused 2", "refused 3", "refused 11", "refused 14"]);
-    expect_seen(&tally, "startup", &["done", "done without stores", "stopped", "refused 2"]);
+    expect_seen(&tally, "startup", &["done", "done without stores", "stopped", "refused 2", "refused 23"]);
+    expect_seen(&tally, "format", &["done", "stopped", "refused 23"]);
     expect_seen(&tally, "lock", &["done without stores", "refused 3", "refused 15", "refused 16"]);
     expect_seen(&tally, "plan", &["set refused", "set that does nothing", "set that marks", "set that programs", "set that programs and erases"]);
     expect_seen(&tally, "plan", &["startup refused", "startup that does nothing", "startup that erases", "startup that programs and erases"]);
+    expect_seen(&tally, "plan", &["set that fails", "startup that fails", "format that fails"]);
 }
 
 /// The same image with one more damage each time: whether a call may use it, what a start-up makes of it, and what is read.
@@ -295,7 +323,7 @@ fn any_call() {
 fn damaged_images() {
     let tally = rounds(100, |r, tally| {
         let (image, blocks) = generate::image(r);
-        let mut pair = Pair { image: image.clone(), session: (PAPER.session_new)(Setup::PLAIN), tally };
+        let mut pair = Pair::new(image.clone(), (PAPER.session_new)(Setup::PLAIN), tally);
         for _ in 0..20 {
             pair.image.copy_from_slice(&image);
             for _ in 0..1 + r.below(2) {
@@ -322,7 +350,7 @@ fn stops() {
     let tally = rounds(200, |r, tally| {
         let blocks = if r.once_in(4) { 2 } else { 1 };
         let image = if r.once_in(2) { generate::filled(r, blocks) } else { generate::crafted::<Authenticated>(r, blocks) };
-        let mut pair = Pair { image, session: (PAPER.session_new)(Setup { custom: 1, reserve: 0 }), tally };
+        let mut pair = Pair::new(image, (PAPER.session_new)(Setup { custom: 1, reserve: 0 }), tally);
         pair.start_up_with_stops(r);
         for _ in 0..6 {
             let mut asked = generate::asked_on(r, &pair.image);
@@ -334,15 +362,15 @@ fn stops() {
             }
         }
     });
-    expect_seen(&tally, "set", &["done", "done without stores", "stopped", "refused 2"]);
-    expect_seen(&tally, "startup", &["done", "done without stores", "stopped", "refused 2"]);
+    expect_seen(&tally, "set", &["done", "done without stores", "stopped", "refused 2", "refused 23"]);
+    expect_seen(&tally, "startup", &["done", "done without stores", "stopped", "refused 2", "refused 23"]);
 }
 
 /// Key names and other authenticated names, in all modes, with all verdicts, presence and custom mode, and descriptors right and damaged.
 #[test]
 fn authenticated_names() {
     let tally = rounds(200, |r, tally| {
-        let mut pair = Pair { image: generate::empty(1), session: (PAPER.session_new)(Setup::PLAIN), tally };
+        let mut pair = Pair::new(generate::empty(1), (PAPER.session_new)(Setup::PLAIN), tally);
         for _ in 0..60 {
             let mut asked = generate::asked(r);
             asked.attributes = r.pick(&[0x27, 0x27, 0x67, 0x23, 0]);
@@ -371,7 +399,7 @@ fn descriptors_at_each_field() {
             break bytes;
         }
     };
-    let mut pair = Pair { image: generate::empty(1), session: (PAPER.session_new)(Setup::PLAIN), tally: &mut tally };
+    let mut pair = Pair::new(generate::empty(1), (PAPER.session_new)(Setup::PLAIN), &mut tally);
     let mut try_data = |data: Vec<u8>| {
         pair.image = generate::empty(1);
         asked.data = data;
@@ -402,7 +430,7 @@ fn appends_at_each_byte_of_a_stamp() {
     for (vendor, name) in names {
         for custom in [0, 1] {
             let setup = Setup { custom, reserve: 0 };
-            let mut pair = Pair { image: generate::empty(1), session: (PAPER.session_new)(setup), tally: &mut tally };
+            let mut pair = Pair::new(generate::empty(1), (PAPER.session_new)(setup), &mut tally);
             let name = Name { name: name.to_vec(), vendor };
             let mut given = [0; 16];
             given[..7].copy_from_slice(&middle[..7]);
@@ -442,7 +470,7 @@ fn lengths() {
             if fits && length > 20 {
                 image[16..20].copy_from_slice(&((length / BLOCK / 2 * BLOCK) as u32).to_le_bytes());
             }
-            let mut pair = Pair { image, session: (PAPER.session_new)(Setup::PLAIN), tally: &mut tally };
+            let mut pair = Pair::new(image, (PAPER.session_new)(Setup::PLAIN), &mut tally);
             pair.check();
             random_get(&mut pair, &mut r);
             random_next(&mut pair, &mut r);
@@ -471,7 +499,7 @@ fn sessions() {
     let mut tally = Tally::new();
     let mut r = Random::new(9);
     for _ in 0..3000 {
-        let mut pair = Pair { image: vec![], session: generate::session(&mut r), tally: &mut tally };
+        let mut pair = Pair::new(vec![], generate::session(&mut r), &mut tally);
         for _ in 0..r.below(20) {
             if r.once_in(4) {
                 pair.phase(r.pick(&[0, 0, 0, 1, 2, 3, u32::MAX]));

@@ -9,12 +9,13 @@ mod common;
 use std::collections::BTreeMap;
 
 use common::book::Value;
+use common::cases::{asked, being_replaced, compacting, crowded, decided, delete, empty, set, with_dirty_tail, with_leftover};
 use common::cuts::{begun, places, Begun, Cut, Garbage, Run, Way, START_UP};
 use common::generate::{self, Asked, Name, BLOCK};
 use common::random::Random;
 use common::rounds::{once, rounds};
 use common::stored::Call;
-use common::{same_bytes, signed, stamped, A, AUTUMN, B, NEW, OLD, RATE, SPRING, VENDOR};
+use common::{same_bytes, signed, stamped, A, AUTUMN, B, NEW, OLD, RATE, SPRING};
 use varstore::calls::{lent, Calls, Read, BOTH, ENGINE, PAPER};
 use varstore::interface::{Answer, Context, Key, Reply, Rule, Setup};
 use varstore::paper::image::Parts;
@@ -22,65 +23,6 @@ use varstore::paper::layout::Authenticated;
 use varstore::paper::request::{DBX, PK};
 use varstore::paper::Stores;
 use varstore::plan::Operation;
-
-const C: Key = Key { name: b"C\0\0\0", vendor: &VENDOR };
-const S: Key = Key { name: b"S\0\0\0", vendor: &VENDOR };
-
-fn asked(key: Key, attributes: u32, data: &[u8]) -> Asked {
-    Asked { name: Name { name: key.name.to_vec(), vendor: *key.vendor }, attributes, data: data.to_vec(), presence: 0, verdict: 3 }
-}
-
-fn set(key: Key, data: &[u8]) -> Call {
-    Call::Set(asked(key, 0x07, data))
-}
-
-fn delete(key: Key) -> Call {
-    Call::Set(asked(key, 0, &[]))
-}
-
-/// A run on an empty store. Its former region holds other values under the same names.
-fn empty(blocks: usize) -> Run {
-    let image = generate::empty(blocks);
-    let mut former = Run::new(image.clone(), image[..blocks * BLOCK].to_vec());
-    for (key, data) in [(RATE, &[0xE0; 4][..]), (B, &[0xE1; 700]), (A, &[0xE2; 500])] {
-        former.whole(&set(key, data));
-    }
-    Run::new(image, former.image[..blocks * BLOCK].to_vec())
-}
-
-/// The cases' images are made by whole and stopped calls.
-trait Made {
-    fn whole(&mut self, call: &Call) -> u64;
-    fn with(self, key: Key, data: &[u8]) -> Self;
-    fn stopped(self, call: &Call, n: u64) -> Self;
-    fn recorded(self, used: usize) -> Self;
-}
-
-impl Made for Run {
-    fn whole(&mut self, call: &Call) -> u64 {
-        match self.make(call, u64::MAX) {
-            Answer::Done(stores) => stores,
-            other => panic!("{other:?} is the answer to {call:?}"),
-        }
-    }
-
-    fn with(mut self, key: Key, data: &[u8]) -> Run {
-        self.whole(&set(key, data));
-        self
-    }
-
-    fn stopped(mut self, call: &Call, n: u64) -> Run {
-        assert_eq!(self.make(call, n), Answer::Stopped);
-        self
-    }
-
-    /// The same with so many records used.
-    fn recorded(mut self, used: usize) -> Run {
-        let work = self.former.len();
-        self.image[work..][..used].fill(0xF8);
-        self
-    }
-}
 
 /// The call is cut everywhere, each time followed by a start-up. `count` is the number of its stores.
 fn cut_everywhere(run: &Run, call: &Call, count: usize) {
@@ -202,16 +144,6 @@ fn value(run: &Run, key: Key) -> Value {
     run.book.values.iter().find(|value| value.name.key() == key).expect("a value").clone()
 }
 
-/// A store in which RATE has a 3F entry, and a leftover 3E beside it.
-fn with_leftover() -> Run {
-    empty(1).with(RATE, OLD).with(A, OLD).stopped(&set(RATE, NEW), 76)
-}
-
-/// A store in which RATE has a 3E entry only.
-fn being_replaced() -> Run {
-    empty(1).with(RATE, OLD).with(A, OLD).stopped(&set(RATE, NEW), 1)
-}
-
 #[test]
 fn tail_write_beside_a_leftover() {
     cut_everywhere(&with_leftover(), &set(RATE, OLD), 78);
@@ -243,20 +175,6 @@ fn delete_beside_a_leftover() {
 #[test]
 fn delete_of_a_value_being_replaced() {
     cut_everywhere(&being_replaced(), &delete(RATE), 1);
-}
-
-/// A region whose tail has no room for more than some bytes: deleted entries, a leftover beside its 3F, a 3E alone, and
-/// a value with a stamp are in it.
-fn crowded(blocks: usize) -> Run {
-    let mut run = empty(blocks).with(RATE, OLD).stopped(&set(RATE, NEW), 76).with(C, OLD).stopped(&set(C, NEW), 1);
-    run.whole(&Call::Set(asked(S, 0x27, &signed(2024, OLD))));
-    let more = (0..2 * blocks as u8 - 1).fold(run.with(A, &[1; 700]), |run, turn| run.with(B, &[turn; 2000]));
-    more.with(A, &[2; 600])
-}
-
-/// What compacts a crowded region.
-fn compacting() -> Call {
-    set(A, &[3; 700])
 }
 
 fn cut_compaction(blocks: usize, used: usize) {
@@ -322,11 +240,6 @@ fn compaction_of_a_full_region() {
     cut_everywhere(&empty(1).with(A, &[1; 2048]).with(B, &[2; 1892]), &set(A, &[3; 2048]), 8197);
 }
 
-/// A compaction of b blocks makes 1 + L stores before its deciding one, of index 1 + L.
-fn decided(blocks: usize) -> u64 {
-    (blocks * BLOCK + 2) as u64
-}
-
 #[test]
 fn resume_at_the_erase_of_the_region() {
     for blocks in [1, 2] {
@@ -366,11 +279,6 @@ fn start_up_that_erases_a_torn_work_block() {
             cut_everywhere(&run, &START_UP, usize::from(!good));
         });
     }
-}
-
-/// The start id's first byte stands in the tail.
-fn with_dirty_tail(blocks: usize) -> Run {
-    empty(blocks).with(A, &[1; 500]).with(RATE, OLD).stopped(&set(B, NEW), 1)
 }
 
 #[test]
@@ -441,19 +349,29 @@ fn cases() -> Vec<(Run, Call)> {
     cases
 }
 
-/// A cut call, then so many cut start-ups, then one that is done.
+/// Other dead addresses from the next call on: none, most often.
+fn wear(run: &mut Run, next: &Call, r: &mut Random) {
+    run.dead.clear();
+    if r.once_in(3) {
+        run.dead = generate::dead(r, run.stores(next).ok().as_ref(), run.image.len());
+    }
+}
+
+/// A cut call, then so many cut start-ups, then one that is done; with dead bytes in some.
 fn cut_start_ups(deep: usize, seconds: u64) {
     let cases = cases();
     let count = rounds(seconds, 20, |r| {
         for (run, call) in &cases {
             let mut run = Run { way: r.pick(&Way::BOTH), ..run.clone() };
             let cut = random_cut(&run, call, r);
+            wear(&mut run, call, r);
             run.cut(call, cut, r);
             for _ in 0..deep {
                 let cut = random_cut(&run, &START_UP, r);
+                wear(&mut run, &START_UP, r);
                 run.cut(&START_UP, cut, r);
             }
-            run.recover();
+            run.recover_worn();
         }
     });
     println!("{} cases", count * cases.len() as u64);
@@ -478,7 +396,7 @@ fn start_ups_three_deep() {
 fn read(run: &Run, name: &Name, call: fn(Calls) -> Read, length: usize) -> (Reply, Vec<u8>) {
     let [paper, engine] = BOTH.map(|calls| {
         let mut buffer = vec![0xA5; length];
-        let reply = call(calls)(Context { limit: 0 }, &run.session, &run.image, name.key(), &mut buffer);
+        let reply = call(calls)(Context::with(0), &run.session, &run.image, name.key(), &mut buffer);
         (reply, buffer)
     });
     assert_eq!(engine.0, paper.0, "reply for {name:X?}");
@@ -568,6 +486,7 @@ fn random_step(run: &mut Run, r: &mut Random, tally: &mut Tally) {
     };
     let what = if matches!(call, Call::Set(_)) { "set" } else { "start-up" };
     let has_stores = run.stores(&call).is_ok_and(|list| !list.is_empty());
+    wear(run, &call, r);
     if r.once_in(if has_stores { 2 } else { 10 }) {
         let cut = random_cut(run, &call, r);
         let before = run.book.clone();
@@ -580,19 +499,22 @@ fn random_step(run: &mut Run, r: &mut Random, tally: &mut Tally) {
     }
     let answer = run.make(&call, u64::MAX);
     *tally.entry(kind(what, answer)).or_default() += 1;
-    if what == "start-up" {
-        assert!(matches!(answer, Answer::Done(_)), "a start-up in a run is {answer:?} after {:?}", run.cuts);
-        run.check_book();
+    match answer {
+        Answer::Done(_) if what == "start-up" => run.check_book(),
+        Answer::Refused(Rule::Worn) => run.cuts.clear(),
+        _ => assert!(what == "set", "a start-up in a run is {answer:?} after {:?}", run.cuts),
     }
 }
 
 fn kind(what: &'static str, answer: Answer) -> &'static str {
     match (what, answer) {
+        ("set", Answer::Refused(Rule::Worn)) => "set failed",
         ("set", Answer::Done(0)) => "set done without stores",
         ("set", Answer::Done(count)) if count > 4096 => "set done by compaction",
         ("set", Answer::Done(_)) => "set done",
         ("set", Answer::Refused(Rule::Unready)) => "set refused before a start-up",
         ("set", _) => "set refused",
+        ("start-up", Answer::Refused(Rule::Worn)) => "start-up failed",
         ("start-up", Answer::Done(0)) => "start-up without stores",
         ("start-up", Answer::Done(count)) if count > 4096 => "start-up that compacts or resumes",
         ("start-up", _) => "start-up that erases",
@@ -603,7 +525,7 @@ fn kind(what: &'static str, answer: Answer) -> &'static str {
     }
 }
 
-/// Sets, appends, deletes, gets, next-names and start-ups, in any sessions, many of them cut; the book is checked after every done start-up.
+/// Sets, appends, deletes, gets, next-names and start-ups, in any sessions, many of them cut or failed; the book is checked after every done start-up.
 #[test]
 fn any_call_of_a_run() {
     let mut tally = Tally::new();
@@ -619,14 +541,15 @@ fn any_call_of_a_run() {
             run.way = r.pick(&Way::BOTH);
             random_step(&mut run, r, &mut tally);
         }
-        run.recover();
+        run.recover_worn();
     });
     println!("{tally:?}");
     let whole = ["set done", "set done without stores", "set done by compaction", "set refused", "set refused before a start-up"];
     let started = ["start-up without stores", "start-up that erases", "start-up that compacts or resumes"];
     let read = ["get done", "get refused", "next-name done", "next-name refused"];
     let cut = ["store begun", "cut between stores", "set cut before deciding", "set cut when decided"];
-    for thing in [&whole[..], &started, &read, &cut].concat() {
+    let failed = ["set failed", "start-up failed"];
+    for thing in [&whole[..], &started, &read, &cut, &failed].concat() {
         assert!(tally.contains_key(thing), "no {thing} in the runs");
     }
 }

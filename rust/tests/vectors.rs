@@ -4,6 +4,7 @@
 //!     image len rle · poke off rle · save slot · load slot · session phase custom reserve count sizes locks
 //!     set name guid attrs data presence verdict n      get/next name guid buflen fill n (buffer of buflen bytes, all fill)
 //!     startup custom reserve n · format n · lock name guid · phase to · varlist
+//!     set, startup and format also dead (02 (h): addresses joined by `,`, which may be more than 16; `-` none)
 //!     move src to (02 (d): from the image in slot src into the current one; to is `new` or `plain`)
 //!
 //! A line that a request of document 02 has changed says `why`: the sentence, with `_` for a space; also where only the image is another than it was.
@@ -19,10 +20,10 @@ use std::process::{Command, Stdio};
 
 use common::digest::{crc32, sha256};
 use common::generate::{Asked, Name};
-use common::stored::Call;
+use common::stored::{carry_out, Call};
 use varstore::calls::{lent, Calls, BOTH, PAPER};
 use varstore::interface::{Answer, Context, Guid, Key, Reply, Rule, Session, Setup};
-use varstore::paper;
+use varstore::paper::{self, Made};
 
 /// The fields of one line, and where it stands.
 struct Line<'a> {
@@ -31,9 +32,10 @@ struct Line<'a> {
 }
 
 /// What a line may give; every field that is not an argument is checked.
-const ARGUMENTS: &str = "why op len rle off slot phase custom reserve count sizes locks name guid attrs data presence verdict n buflen fill to src";
+const ARGUMENTS: &str =
+    "why op len rle off slot phase custom reserve count sizes locks name guid attrs data presence verdict dead n buflen fill to src";
 const EXPECTED: &str =
-    "answer rule stores list deciding size attrs_out buf_sha256 text sha256 crc32 s_phase s_custom s_reserve s_count s_sizes s_locks";
+    "answer rule stores list deciding made size attrs_out buf_sha256 text sha256 crc32 s_phase s_custom s_reserve s_count s_sizes s_locks";
 
 impl<'a> Line<'a> {
     fn new(place: String, text: &'a str) -> Line<'a> {
@@ -61,8 +63,11 @@ impl<'a> Line<'a> {
         self.bytes("guid").try_into().unwrap_or_else(|_| panic!("{}: a GUID has 16 bytes", self.place))
     }
 
+    /// Of more dead addresses than have a place, those that fit go over, and the full count.
     fn context(&self) -> Context {
-        Context { limit: self.number("n").into() }
+        let dead = self.fields.get("dead").filter(|&&text| text != "-");
+        let dead: Vec<u32> = dead.map_or(vec![], |text| text.split(',').map(|address| address.parse().expect("an address")).collect());
+        Context::worn(self.number("n").into(), &dead)
     }
 
     /// Checks a field if the line gives it.
@@ -148,19 +153,25 @@ impl Player {
     }
 
     fn store(&mut self, line: &Line, call: &Call) {
-        let list = self.list(call);
+        let list = self.list(line, call);
         let (answer, session) = call.by(&self.calls, line.context(), &self.session, &mut self.image);
         self.session = session;
         expect_answer(line, answer);
         expect_list(line, answer, list);
     }
 
-    /// The length of the paper's list or the engine's plan, and the index of its deciding store.
-    fn list(&self, call: &Call) -> Result<(usize, Option<usize>), Rule> {
+    /// The paper's list, or the engine's plan, made on a copy of the image.
+    fn list(&self, line: &Line, call: &Call) -> Result<List, Rule> {
+        let (context, mut image) = (line.context(), self.image.clone());
+        let (n, dead) = (context.limit, paper::dead(&context));
         if self.calls.who == PAPER.who {
-            return call.stores(&self.session, &self.image).map(|list| (list.len(), list.deciding()));
+            let list = call.stores(&self.session, &self.image)?;
+            return Ok(List { length: list.len(), deciding: list.deciding(), made: list.make_worn(n, dead, &mut image) });
         }
-        lent(|content| call.plan(&self.session, &self.image, content)).map(|plan| (plan.count(), plan.deciding_store()))
+        lent(|content| {
+            let plan = call.plan(&self.session, &self.image, content)?;
+            Ok(List { length: plan.count(), deciding: plan.deciding_store(), made: carry_out(&plan, content, n, dead, &mut image) })
+        })
     }
 
     fn read(&mut self, line: &Line, call: fn(Context, &Session, &[u8], Key, &mut [u8]) -> Reply) {
@@ -233,13 +244,24 @@ fn expect_answer(line: &Line, answer: Answer) {
     line.expect("stores", &stores.to_string());
 }
 
-/// The list's length and deciding store; the call is stopped exactly if the list is longer than n.
-fn expect_list(line: &Line, answer: Answer, list: Result<(usize, Option<usize>), Rule>) {
-    let (length, deciding) = list.unwrap_or((0, None));
+/// A list's length, the index of its deciding store, and what has come of it.
+#[derive(Clone, Copy)]
+struct List {
+    length: usize,
+    deciding: Option<usize>,
+    made: Made,
+}
+
+/// The call is stopped exactly if the list is longer than n, but where a store fails before.
+fn expect_list(line: &Line, answer: Answer, list: Result<List, Rule>) {
+    let List { length, deciding, made } = list.unwrap_or(List { length: 0, deciding: None, made: Made { stores: 0, failed: false } });
     line.expect("list", &length.to_string());
     line.expect("deciding", &deciding.map_or("-1".into(), |index| index.to_string()));
+    line.expect("made", &made.stores.to_string());
     if list.is_ok() {
-        assert_eq!(answer == Answer::Stopped, length as u64 > line.context().limit, "{}: stopped exactly if list > n", line.place);
+        let longer = length as u64 > line.context().limit;
+        assert_eq!(answer == Answer::Stopped, longer && !made.failed, "{}: stopped exactly if list > n", line.place);
+        assert_eq!(answer == Answer::Refused(Rule::Worn), made.failed, "{}: 23 exactly if a store fails", line.place);
     }
 }
 
@@ -287,6 +309,12 @@ fn appends_out_of_order() {
 #[test]
 fn stations_with_the_plain_layout() {
     run_file("d.txt", 451, 0);
+}
+
+/// 02 (h): dead bytes.
+#[test]
+fn flash_bytes_that_have_died() {
+    run_file("h.txt", 465, 0);
 }
 
 #[test]

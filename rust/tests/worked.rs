@@ -54,7 +54,7 @@ impl Station {
 
     fn set_until(&mut self, limit: u64, key: Key, attributes: u32, data: &[u8]) -> Answer {
         let request = Request { key, attributes, data, presence: self.presence, verdict: self.verdict };
-        (self.calls.set)(Context { limit }, &self.session, &mut self.image, &request)
+        (self.calls.set)(Context::with(limit), &self.session, &mut self.image, &request)
     }
 
     fn delete(&mut self, key: Key) -> Answer {

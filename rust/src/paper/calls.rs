@@ -9,7 +9,7 @@ use super::rules::{of_the_call, of_the_change, of_what_stands, ready};
 use super::session::{is_runtime, session_new};
 use super::stores::{clearing, compaction, deletion, formatting, in_tail, resumption, Stores, Wanting};
 use super::work;
-use crate::interface::{Answer, Checked, Context, Key, Reply, Request, Rule, Session, Setup, Started};
+use crate::interface::{Answer, Checked, Context, Key, Reply, Request, Rule, Session, Setup, Started, DEAD};
 
 /// Whether a call may use the image: rules 1 and 2.
 pub fn check(image: &[u8]) -> Checked {
@@ -24,7 +24,7 @@ fn is_seen(session: &Session, value: &Entry) -> bool {
     !is_runtime(session) || value.attributes() & RT != 0
 }
 
-/// The value's data into the front of the buffer. Rules 1, 2, 3, 11 and 14. It makes no stores, so no n stops it.
+/// The value's data into the front of the buffer. Rules 1, 2, 3, 11 and 14. It makes no stores, so no n stops it and none fails.
 pub fn get(_: Context, session: &Session, image: &[u8], key: Key, buffer: &mut [u8]) -> Reply {
     let found = || {
         let ready = ready::<Authenticated>(image)?;
@@ -75,20 +75,28 @@ fn refusal(rule: Rule, needed: u32) -> Reply {
     Reply { answer: Answer::Refused(rule), size: 0, attributes: 0, needed }
 }
 
-/// A call is stopped exactly if its list of stores is longer than n: the image is then as after the first n.
+/// A call is stopped exactly if its list of stores is longer than n: the image is then as after the first n. 02 (h): "23 when a byte store fails, at that store,
+/// the earlier ones remaining", and "A stop before it comes first".
 fn made(stores: Result<Stores, Rule>, context: Context, image: &mut [u8]) -> Answer {
     let stores = match stores {
         Ok(stores) => stores,
         Err(rule) => return Answer::Refused(rule),
     };
-    stores.make(context.limit, image);
+    if stores.make_worn(context.limit, dead(&context), image).failed {
+        return Answer::Refused(Rule::Worn);
+    }
     match stores.len() as u64 {
         count if count <= context.limit => Answer::Done(count),
         _ => Answer::Stopped,
     }
 }
 
-/// Sets, appends to or deletes a value. Rules 1 to 13.
+/// "up to 16 dead addresses (more are ignored)": each takes up a place, also one given twice or outside the image.
+pub fn dead(context: &Context) -> &[u32] {
+    &context.dead[..(context.count as usize).min(DEAD)]
+}
+
+/// Sets, appends to or deletes a value. Rules 1 to 13, and 23.
 pub fn set(context: Context, session: &Session, image: &mut [u8], request: &Request) -> Answer {
     made(set_stores(session, image, request), context, image)
 }
@@ -112,7 +120,7 @@ pub fn set_stores(session: &Session, image: &[u8], request: &Request) -> Result<
     })
 }
 
-/// Formatting meets 1 only.
+/// Formatting meets 1, and 23.
 pub fn format(context: Context, image: &mut [u8]) -> Answer {
     made(format_stores(image), context, image)
 }
@@ -121,7 +129,7 @@ pub fn format_stores(image: &[u8]) -> Result<Stores, Rule> {
     Parts::of(image).map(|parts| formatting(&parts)).ok_or(Rule::Length)
 }
 
-/// Finishes what a power cut has left, and makes a fresh session. Rules 1 and 2.
+/// Finishes what a power cut has left, and makes a fresh session. Rules 1 and 2, and 23.
 pub fn start_up(context: Context, image: &mut [u8], setup: Setup) -> Started {
     let answer = made(start_up_stores(image), context, image);
     Started { answer, session: session_new(setup) }

@@ -1,4 +1,5 @@
-//! Document 01, with what document 02 changes, in Rust, in the paper's order and words. A call is a rule broken, or a list of stores that is then made up to n.
+//! Document 01, with what document 02 changes, in Rust, in the paper's order and words. A call is a rule broken, or a list of stores that is then made up to n, or
+//! to a store that fails.
 
 pub mod calls;
 pub mod entry;
@@ -13,8 +14,8 @@ pub mod stores;
 pub mod varlist;
 pub mod work;
 
-pub use calls::{check, format, format_stores, get, next_name, set, set_stores, start_up, start_up_stores};
+pub use calls::{check, dead, format, format_stores, get, next_name, set, set_stores, start_up, start_up_stores};
 pub use moves::{from_plain, to_plain};
 pub use session::{lock, phase, session_new};
-pub use stores::{Store, Stores};
+pub use stores::{Made, Store, Stores};
 pub use varlist::varlist;

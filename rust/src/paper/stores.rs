@@ -44,6 +44,13 @@ impl Piece {
     }
 }
 
+/// What has come of a list: how many of its stores are made, and whether the next one failed.
+#[derive(Clone, Copy, PartialEq, Eq, Debug)]
+pub struct Made {
+    pub stores: usize,
+    pub failed: bool,
+}
+
 /// A call's list of stores. Its bytes are composed before the first store is made.
 #[derive(Clone, Default)]
 pub struct Stores {
@@ -95,17 +102,43 @@ impl Stores {
 
     /// Makes the first n stores.
     pub fn make(&self, n: u64, image: &mut [u8]) {
-        let mut left = usize::try_from(n).unwrap_or(usize::MAX);
+        self.make_worn(n, &[], image);
+    }
+
+    /// 02 (h): makes the first n stores, or those before the first one that fails.
+    pub fn make_worn(&self, n: u64, dead: &[u32], image: &mut [u8]) -> Made {
+        let n = usize::try_from(n).unwrap_or(usize::MAX);
+        let mut made = Made { stores: 0, failed: false };
         for piece in &self.pieces {
-            let count = piece.len().min(left);
-            left -= count;
-            match piece {
-                Piece::Bytes(at, bytes) => {
-                    let values = &self.bytes[bytes.start..][..count];
-                    image[*at..].iter_mut().zip(values).for_each(|(byte, v)| *byte &= v);
-                }
-                Piece::Erases(blocks) => image[blocks.start * BLOCK..][..count * BLOCK].fill(0xFF),
+            let wanted = piece.len().min(n - made.stores);
+            let count = self.first_failing(piece, dead, image).map_or(wanted, |failing| failing.min(wanted));
+            self.make_front(piece, count, image);
+            made.stores += count;
+            if count < wanted {
+                made.failed = true;
+                break;
             }
+        }
+        made
+    }
+
+    /// The index of a piece's first store that fails: its address is dead, and its byte has a bit that would have to fall. A piece stores no byte twice, so that
+    /// each is found as it was before the piece. Erases never fail.
+    fn first_failing(&self, piece: &Piece, dead: &[u32], image: &[u8]) -> Option<usize> {
+        let Piece::Bytes(at, bytes) = piece else { return None };
+        let values = &self.bytes[bytes.clone()];
+        let places = dead.iter().filter_map(|&address| (address as usize).checked_sub(*at));
+        places.filter(|&k| values.get(k).is_some_and(|v| image[at + k] & !v != 0)).min()
+    }
+
+    /// Makes the first stores of a piece.
+    fn make_front(&self, piece: &Piece, count: usize, image: &mut [u8]) {
+        match piece {
+            Piece::Bytes(at, bytes) => {
+                let values = &self.bytes[bytes.start..][..count];
+                image[*at..].iter_mut().zip(values).for_each(|(byte, v)| *byte &= v);
+            }
+            Piece::Erases(blocks) => image[blocks.start * BLOCK..][..count * BLOCK].fill(0xFF),
         }
     }
 

@@ -11,7 +11,7 @@ use varstore::interface::{Answer, Context, Rule, Session, Setup};
 use varstore::paper::layout::Authenticated;
 use varstore::paper::region::header;
 use varstore::paper::work::{BEGUN, SPARE_COMPLETE, UNUSED};
-use varstore::paper::{self, Store, Stores};
+use varstore::paper::{self, Made, Store, Stores};
 
 pub const START_UP: Call = Call::StartUp(Setup::PLAIN);
 
@@ -138,6 +138,8 @@ pub struct Run {
     pub book: Book,
     /// A clean region of other values, as a cut erase may leave it.
     pub former: Vec<u8>,
+    /// The dead addresses that go with each call; of more than 16 the first ones count.
+    pub dead: Vec<u32>,
     /// The cuts since the last done start-up.
     pub cuts: Vec<Cut>,
 }
@@ -146,7 +148,7 @@ impl Run {
     /// Begins on an image as a done start-up left it.
     pub fn new(image: Vec<u8>, former: Vec<u8>) -> Run {
         let session = (ENGINE.session_new)(Setup::PLAIN);
-        Run { way: Way::Called, book: Book::of(&image), image, session, former, cuts: vec![] }
+        Run { way: Way::Called, book: Book::of(&image), image, session, former, dead: vec![], cuts: vec![] }
     }
 
     /// The call's list of stores on the image that stands.
@@ -154,25 +156,29 @@ impl Run {
         call.stores(&self.session, &self.image)
     }
 
+    /// What goes with a call beside its own arguments.
+    pub fn context(&self, n: u64) -> Context {
+        Context::worn(n, &self.dead)
+    }
+
     /// Makes the call up to n stores: answer and image are the paper's, and the book is fed.
     pub fn make(&mut self, call: &Call, n: u64) -> Answer {
         let list = self.stores(call);
         let mut after = self.image.clone();
-        let expected = match &list {
-            Err(rule) => Answer::Refused(*rule),
+        let (expected, made) = match &list {
+            Err(rule) => (Answer::Refused(*rule), 0),
             Ok(list) => {
-                list.make(n, &mut after);
-                answer_of(list.len(), n)
+                let made = list.make_worn(n, paper::dead(&self.context(n)), &mut after);
+                (answer_of(list.len(), made, n), made.stores)
             }
         };
-        let (answer, deciding) = match self.way {
-            Way::Called => (self.call(call, n), list.ok().and_then(|list| list.deciding())),
+        let (answer, decided) = match self.way {
+            Way::Called => (self.call(call, n), is_among(list.ok().and_then(|list| list.deciding()), made)),
             Way::Planned => self.carry_out(call, n),
         };
-        assert_eq!(answer, expected, "up to {n} stores of {call:?} after {:?}", self.cuts);
+        assert_eq!(answer, expected, "up to {n} stores of {call:?} with {:?} dead after {:?}", self.dead, self.cuts);
         same_bytes("image", &after, &self.image);
-        let decided = matches!(answer, Answer::Done(_)) || deciding.is_some_and(|deciding| (deciding as u64) < n);
-        if let (Call::Set(asked), true) = (call, decided) {
+        if let (Call::Set(asked), true) = (call, decided || matches!(answer, Answer::Done(_))) {
             self.book.set(&asked.request());
         }
         if let Call::StartUp(setup) = *call {
@@ -183,22 +189,23 @@ impl Run {
 
     /// The engine makes the stores.
     fn call(&mut self, call: &Call, n: u64) -> Answer {
-        let (answer, session) = call.by(&ENGINE, Context { limit: n }, &self.session, &mut self.image);
+        let (answer, session) = call.by(&ENGINE, self.context(n), &self.session, &mut self.image);
         self.session = session;
         answer
     }
 
-    /// One planning call, and its stores are made on the part; also tells which one decides.
-    fn carry_out(&mut self, call: &Call, n: u64) -> (Answer, Option<usize>) {
+    /// One planning call, and its stores are made on the part; also tells whether the deciding one was among those made.
+    fn carry_out(&mut self, call: &Call, n: u64) -> (Answer, bool) {
+        let context = self.context(n);
         let planned = lent(|content| {
             let plan = call.plan(&self.session, &self.image, content)?;
-            carry_out(&plan, content, n, &mut self.image);
-            Ok(plan)
+            let made = carry_out(&plan, content, n, paper::dead(&context), &mut self.image);
+            Ok((plan, made))
         });
         self.session = call.planned_session(&self.session);
         match planned {
-            Err(rule) => (Answer::Refused(rule), None),
-            Ok(plan) => (answer_of(plan.count(), n), plan.deciding_store()),
+            Err(rule) => (Answer::Refused(rule), false),
+            Ok((plan, made)) => (answer_of(plan.count(), made, n), is_among(plan.deciding_store(), made.stores)),
         }
     }
 
@@ -214,14 +221,36 @@ impl Run {
         }
     }
 
-    /// The call up to a cut.
+    /// The call up to a cut. A store that fails before it ends the call, and one that would fail next is not begun: it changes nothing.
     pub fn cut(&mut self, call: &Call, cut: Cut, r: &mut Random) {
         let next = self.stores(call).ok().and_then(|list| list.get(cut.after));
-        self.make(call, cut.after as u64);
-        if let (Some(store), Some(begun)) = (next, cut.begun) {
-            self.begin(store, begun, r);
+        let answer = self.make(call, cut.after as u64);
+        if let (Answer::Stopped, Some(store), Some(begun)) = (answer, next, cut.begun) {
+            if !self.fails(store) {
+                self.begin(store, begun, r);
+            }
         }
         self.cuts.push(cut);
+    }
+
+    /// Whether a store would fail on the image that stands: its address is dead, and a bit would have to fall.
+    pub fn fails(&self, store: Store) -> bool {
+        match store {
+            Store::Erase(_) => false,
+            Store::Byte(at, v) => self.image[at] & !v != 0 && paper::dead(&self.context(0)).contains(&(at as u32)),
+        }
+    }
+
+    /// A start-up with the dead bytes: it is done or fails; then one without.
+    pub fn recover_worn(&mut self) -> Answer {
+        let answer = self.make(&START_UP, u64::MAX);
+        match answer {
+            Answer::Done(_) => self.check_book(),
+            _ => assert_eq!(answer, Answer::Refused(Rule::Worn), "a start-up with {:?} dead after {:?}", self.dead, self.cuts),
+        }
+        self.dead.clear();
+        self.recover();
+        answer
     }
 
     /// A start-up to its end: it is not refused, the image's list of values then equals the book, and a second one makes no stores.
@@ -246,12 +275,18 @@ impl Run {
     }
 }
 
-/// The answer of an accepted call with so many stores.
-fn answer_of(stores: usize, n: u64) -> Answer {
+/// The answer of an accepted call with so many stores, and what has come of them.
+fn answer_of(stores: usize, made: Made, n: u64) -> Answer {
     match stores as u64 {
+        _ if made.failed => Answer::Refused(Rule::Worn),
         count if count <= n => Answer::Done(count),
         _ => Answer::Stopped,
     }
+}
+
+/// Whether the deciding store, if any, is among the first ones.
+fn is_among(deciding: Option<usize>, made: usize) -> bool {
+    deciding.is_some_and(|deciding| deciding < made)
 }
 
 /// Numbers of stores after which to cut: of a short list all; of a long one those around marks, erases and the ends of byte runs, among them the

@@ -8,6 +8,7 @@ use varstore::paper::image::Parts;
 use varstore::paper::layout::{Authenticated, Layout, Plain};
 use varstore::paper::region::{self, values};
 use varstore::paper::request::{DB, DBT, DBX, KEK, PK};
+use varstore::paper::{Store, Stores};
 
 const PLAIN_VENDOR: Guid = [1, 2, 3, 4, 5, 6, 7, 8, 9, 10, 11, 12, 13, 14, 15, 16];
 const OTHER_VENDOR: Guid = [1, 2, 3, 4, 5, 6, 7, 8, 9, 10, 11, 12, 13, 14, 15, 17];
@@ -231,6 +232,33 @@ pub fn session(r: &mut Random) -> Session {
     session
 }
 
+/// Dead addresses, sometimes more than count: of stores that a call is to make, anywhere in the image, or outside.
+pub fn dead(r: &mut Random, list: Option<&Stores>, length: usize) -> Vec<u32> {
+    let count = r.pick(&[0, 1, 1, 1, 2, 3, 15, 16, 17, 40]);
+    let address = |_| match list.filter(|list| !list.is_empty()) {
+        Some(list) if !r.once_in(4) => stored_address(r, list),
+        _ if r.once_in(2) => r.below(length + 1),
+        _ => r.pick(&[length, length + 1, 99_999, u32::MAX as usize]),
+    };
+    (0..count).map(address).map(|address| address as u32).collect()
+}
+
+/// Where a list stores: near its ends and around its deciding store more often than elsewhere.
+fn stored_address(r: &mut Random, list: &Stores) -> usize {
+    let last = list.len() - 1;
+    let index = match r.below(6) {
+        0 => r.below(3),
+        1 => r.below(80),
+        2 => list.deciding().unwrap_or(0) + r.below(3),
+        3 => last - r.below(3).min(last),
+        _ => r.below(last + 1),
+    };
+    match list.get(index.min(last)).expect("a store of the list") {
+        Store::Byte(at, _) => at,
+        Store::Erase(block) => block * BLOCK + r.below(BLOCK),
+    }
+}
+
 /// b: 1 most often, each of 2 to 7 sometimes.
 pub fn blocks(r: &mut Random) -> usize {
     if r.once_in(3) {
@@ -254,7 +282,7 @@ pub fn filled(r: &mut Random, blocks: usize) -> Vec<u8> {
         let mut asked = asked(r);
         asked.presence = 1;
         let limit = if r.once_in(10) { r.below(300) as u64 } else { u64::MAX };
-        (PAPER.set)(Context { limit }, &session, &mut image, &asked.request());
+        (PAPER.set)(Context::with(limit), &session, &mut image, &asked.request());
         if r.once_in(10) {
             (PAPER.start_up)(Context::NO_LIMIT, &mut image, Setup::PLAIN);
         }

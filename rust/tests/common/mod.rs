@@ -2,8 +2,10 @@
 #![allow(dead_code)]
 
 pub mod book;
+pub mod cases;
 pub mod cuts;
 pub mod digest;
+pub mod failing;
 pub mod generate;
 pub mod random;
 pub mod rounds;

@@ -4,7 +4,7 @@ use super::generate::Asked;
 use varstore::calls::Calls;
 use varstore::engine;
 use varstore::interface::{Answer, Context, Rule, Session, Setup};
-use varstore::paper::{self, Store, Stores};
+use varstore::paper::{self, Made, Store, Stores};
 use varstore::plan::{Content, Plan};
 
 #[derive(Clone, Debug)]
@@ -66,13 +66,25 @@ impl Call {
     }
 }
 
-/// A host carries out the first n stores of a plan on the part, which only clears bits and erases blocks. No store asks a cleared bit to rise.
-pub fn carry_out(plan: &Plan, content: &Content, n: u64, part: &mut [u8]) {
+/// A host carries out the first n stores of a plan on its part, and reads each byte back: where it is not what was stored, the host goes no further. No store asks
+/// a cleared bit to rise.
+pub fn carry_out(plan: &Plan, content: &Content, n: u64, dead: &[u32], part: &mut [u8]) -> Made {
     let first = usize::try_from(n).unwrap_or(usize::MAX);
-    plan.stores(content).take(first).for_each(|store| {
-        if let Store::Byte(at, value) = store {
+    let failing = plan.stores(content).take(first).position(|store| !stored(store, dead, part));
+    Made { stores: failing.unwrap_or(plan.count().min(first)), failed: failing.is_some() }
+}
+
+/// One store on a part, which only clears bits and erases blocks; a dead byte keeps its bits. Whether it reads back as it was to be.
+fn stored(store: Store, dead: &[u32], part: &mut [u8]) -> bool {
+    match store {
+        Store::Erase(_) => store.make(part),
+        Store::Byte(at, value) => {
             assert!(value & !part[at] == 0, "at {at} {:02X} would become {value:02X}", part[at]);
+            if dead.contains(&(at as u32)) {
+                return part[at] == value;
+            }
+            store.make(part);
         }
-        store.make(part);
-    });
+    }
+    true
 }

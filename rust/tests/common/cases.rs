@@ -1,0 +1,93 @@
+//! The images and calls of the power cuts' cases, which other tests play too.
+
+use super::cuts::Run;
+use super::generate::{self, Asked, Name, BLOCK};
+use super::stored::Call;
+use super::{signed, A, B, NEW, OLD, RATE, VENDOR};
+use varstore::interface::{Answer, Key};
+
+pub const C: Key = Key { name: b"C\0\0\0", vendor: &VENDOR };
+pub const S: Key = Key { name: b"S\0\0\0", vendor: &VENDOR };
+
+pub fn asked(key: Key, attributes: u32, data: &[u8]) -> Asked {
+    Asked { name: Name { name: key.name.to_vec(), vendor: *key.vendor }, attributes, data: data.to_vec(), presence: 0, verdict: 3 }
+}
+
+pub fn set(key: Key, data: &[u8]) -> Call {
+    Call::Set(asked(key, 0x07, data))
+}
+
+pub fn delete(key: Key) -> Call {
+    Call::Set(asked(key, 0, &[]))
+}
+
+/// A run on an empty store. Its former region holds other values under the same names.
+pub fn empty(blocks: usize) -> Run {
+    let image = generate::empty(blocks);
+    let mut former = Run::new(image.clone(), image[..blocks * BLOCK].to_vec());
+    for (key, data) in [(RATE, &[0xE0; 4][..]), (B, &[0xE1; 700]), (A, &[0xE2; 500])] {
+        former.whole(&set(key, data));
+    }
+    Run::new(image, former.image[..blocks * BLOCK].to_vec())
+}
+
+/// The cases' images are made by whole and stopped calls.
+impl Run {
+    pub fn whole(&mut self, call: &Call) -> u64 {
+        match self.make(call, u64::MAX) {
+            Answer::Done(stores) => stores,
+            other => panic!("{other:?} is the answer to {call:?}"),
+        }
+    }
+
+    pub fn with(mut self, key: Key, data: &[u8]) -> Run {
+        self.whole(&set(key, data));
+        self
+    }
+
+    pub fn stopped(mut self, call: &Call, n: u64) -> Run {
+        assert_eq!(self.make(call, n), Answer::Stopped);
+        self
+    }
+
+    /// The same with so many records used.
+    pub fn recorded(mut self, used: usize) -> Run {
+        let work = self.former.len();
+        self.image[work..][..used].fill(0xF8);
+        self
+    }
+}
+
+/// A store in which RATE has a 3F entry, and a leftover 3E beside it.
+pub fn with_leftover() -> Run {
+    empty(1).with(RATE, OLD).with(A, OLD).stopped(&set(RATE, NEW), 76)
+}
+
+/// A store in which RATE has a 3E entry only.
+pub fn being_replaced() -> Run {
+    empty(1).with(RATE, OLD).with(A, OLD).stopped(&set(RATE, NEW), 1)
+}
+
+/// A region whose tail has no room for more than some bytes: deleted entries, a leftover beside its 3F, a 3E alone, and
+/// a value with a stamp are in it.
+pub fn crowded(blocks: usize) -> Run {
+    let mut run = empty(blocks).with(RATE, OLD).stopped(&set(RATE, NEW), 76).with(C, OLD).stopped(&set(C, NEW), 1);
+    run.whole(&Call::Set(asked(S, 0x27, &signed(2024, OLD))));
+    let more = (0..2 * blocks as u8 - 1).fold(run.with(A, &[1; 700]), |run, turn| run.with(B, &[turn; 2000]));
+    more.with(A, &[2; 600])
+}
+
+/// What compacts a crowded region.
+pub fn compacting() -> Call {
+    set(A, &[3; 700])
+}
+
+/// A compaction of b blocks makes 1 + L stores before its deciding one, of index 1 + L.
+pub fn decided(blocks: usize) -> u64 {
+    (blocks * BLOCK + 2) as u64
+}
+
+/// The start id's first byte stands in the tail.
+pub fn with_dirty_tail(blocks: usize) -> Run {
+    empty(blocks).with(A, &[1; 500]).with(RATE, OLD).stopped(&set(B, NEW), 1)
+}
