@@ -61,3 +61,15 @@ pub(crate) fn vendor(s: &[u8], at: usize) -> [u8; 16] {
     }
     guid
 }
+
+// Sixteen numbers of four bytes.
+pub(crate) fn addresses(s: &[u8], at: usize) -> [u32; 16] {
+    let field = slices::cut(s, at, 64);
+    let mut list = [0u32; 16];
+    let mut i = 0;
+    while i < 16 {
+        list[i] = long(field, 4 * i) as u32;
+        i += 1;
+    }
+    list
+}

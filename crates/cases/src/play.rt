@@ -16,6 +16,7 @@
 //                  stand, and the image is moved into it
 //   E  bytes of the target shown: offset u32, size u16
 //   T  the target taken as the image: its length, and its bytes
+//   W  dead bytes  count u8, sixteen addresses u32: given with every call from there on, as none are before
 // Numbers are little-endian; a field past the script's end counts as zeros or empty. Before the first format the image has no bytes, and before the first move
 // the target has none.
 ghost use Prim.Native.Nat.{_<_, _^_};
@@ -30,16 +31,32 @@ use model::Named;
 use model::Session;
 use model::Setup;
 
-fn context(step: &[u8]) -> Context {
+// What is carried from a step to the next: the session, and the last step's context for its dead bytes.
+struct Carried {
+    session: Session,
+    context: Context,
+}
+
+// What a call takes beside its own arguments: the step's limit, and the dead bytes that were given before, where the step gives no others.
+fn context(step: &[u8], before: Context) -> Context {
     let n = fields::long(step, 1);
     let mut limit = n as u64;
     if n == 0xFFFFFFFF {
         limit = 0xFFFFFFFFFFFFFFFF;
     }
+    if fields::byte(step, 0) == b'W' {
+        let given = fields::addresses(step, 6);
+        return Context {
+            limit,
+            count: fields::byte(step, 5) as u32,
+            dead: given,
+        };
+    }
+    let dead = before.dead;
     Context {
         limit,
-        count: 0,
-        dead: [0; 16],
+        count: before.count,
+        dead,
     }
 }
 
@@ -54,36 +71,28 @@ fn content() -> [u8; layout::CONTENT] {
     [0; layout::CONTENT]
 }
 
-fn format(step: &[u8], image: &mut [u8]) {
+fn format(c: Context, image: &mut [u8]) {
     let mut content = content();
-    print_answer(
-        b"format",
-        engine::write::format(context(step), image, &mut content),
-    );
+    print_answer(b"format", engine::write::format(c, image, &mut content));
 }
 
-fn start_up(step: &[u8], image: &mut [u8]) -> Session {
+fn start_up(c: Context, step: &[u8], image: &mut [u8]) -> Session {
     let custom = fields::byte(step, 5) as u32;
     let reserve = fields::long(step, 6) as u32;
     let mut content = content();
-    let started = engine::start::start_up(
-        context(step),
-        image,
-        Setup { custom, reserve },
-        &mut content,
-    );
+    let started = engine::start::start_up(c, image, Setup { custom, reserve }, &mut content);
     let answer = started.answer;
     print_answer(b"start-up", answer);
     started.session
 }
 
-fn set(step: &[u8], image: &mut [u8], s: Session) {
+fn set(c: Context, step: &[u8], image: &mut [u8], s: Session) {
     let vendor = fields::vendor(step, 11);
     let size = fields::short(step, 27);
     let attributes = fields::long(step, 5) as u32;
     let mut content = content();
     let answer = engine::write::set(
-        context(step),
+        c,
         s,
         image,
         slices::cut(step, 33, size),
@@ -116,15 +125,15 @@ fn buffer_size(step: &[u8], space: &[u8]) -> usize
     fields::least(fields::short(step, 5), space)
 }
 
-fn got_into(step: &[u8], image: &[u8], s: Session, buffer: &mut [u8]) -> Got {
+fn got_into(c: Context, step: &[u8], image: &[u8], s: Session, buffer: &mut [u8]) -> Got {
     let vendor = fields::vendor(step, 7);
     let name = slices::cut(step, 25, fields::short(step, 23));
-    engine::read::get(context(step), s, image, name, &vendor, buffer)
+    engine::read::get(c, s, image, name, &vendor, buffer)
 }
 
-fn get(step: &[u8], image: &[u8], s: Session, space: &mut [u8]) {
+fn get(c: Context, step: &[u8], image: &[u8], s: Session, space: &mut [u8]) {
     let size = buffer_size(step, space);
-    let got = got_into(step, image, s, &mut space[..size]);
+    let got = got_into(c, step, image, s, &mut space[..size]);
     print_got(got, space);
 }
 
@@ -139,26 +148,26 @@ fn print_named(named: Named, buffer: &[u8]) {
     print::end();
 }
 
-fn named_into(step: &[u8], image: &[u8], s: Session, buffer: &mut [u8]) -> Named {
+fn named_into(c: Context, step: &[u8], image: &[u8], s: Session, buffer: &mut [u8]) -> Named {
     let vendor = fields::vendor(step, 7);
     let name = slices::cut(step, 25, fields::short(step, 23));
-    engine::read::next_name(context(step), s, image, name, &vendor, buffer)
+    engine::read::next_name(c, s, image, name, &vendor, buffer)
 }
 
-fn next_name(step: &[u8], image: &[u8], s: Session, space: &mut [u8]) {
+fn next_name(c: Context, step: &[u8], image: &[u8], s: Session, space: &mut [u8]) {
     let size = buffer_size(step, space);
-    let named = named_into(step, image, s, &mut space[..size]);
+    let named = named_into(c, step, image, s, &mut space[..size]);
     print_named(named, space);
 }
 
 // A get or a next-name, with room for its buffer.
-fn read(step: &[u8], image: &[u8], s: Session) {
+fn read(c: Context, step: &[u8], image: &[u8], s: Session) {
     let mut space = io::large_buffer();
     if fields::byte(step, 0) == b'G' {
-        get(step, image, s, &mut space);
+        get(c, step, image, s, &mut space);
         return;
     }
-    next_name(step, image, s, &mut space);
+    next_name(c, step, image, s, &mut space);
 }
 
 fn lock(step: &[u8], s: Session) -> Session {
@@ -219,28 +228,35 @@ fn take_target(image: &mut [u8], target: &[u8]) {
     print::word(b"target taken\n");
 }
 
+// The number of dead bytes as it is given, also above sixteen.
+fn print_dead(c: Context) {
+    print::number(b"dead ", c.count as u64);
+    print::end();
+}
+
 // A step that leaves the session as it is.
-fn call(step: &[u8], image: &mut [u8], target: &mut [u8], s: Session) {
+fn call(c: Context, step: &[u8], image: &mut [u8], target: &mut [u8], s: Session) {
     match fields::byte(step, 0) {
-        b'F' => format(step, image),
-        b'S' => set(step, image, s),
-        b'G' => read(step, image, s),
-        b'N' => read(step, image, s),
+        b'F' => format(c, image),
+        b'S' => set(c, step, image, s),
+        b'G' => read(c, step, image, s),
+        b'N' => read(c, step, image, s),
         b'B' => poke(step, image),
         b'D' => show(step, image),
         b'V' => varlist(image),
         b'M' => move_image(step, image, target),
         b'E' => show(step, target),
         b'T' => take_target(image, target),
+        b'W' => print_dead(c),
         _ => print::word(b"no such step\n"),
     }
 }
 
 // A step played; the session after it.
-fn play_step(step: &[u8], image: &mut [u8], target: &mut [u8], s: Session) -> Session {
+fn play_step(c: Context, step: &[u8], image: &mut [u8], target: &mut [u8], s: Session) -> Session {
     let kind = fields::byte(step, 0);
     if kind == b'U' {
-        return start_up(step, image);
+        return start_up(c, step, image);
     }
     if kind == b'L' {
         return lock(step, s);
@@ -248,8 +264,14 @@ fn play_step(step: &[u8], image: &mut [u8], target: &mut [u8], s: Session) -> Se
     if kind == b'P' {
         return phase(step, s);
     }
-    call(step, image, target, s);
+    call(c, step, image, target, s);
     s
+}
+
+fn carry(step: &[u8], image: &mut [u8], target: &mut [u8], before: Carried) -> Carried {
+    let context = context(step, before.context);
+    let session = play_step(context, step, image, target, before.session);
+    Carried { session, context }
 }
 
 // The bytes that a step takes.
@@ -268,6 +290,7 @@ fn step_size(step: &[u8]) -> usize
         b'D' => 11,
         b'M' => 10,
         b'E' => 11,
+        b'W' => 70,
         _ => 5,
     }
 }
@@ -305,12 +328,23 @@ fn image_size(step: &[u8], size: usize, room: usize, buffer: &[u8]) -> usize
     fields::least(asked_size(step, size, room), buffer)
 }
 
-// The steps of a script, over a buffer for the image and one for the target of moves.
-fn play_steps(script: &[u8], buffer: &mut [u8], other: &mut [u8]) {
-    let mut s = Session::fresh(Setup {
+// Before the first step: a fresh session, and no dead bytes.
+fn nothing() -> Carried {
+    let session = Session::fresh(Setup {
         custom: 0,
         reserve: 0,
     });
+    let context = Context {
+        limit: 0,
+        count: 0,
+        dead: [0; 16],
+    };
+    Carried { session, context }
+}
+
+// The steps of a script, over a buffer for the image and one for the target of moves.
+fn play_steps(script: &[u8], buffer: &mut [u8], other: &mut [u8]) {
+    let mut carried = nothing();
     let mut size: usize = 0;
     let mut room: usize = 0;
     let mut at: usize = 0;
@@ -318,7 +352,7 @@ fn play_steps(script: &[u8], buffer: &mut [u8], other: &mut [u8]) {
         let step = slices::cut(script, at, 65536);
         room = target_size(step, room, other);
         size = image_size(step, size, room, buffer);
-        s = play_step(step, &mut buffer[..size], &mut other[..room], s);
+        carried = carry(step, &mut buffer[..size], &mut other[..room], carried);
         at += step_size(step);
     }
 }

@@ -8,13 +8,13 @@ use Rattle.cases.proofs.play.play_steps.Statement.{statement}
 use Rattle.cases.proofs.play.play_steps.Tie as tie
 
 abbrev Inv-loop : tie.InvT-loop
-Inv-loop script buffer₀ other₀ s₀ size₀ room₀ at₀ buffer other s size room at = (length buffer ≡ length buffer₀) × (length other ≡ length other₀) × (length script < 2 ^ 63)
+Inv-loop script buffer₀ other₀ carried₀ size₀ room₀ at₀ buffer other carried size room at = (length buffer ≡ length buffer₀) × (length other ≡ length other₀) × (length script < 2 ^ 63)
 
 abbrev μ-loop : tie.MeasureT-loop
-μ-loop script buffer₀ other₀ s₀ size₀ room₀ at₀ buffer other s size room at = length script - at
+μ-loop script buffer₀ other₀ carried₀ size₀ room₀ at₀ buffer other carried size room at = length script - at
 
-fresh-requires : tie.Need-fresh-requires Inv-loop μ-loop
-fresh-requires c κs = search needs
+nothing-requires : tie.Need-nothing-requires Inv-loop μ-loop
+nothing-requires c κs = search needs
 
 loop-holds : tie.Need-loop-holds Inv-loop μ-loop
 loop-holds c = search needs
@@ -28,20 +28,20 @@ target-size-requires c κs = search needs
 image-size-requires : tie.Need-image-size-requires Inv-loop μ-loop
 image-size-requires c κs = search needs
 
-slice-relend-prefix-play-step : tie.Need-slice-relend-prefix-play-step Inv-loop μ-loop
-slice-relend-prefix-play-step c = search needs
+slice-relend-prefix-carry : tie.Need-slice-relend-prefix-carry Inv-loop μ-loop
+slice-relend-prefix-carry c = search needs
 
-slice-aggregate-play-step : tie.Need-slice-aggregate-play-step Inv-loop μ-loop
-slice-aggregate-play-step c = search needs
+slice-aggregate-carry : tie.Need-slice-aggregate-carry Inv-loop μ-loop
+slice-aggregate-carry c = search needs
 
-slice-relend-prefix-play-step-2 : tie.Need-slice-relend-prefix-play-step-2 Inv-loop μ-loop
-slice-relend-prefix-play-step-2 c = search needs
+slice-relend-prefix-carry-2 : tie.Need-slice-relend-prefix-carry-2 Inv-loop μ-loop
+slice-relend-prefix-carry-2 c = search needs
 
-slice-aggregate-play-step-2 : tie.Need-slice-aggregate-play-step-2 Inv-loop μ-loop
-slice-aggregate-play-step-2 c = search needs
+slice-aggregate-carry-2 : tie.Need-slice-aggregate-carry-2 Inv-loop μ-loop
+slice-aggregate-carry-2 c = search needs
 
-play-step-requires : tie.Need-play-step-requires Inv-loop μ-loop
-play-step-requires c κs = search needs
+carry-requires : tie.Need-carry-requires Inv-loop μ-loop
+carry-requires c κs = search needs
 
 step-size-requires : tie.Need-step-size-requires Inv-loop μ-loop
 step-size-requires c κs = search needs
@@ -70,16 +70,16 @@ play-steps-spec =
     (tie.spec
     Inv-loop
     μ-loop
-    fresh-requires
+    nothing-requires
     loop-holds
     cut-requires
     target-size-requires
     image-size-requires
-    slice-relend-prefix-play-step
-    slice-aggregate-play-step
-    slice-relend-prefix-play-step-2
-    slice-aggregate-play-step-2
-    play-step-requires
+    slice-relend-prefix-carry
+    slice-aggregate-carry
+    slice-relend-prefix-carry-2
+    slice-aggregate-carry-2
+    carry-requires
     step-size-requires
     add-at
     loop-less
