@@ -1,19 +1,21 @@
--- Stores that fail at dead addresses: with none dead no store fails; one store more, or many, are made, or the next one fails. By induction over the list.
+-- Stores that fail at dead addresses: a store of one byte fails there alone; with none dead no store fails; one store more, or many, are made, or the next one fails. By
+-- induction over the list.
 -- Assumes nothing.
 use Prim.Native.Nat.{ℕ, zero, suc, _+_, _-_, _≤_, _<_, min}
 use native.Mathlib.Nat.{zero-add}
 use native.Mathlib.Omega.{arith}
 use mathlib.Core.Path.{_≡_, refl, sym, ap, _∙_, subst}
-use mathlib.Core.Bool.{Bool, true, false, cond}
+use mathlib.Core.Bool.{Bool, true, false, cond, _&&_, _||_}
+use mathlib.Core.Logic.{_≢_}
 use mathlib.Core.List.{List, [], _∷_, _++_}
-use lib.ListN.{length, drop, take, length-append}
-use lib.Seq.{take-nil, take-all}
-use lib.Dec.{leb, ltb}
-use borrow.Author.Tests.{leb-true, leb-false, le-leb, lt-leb, le-ltb, lt-ltb, ltb-true}
+use lib.ListN.{length, drop, take, getD}
+use lib.Dec.{eqb, leb, ltb}
+use borrow.Author.Tests.{eqb-true, eqb-false, leb-true, leb-false, le-leb, lt-leb, le-ltb, lt-ltb, ltb-true}
 use Rattle.model.specs.declared.Context.{Context}
-use Rattle.model.specs.Stores.{Store, byte, erase, apply, applyAll, after, fails, reach}
+use Rattle.model.specs.Lists.{any, among}
+use Rattle.model.specs.Stores.{Store, page, byte, erase, Write, stores, apply, applyAll, after, falls, fails, reach}
 use Rattle.model.specs.Set.{Plan, refuse, make}
-use Rattle.model.specs.Answers.{done, stopped, refused, storesOf, deadOf, madeOf, ended, outcome, imageAfter}
+use Rattle.model.specs.Answers.{done, stopped, refused, storesOf, deadOf, pageOf, madeOf, ended, outcome, imageAfter}
 use Rattle.model.proofs.Stores.{after-all}
 
 pub reach-few : (dead : List ℕ) (ss : List Store) (img : List ℕ) → reach dead ss img ≤ length ss
@@ -25,17 +27,51 @@ reach-few dead (s ∷ ss) img = go (fails dead s img) (reach-few dead ss (apply 
     go true h = omega arith
     go false h = omega arith
 
+-- ---- a store of one byte
+
+-- one byte fails at a dead address where a bit would have to fall
+byte-touched : (at a v : ℕ) (img : List ℕ) → at ≡ a → (leb at a && ltb a (at + 1) && falls (getD img a 0) (getD (v ∷ []) (a - at) 0)) ≡ falls (getD img at 0) v
+byte-touched at a v img e =
+    let none : a - at ≡ 0 = omega arith in
+    rw (le-leb at a (omega arith), lt-ltb a (at + 1) (omega arith), none, ← e)
+
+byte-missed : (at a v : ℕ) (img : List ℕ) → at ≢ a → (leb at a && ltb a (at + 1) && falls (getD img a 0) (getD (v ∷ []) (a - at) 0)) ≡ false
+byte-missed at a v img n = go (leb at a) (ltb a (at + 1)) refl refl
+  where
+    go : (t u : Bool) → leb at a ≡ t → ltb a (at + 1) ≡ u → (t && u && falls (getD img a 0) (getD (v ∷ []) (a - at) 0)) ≡ false
+    go true true e f = absurd (let p = leb-true at a e in let q = ltb-true a (at + 1) f in omega (arith, n))
+    go true false e f = refl
+    go false true e f = refl
+    go false false e f = refl
+
+absorbs : (f a : Bool) → (f || (a && f)) ≡ f
+absorbs true a = refl
+absorbs false true = refl
+absorbs false false = refl
+
+pub fails-byte : (dead : List ℕ) (at v : ℕ) (img : List ℕ) → fails dead (byte at v) img ≡ (among dead at && falls (getD img at 0) v)
+unfolding fails
+fails-byte [] at v img = refl
+fails-byte (a ∷ dead) at v img = go (eqb at a) refl (fails-byte dead at v img)
+  where
+    go : (t : Bool) → eqb at a ≡ t → any (λ a. leb at a && ltb a (at + 1) && falls (getD img a 0) (getD (v ∷ []) (a - at) 0)) dead ≡ (among dead at && falls (getD img at 0) v)
+        → ((leb at a && ltb a (at + 1) && falls (getD img a 0) (getD (v ∷ []) (a - at) 0))
+        || any (λ a. leb at a && ltb a (at + 1) && falls (getD img a 0) (getD (v ∷ []) (a - at) 0)) dead)
+        ≡ ((t || among dead at) && falls (getD img at 0) v)
+    go true e h = rw (byte-touched at a v img (eqb-true at a e), h) (absorbs (falls (getD img at 0) v) (among dead at))
+    go false e h = rw (byte-missed at a v img (eqb-false at a e)) h
+
 -- ---- none is dead
 
 pub reach-none : (ss : List Store) (img : List ℕ) → reach [] ss img ≡ length ss
 unfolding reach fails
 reach-none [] img = refl
-reach-none (byte at v ∷ ss) img = ap suc (reach-none ss (apply (byte at v) img))
+reach-none (page at bs ∷ ss) img = ap suc (reach-none ss (apply (page at bs) img))
 reach-none (erase b ∷ ss) img = ap suc (reach-none ss (apply (erase b) img))
 
--- a context of n stores and no dead byte
+-- a context of n stores, no dead byte, and stores of one byte
 abbrev pub unworn : ℕ → Context
-unworn n = record { limit = n; count = 0; dead = [] }
+unworn n = record { limit = n; count = 0; dead = []; width = 1 }
 
 none-dead : (x : Context) → x .count ≡ 0 → deadOf x ≡ []
 none-dead x e = rw e
@@ -59,20 +95,22 @@ after-min n ss img = go (leb (length ss) n) refl
         let same : min n (length ss) ≡ n = omega arith in
         ap (λ (k : ℕ). after k ss img) same
 
-pub outcome-none : (x : Context) (to on : List Store) (img : List ℕ) → x .count ≡ 0
-    → outcome x (make to on) img ≡ cond (leb (length (to ++ on)) (x .limit)) (done (length (to ++ on))) stopped
+pub outcome-none : (x : Context) (to on : List Write) (img : List ℕ) → x .count ≡ 0
+    → outcome x (make to on) img ≡ cond (leb (length (stores (pageOf x) (to ++ on))) (x .limit)) (done (length (stores (pageOf x) (to ++ on)))) stopped
 unfolding outcome
 outcome-none x to on img e =
-    ap (λ (d : List ℕ). ended (x .limit) (reach d (to ++ on) img) (length (to ++ on))) (none-dead x e)
-    ∙ ap (λ (n : ℕ). ended (x .limit) n (length (to ++ on))) (reach-none (to ++ on) img)
-    ∙ ended-whole (x .limit) (length (to ++ on))
+    let ss : List Store = stores (pageOf x) (to ++ on) in
+    ap (λ (d : List ℕ). ended (x .limit) (reach d ss img) (length ss)) (none-dead x e)
+    ∙ ap (λ (n : ℕ). ended (x .limit) n (length ss)) (reach-none ss img)
+    ∙ ended-whole (x .limit) (length ss)
 
-pub image-none : (x : Context) (plan : Plan) (img : List ℕ) → x .count ≡ 0 → imageAfter x plan img ≡ after (x .limit) (storesOf plan) img
+pub image-none : (x : Context) (plan : Plan) (img : List ℕ) → x .count ≡ 0 → imageAfter x plan img ≡ after (x .limit) (storesOf (pageOf x) plan) img
 unfolding imageAfter madeOf
 image-none x plan img e =
-    ap (λ (d : List ℕ). after (min (x .limit) (reach d (storesOf plan) img)) (storesOf plan) img) (none-dead x e)
-    ∙ ap (λ (n : ℕ). after (min (x .limit) n) (storesOf plan) img) (reach-none (storesOf plan) img)
-    ∙ after-min (x .limit) (storesOf plan) img
+    let ss : List Store = storesOf (pageOf x) plan in
+    ap (λ (d : List ℕ). after (min (x .limit) (reach d ss img)) ss img) (none-dead x e)
+    ∙ ap (λ (n : ℕ). after (min (x .limit) n) ss img) (reach-none ss img)
+    ∙ after-min (x .limit) ss img
 
 -- ---- stores made one list after another
 

@@ -1,6 +1,8 @@
 -- Laws about the definitions.
--- Lists of stores: composition, and what a run of bytes leaves
+-- Writes and their stores: composition, pages, and what a run of bytes leaves
 pub mod Stores
+-- Pages, as a loop that stores meets them
+pub mod Pages
 -- Stores that fail at dead addresses
 pub mod Failing
 -- Boolean tests, and tests of equal lists and names

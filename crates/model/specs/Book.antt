@@ -1,6 +1,7 @@
 -- 01, the run, the book and Demand 3; and the two claims about bits. Each claim is a type; `recovery` proves them.
-use Prim.Native.Nat.{ℕ, _+_}
+use Prim.Native.Nat.{ℕ, _+_, _<_}
 use mathlib.Core.Path.{_≡_}
+use mathlib.Core.Logic.{_≢_}
 use mathlib.Core.Bool.{Bool, true, false, _&&_, _||_}
 use mathlib.Core.List.{List, [], _∷_}
 use mathlib.Core.Option.{none}
@@ -20,10 +21,10 @@ use Rattle.model.specs.Region.{entries, tailAt, valuesOf}
 use Rattle.model.specs.Work.{recordSpace}
 use Rattle.model.specs.Request.{Request}
 use Rattle.model.specs.Change.{Change, nothing, remove, put, changeIn, step}
-use Rattle.model.specs.Stores.{Store, byte, erase, apply, Bytes, Uncleared, Cut, Clears, difference}
+use Rattle.model.specs.Stores.{Store, page, erase, apply, Bytes, Uncleared, Cut, Clears, difference}
 use Rattle.model.specs.Set.{Plan, setPlan, fitsTail}
 use Rattle.model.specs.StartUp.{startUpPlan, formatPlan}
-use Rattle.model.specs.Answers.{Outcome, done, stopped, refused, outcome, imageAfter, madeOf, storesOf, decided, getPlan, nextPlan}
+use Rattle.model.specs.Answers.{Outcome, done, stopped, refused, outcome, imageAfter, madeOf, pageOf, storesOf, decided, getPlan, nextPlan}
 use Rattle.model.specs.Move.{moveBroken, imageMoved}
 
 -- "sets (deletes among them), gets, next-names and start-ups": each with its session and arguments, a start-up with custom mode and R
@@ -64,7 +65,8 @@ unfoldable pub bookAfter : Call → Bool → List Value → List Value
 bookAfter c true book = entered c book
 bookAfter c false book = book
 
--- "A run is any list, also empty, of" calls: image and book after it, from the image that it began on
+-- "A run is any list, also empty, of" calls: image and book after it, from the image that it began on. 02 (i), "for w as a variable": each call has its own, a
+-- cut one any number
 pub data Run (start : List ℕ) : List ℕ → List Value → Type 0 where
   begin : Run start start (valuesOf start)
   ran : {img : List ℕ}
@@ -73,15 +75,18 @@ pub data Run (start : List ℕ) : List ℕ → List Value → Type 0 where
       → (c : Call)
       → Sized c
       → (x : Context)
-      → Run start (imageAfter x (planOf c img) img) (bookAfter c (counts (outcome x (planOf c img) img) (decided (madeOf x (planOf c img) img) (planOf c img))) book)
+      → Run
+      start
+      (imageAfter x (planOf c img) img)
+      (bookAfter c (counts (outcome x (planOf c img) img) (decided (pageOf x) (madeOf x (planOf c img) img) (planOf c img))) book)
   cut : {img img′ : List ℕ}
       {book : List Value}
       → Run start img book
       → (c : Call)
       → Sized c
-      → (k : ℕ)
-      → Cut (storesOf (planOf c img)) k img img′
-      → Run start img′ (bookAfter c (decided k (planOf c img)) book)
+      → (w k : ℕ)
+      → Cut (storesOf w (planOf c img)) k img img′
+      → Run start img′ (bookAfter c (decided w k (planOf c img)) book)
 
 -- "an image as a done start-up left it"
 pub record StartedUp (img : List ℕ) : Type 0 where
@@ -117,18 +122,18 @@ Agrees (startUp setup) x img book =
 abbrev pub AgreesAll : {start img : List ℕ} {book : List Value} → Run start img book → Type 0
 AgreesAll begin = Unit {0}
 AgreesAll (ran {img} {book} run c sized x) = AgreesAll run × Agrees c x img book
-AgreesAll (cut run c sized k left) = AgreesAll run
+AgreesAll (cut run c sized w k left) = AgreesAll run
 
 -- *Demand 3*. It is also 02 (b), "A cut keeps data and stamp together": a cut append leaves the book as it was, or enters `newValue`, which has both
 abbrev pub Demand3 : Type 0
 Demand3 = (start img : List ℕ) (book : List Value) → Begins start → (run : Run start img book) → AgreesAll run
 
--- "it may only clear bits": no byte store of any call, formatting among them, on any image, asks a cleared bit to rise
+-- "it may only clear bits": no byte store of any call, formatting among them, on any image, with any w, asks a cleared bit to rise
 abbrev pub NoBitRises : Type 0
 NoBitRises =
-    (img : List ℕ)
+    (w : ℕ) (img : List ℕ)
     → Bytes img
-    → ((c : Call) → Sized c → Clears (storesOf (planOf c img)) img) × Clears (storesOf (formatPlan img)) img
+    → ((c : Call) → Sized c → Clears (storesOf w (planOf c img)) img) × Clears (storesOf w (formatPlan img)) img
 
 -- the places of records, and of the states of entries, also of the next one
 unfoldable pub isRecord : List ℕ → ℕ → Bool
@@ -141,13 +146,19 @@ isState img at =
 -- a byte store clears exactly one bit: none rises, and old and new differ in one; "so a cut leaves the old state or the new"
 abbrev pub ClearsOneBit : ℕ → ℕ → Type 0
 ClearsOneBit old new =
-    (bitAnd old new ≡ new) × (difference old new ≡ 1) × ((x : ℕ) → Uncleared old new x → x ≡ old)
+    (bitAnd old new ≡ new) × (difference old new ≡ 1) × ((x : ℕ) → Uncleared old new x → x ≢ new → x ≡ old)
 
--- a list's byte stores at such places do
+-- 02 (i), "state and record marks are single bytes": a store of so many bytes changes a mark only if it is of that byte alone, and then it clears exactly one bit of it; a
+-- longer one, as a header's page around the "FF in the place of its state", stores it as it stands
+abbrev pub MarksAlone : ℕ → ℕ → ℕ → Type 0
+MarksAlone long old new = (long ≡ 1 → ClearsOneBit old new) × (long ≢ 1 → new ≡ old)
+
+-- a list's stores do, at every such place that they touch
 abbrev pub ClearsOne : (ℕ → Bool) → List Store → List ℕ → Type 0
 ClearsOne marks [] img = Unit {0}
-ClearsOne marks (byte at v ∷ ss) img =
-    (marks at ≡ true → ClearsOneBit (getD img at 0) v) × ClearsOne marks ss (apply (byte at v) img)
+ClearsOne marks (page at bs ∷ ss) img =
+    ((i : ℕ) → i < length bs → marks (at + i) ≡ true → MarksAlone (length bs) (getD img (at + i) 0) (getD bs i 0))
+    × ClearsOne marks ss (apply (page at bs) img)
 ClearsOne marks (erase b ∷ ss) img = ClearsOne marks ss (apply (erase b) img)
 
 -- a change in place, by a tail write or a delete: a compaction fills spare and region with whole bytes, which are no marks of states
@@ -156,18 +167,18 @@ inPlace img nothing = true
 inPlace img (remove k) = true
 inPlace img (put v) = fitsTail (region img) v
 
-abbrev pub StatesClearOneBit : Call → List ℕ → Type 0
-StatesClearOneBit (set s r) img =
-    inPlace img (changeIn r (valuesOf img)) ≡ true → ClearsOne (isState img) (storesOf (setPlan s r img)) img
-StatesClearOneBit (get s k buffer) img = Unit {0}
-StatesClearOneBit (next s k buffer) img = Unit {0}
-StatesClearOneBit (startUp setup) img = Unit {0}
+abbrev pub StatesClearOneBit : ℕ → Call → List ℕ → Type 0
+StatesClearOneBit w (set s r) img =
+    inPlace img (changeIn r (valuesOf img)) ≡ true → ClearsOne (isState img) (storesOf w (setPlan s r img)) img
+StatesClearOneBit w (get s k buffer) img = Unit {0}
+StatesClearOneBit w (next s k buffer) img = Unit {0}
+StatesClearOneBit w (startUp setup) img = Unit {0}
 
 -- "Every change of state clears exactly one bit": every mark of a record, by any call, and of a state, by a set in place
 abbrev pub MarksClearOneBit : Type 0
 MarksClearOneBit =
-    (img : List ℕ)
+    (w : ℕ) (img : List ℕ)
     → Bytes img
     → (c : Call)
     → Sized c
-    → ClearsOne (isRecord img) (storesOf (planOf c img)) img × StatesClearOneBit c img
+    → ClearsOne (isRecord img) (storesOf w (planOf c img)) img × StatesClearOneBit w c img

@@ -1,7 +1,7 @@
 -- 01, "What a set does": the stores of a set, up to the deciding store and on from there.
 use Prim.Native.Nat.{ℕ, _+_, _-_}
 use mathlib.Core.Bool.{Bool, cond}
-use mathlib.Core.List.{List, [], _++_}
+use mathlib.Core.List.{List, [], _∷_, _++_}
 use lib.ListN.{length}
 use lib.Dec.{leb}
 use Rattle.model.specs.declared.Session.{Session}
@@ -16,33 +16,32 @@ use Rattle.model.specs.Region.{entries, tailAt, valuesOf, added, replaci
 use Rattle.model.specs.Request.{Request}
 use Rattle.model.specs.Change.{Change, nothing, remove, put, changeIn, step}
 use Rattle.model.specs.Rules.{setBroken}
-use Rattle.model.specs.Stores.{Store, run, mark}
+use Rattle.model.specs.Stores.{Write, header, run, mark}
 use Rattle.model.specs.Compact.{compactTo, compactOn}
 
--- what a call is to do: a refusal, or its stores up to the deciding one and on from there
+-- what a call is to do, whatever w is: a refusal, or what it writes up to the deciding store and on from there
 pub data Plan : Type 0 where
   refuse : Rule → Plan
-  make : List Store → List Store → Plan
+  make : List Write → List Write → Plan
 
 -- an entry's state is changed; the region stands at the image's front, so its offsets are the image's
-abbrev pub markState : ℕ → ℕ → List Store
+abbrev pub markState : ℕ → ℕ → List Write
 markState at state = mark (at + stateAt) state
 
 -- "a leftover 3E beside a 3F becomes 3C"
-unfoldable pub leftover : Key → List Entry → List Store
+unfoldable pub leftover : Key → List Entry → List Write
 leftover k es = onSome (added k es) (λ f. onSome (replacing k es) (λ e. markState (e .at) 0x3C) []) []
 
--- "header bytes in rising order without state; state 7F; name; data"
-unfoldable pub entryStores : ℕ → Value → List Store
+-- "header bytes in rising order without state; state 7F; name; data"; 02 (i), "header, name and data are each cut at page ends"
+unfoldable pub entryStores : ℕ → Value → List Write
 entryStores at v =
-    run at headerFront
-    ++ run (at + stateAt + 1) (headerRest v)
+    (header at headerFront (headerRest v) ∷ [])
     ++ markState at 0x7F
     ++ run (at + headerSize) (v .name)
     ++ run (at + headerSize + length (v .name)) (v .bytes)
 
 -- "In the tail ..: a leftover 3E beside a 3F becomes 3C; the 3F becomes 3E; (the entry); state 3F (deciding);
-unfoldable pub tailTo : ℕ → Value → List Entry → List Store
+unfoldable pub tailTo : ℕ → Value → List Entry → List Write
 tailTo at v es =
     leftover (keyOf v) es
     ++ onSome (added (keyOf v) es) (λ e. markState (e .at) 0x3E) []
@@ -50,11 +49,11 @@ tailTo at v es =
     ++ markState at 0x3F
 
 --  the old entry 3C."
-unfoldable pub tailOn : Value → List Entry → List Store
+unfoldable pub tailOn : Value → List Entry → List Write
 tailOn v es = onSome (standing (keyOf v) es) (λ e. markState (e .at) 0x3C) []
 
 -- "Delete: leftover first, then bit 0x02 of the state cleared (deciding)": 3F becomes 3D, 3E alone becomes 3C
-unfoldable pub deleteTo : Key → List Entry → List Store
+unfoldable pub deleteTo : Key → List Entry → List Write
 deleteTo k es = leftover k es ++ onSome (standing k es) (λ e. markState (e .at) (stateOf e - 0x02)) []
 
 -- "In the tail, if the rounded entry fits"
