@@ -1,4 +1,4 @@
--- A plan in numbers: each operation's numbers are its stores, so those of the operations up to the deciding one, and of the others, are what was planned.
+-- A plan in numbers: each operation's numbers write what it writes, so those of the operations up to the deciding one, and of the others, are what was planned.
 -- Assumes nothing.
 use Prim.Native.Nat.{ℕ, zero, suc}
 use native.Mathlib.Omega.{arith}
@@ -7,7 +7,7 @@ use mathlib.Core.List.{List, [], _∷_, _++_}
 use lib.ListN.{length, take, drop}
 use Rattle.model.specs.declared.Rule.{Rule}
 use Rattle.model.specs.Set as set
-use Rattle.model.specs.Stores.{Store}
+use Rattle.model.specs.Stores.{Write}
 use Rattle.model.specs.Answers.{ruleNumber}
 use Rattle.plan.specs.declared.Op.{Op}
 use Rattle.plan.specs.declared.Step.{Step}
@@ -46,7 +46,7 @@ pub none-at-all : operationsOf nothings ≡ noOperations
 unfolding operationsOf nothings noOperations
 none-at-all = refl
 
--- an operation's numbers are its stores
+-- an operation's numbers write what it writes
 stores-same : (c : List ℕ) (s : Step) → storesOfNumbers c (operationOf s) ≡ storesOfStep c s
 unfolding storesOfNumbers storesOfStep headerStores
 stores-same c Nothing = refl
@@ -58,7 +58,7 @@ stores-same c (Header at from) = refl
 expand-same : (c : List ℕ) (ops : List Op) → expandNumbers c (operationsOf ops) ≡ expand c ops
 unfolding expandNumbers expand operationsOf
 expand-same c [] = refl
-expand-same c (o ∷ os) = ap₂ (λ (x y : List Store). x ++ y) (stores-same c (o .step)) (expand-same c os)
+expand-same c (o ∷ os) = ap₂ (λ (x y : List Write). x ++ y) (stores-same c (o .step)) (expand-same c os)
 
 take-operations : (d : ℕ) (ops : List Op) → take d (operationsOf ops) ≡ operationsOf (take d ops)
 unfolding operationsOf

@@ -7,7 +7,7 @@ use mathlib.Core.List.{List, [], _∷_, _++_}
 use lib.ListN.{getD, take, drop}
 use Rattle.model.specs.Lists.{isEmpty}
 use Rattle.model.specs.declared.Rule.{Rule}
-use Rattle.model.specs.Stores.{Store}
+use Rattle.model.specs.Stores.{Write}
 use Rattle.model.specs.Set.{Plan, make, refuse}
 use Rattle.plan.specs.declared.Op.{Op}
 use Rattle.plan.specs.declared.Step.{Step}
@@ -20,14 +20,14 @@ nothing-ready : (c img : List ℕ) → Ready c nothings img
 unfolding nothings
 nothing-ready c img = record {
   fit = (tt, (tt, (tt, (tt, (tt, (tt, (tt, (tt, (tt, (tt, (tt, (tt, tt))))))))))));
-  bits = (tt, (tt, (tt, (tt, (tt, (tt, (tt, (tt, (tt, (tt, (tt, (tt, tt))))))))))));
+  bits = λ w. (tt, (tt, (tt, (tt, (tt, (tt, (tt, (tt, (tt, (tt, (tt, (tt, tt))))))))))));
 }
 
 -- the content of a call that makes stores
-pub made-kept : {plan : Plan} {to on : List Store} (before c : List ℕ) → plan ≡ make to on → Kept plan before c
+pub made-kept : {plan : Plan} {to on : List Write} (before c : List ℕ) → plan ≡ make to on → Kept plan before c
 made-kept before c f = rw f tt
 
-pub either-kept : (t : Bool) (to on to′ on′ : List Store) (before c : List ℕ) → Kept (cond t (make to on) (make to′ on′)) before c
+pub either-kept : (t : Bool) (to on to′ on′ : List Write) (before c : List ℕ) → Kept (cond t (make to on) (make to′ on′)) before c
 either-kept true to on to′ on′ before c = tt
 either-kept false to on to′ on′ before c = tt
 
@@ -47,12 +47,12 @@ mark-there c (o ∷ os) zero m = go (o .step) m
     go (Header at from) m = absurd (false≢true m)
 mark-there c (o ∷ os) (suc d) m = behind (storesOfStep c (o .step)) (expand c (take (suc d) os)) (mark-there c os d m)
   where
-    behind : (xs ys : List Store) → isEmpty ys ≡ false → isEmpty (xs ++ ys) ≡ false
+    behind : (xs ys : List Write) → isEmpty ys ≡ false → isEmpty (xs ++ ys) ≡ false
     behind [] ys h = h
     behind (x ∷ xs) ys h = refl
 
 -- it decides
-pub mark-decides : (c : List ℕ) (ops : List Op) (d : ℕ) (to on : List Store) {p : Planned} {ops′ : List Op} → p ≡ accepted ops′ d → ops′ ≡ ops
+pub mark-decides : (c : List ℕ) (ops : List Op) (d : ℕ) (to on : List Write) {p : Planned} {ops′ : List Op} → p ≡ accepted ops′ d → ops′ ≡ ops
     → isMark (getD ops d (op Nothing) .step) ≡ true → expand c (take (suc d) ops) ≡ to → decidesRight (make to on) p ≡ true
 unfolding decidesRight accepted
 mark-decides c ops d to on e o m t =
@@ -60,7 +60,7 @@ mark-decides c ops d to on e o m t =
     rw (e, o, some) m
 
 -- none does
-none-decides : (on : List Store) (ops : List Op) {p : Planned} → p ≡ accepted ops 12 → decidesRight (make [] on) p ≡ true
+none-decides : (on : List Write) (ops : List Op) {p : Planned} → p ≡ accepted ops 12 → decidesRight (make [] on) p ≡ true
 unfolding decidesRight accepted
 none-decides on ops e = rw e refl
 
@@ -72,7 +72,7 @@ unfolding plannedAs decidesRight refused
 refused-plans c img plan rule e f = rw (e, f) (record { same = refl; decides = refl; kept = refl; ready = nothing-ready c img })
 
 -- *accepted*, with the plan's two parts: field by field, and whole
-pub accepted-as : (c : List ℕ) (ops : List Op) (d : ℕ) (to on : List Store) {p : Planned} {ops′ : List Op} → p ≡ accepted ops′ d → ops′ ≡ ops
+pub accepted-as : (c : List ℕ) (ops : List Op) (d : ℕ) (to on : List Write) {p : Planned} {ops′ : List Op} → p ≡ accepted ops′ d → ops′ ≡ ops
     → expand c (take (upTo d) ops) ≡ to → expand c (drop (upTo d) ops) ≡ on → plannedAs c p ≡ make to on
 unfolding plannedAs accepted
 accepted-as c ops d to on e o t u = rw (e, o) (ap₂ make t u)
@@ -81,7 +81,7 @@ pub accepted-ready : (c img : List ℕ) (ops : List Op) (d : ℕ) {p : Planned} 
 unfolding accepted
 accepted-ready c img ops d e o r = rw (e, o) r
 
-pub accepted-plans : (before c img : List ℕ) (plan : Plan) (ops : List Op) (d : ℕ) (to on : List Store) {p : Planned} {ops′ : List Op} → p ≡ accepted ops′ d → ops′ ≡ ops
+pub accepted-plans : (before c img : List ℕ) (plan : Plan) (ops : List Op) (d : ℕ) (to on : List Write) {p : Planned} {ops′ : List Op} → p ≡ accepted ops′ d → ops′ ≡ ops
     → expand c (take (upTo d) ops) ≡ to → expand c (drop (upTo d) ops) ≡ on → plan ≡ make to on → decidesRight (make to on) p ≡ true → Ready c ops img
     → Plans plan img before c p
 accepted-plans before c img plan ops d to on {p} e o t u f decides ready = record {
@@ -92,7 +92,7 @@ accepted-plans before c img plan ops d to on {p} e o t u f decides ready = recor
 }
 
 -- no store decides
-pub undecided-plans : (before c img : List ℕ) (plan : Plan) (ops : List Op) (on : List Store) {p : Planned} {ops′ : List Op} → p ≡ accepted ops′ 12 → ops′ ≡ ops
+pub undecided-plans : (before c img : List ℕ) (plan : Plan) (ops : List Op) (on : List Write) {p : Planned} {ops′ : List Op} → p ≡ accepted ops′ 12 → ops′ ≡ ops
     → expand c ops ≡ on → plan ≡ make [] on → Ready c ops img → Plans plan img before c p
 unfolding expand
 undecided-plans before c img plan ops on e o u f ready =

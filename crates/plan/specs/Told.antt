@@ -1,4 +1,4 @@
--- What a planning call tells a host, in the numbers that C sees: the stores that the numbers are, and when they tell what the definitions plan.
+-- What a planning call tells a host, in the numbers that C sees: what the numbers write, and when they tell what the definitions plan.
 use Prim.Native.Nat.{ℕ, _+_, _-_}
 use mathlib.Core.Path.{_≡_}
 use mathlib.Core.Bool.{cond}
@@ -9,21 +9,22 @@ use Rattle.model.specs.declared.Rule.{Rule}
 use Rattle.model.specs.Lists.{part}
 use Rattle.model.specs.Layout.{stateAt}
 use Rattle.model.specs.Entry.{headerSize}
-use Rattle.model.specs.Stores.{Store, run, mark, erases}
+use Rattle.model.specs.Stores.{Write, header, run, mark, erases}
 use Rattle.model.specs.Set as set
 use Rattle.model.specs.Answers.{ruleNumber}
 use Rattle.plan.specs.declared.HostOp.{HostOp}
 use Rattle.plan.specs.declared.HostPlan.{HostPlan}
 use Rattle.plan.specs.Planned.{upTo}
 
--- a header's 60 bytes "in rising order without state": the state is the third, and 57 stand behind it
-unfoldable pub headerStores : ℕ → ℕ → List ℕ → List Store
+-- a header's 60 bytes, of which the state is the third, and 57 stand behind it: for a part that stores more than one byte at a time it is one piece of 60 bytes, "FF
+-- in the place of its state", cut at page ends; else its bytes "in rising order without state"
+unfoldable pub headerStores : ℕ → ℕ → List ℕ → List Write
 headerStores at from content =
-    run at (part from stateAt content) ++ run (at + stateAt + 1) (part (from + stateAt + 1) (headerSize - (stateAt + 1)) content)
+    header at (part from stateAt content) (part (from + stateAt + 1) (headerSize - (stateAt + 1)) content) ∷ []
 
--- *the stores that an operation's numbers are*: 1 the byte at `at` becomes `from`; 2 `len` blocks erased from block `at` on; 3 `len` bytes of the content from
--- `from` on, stored from `at` on; 4 a header, of the content from `from` on, stored from `at` on; 0 none
-unfoldable pub storesOfNumbers : List ℕ → HostOp → List Store
+-- *what an operation's numbers write*: 1 the byte at `at` becomes `from`; 2 `len` blocks erased from block `at` on; 3 `len` bytes of the content from `from` on,
+-- stored from `at` on; 4 a header, of the content from `from` on, stored from `at` on; 0 nothing
+unfoldable pub storesOfNumbers : List ℕ → HostOp → List Write
 storesOfNumbers content h =
     cond (eqb (h .kind) 1) (mark (h .at) (h .from))
     (cond (eqb (h .kind) 2) (erases (h .at) (h .len))
@@ -31,7 +32,7 @@ storesOfNumbers content h =
     (cond (eqb (h .kind) 4) (headerStores (h .at) (h .from) content) [])))
 
 -- one operation after the other
-unfoldable pub expandNumbers : List ℕ → List HostOp → List Store
+unfoldable pub expandNumbers : List ℕ → List HostOp → List Write
 expandNumbers content [] = []
 expandNumbers content (h ∷ hs) = storesOfNumbers content h ++ expandNumbers content hs
 
@@ -46,7 +47,7 @@ noOperations = none ∷ none ∷ none ∷ none ∷ none ∷ none ∷ none ∷ no
 unfoldable pub refusalOf : Rule → HostPlan
 refusalOf rule = record { rule = ruleNumber rule; deciding = 12; ops = noOperations }
 
--- *these numbers, with this content, tell that plan*: its rule; or 0, and operations whose stores are the plan's, up to the deciding store and on from there
+-- *these numbers, with this content, tell that plan*: its rule; or 0, and operations that write what the plan does, up to the deciding store and on from there
 abbrev pub Told : set.Plan → List ℕ → HostPlan → Type 0
 Told (set.refuse rule) content h = h ≡ refusalOf rule
 Told (set.make to on) content h =
