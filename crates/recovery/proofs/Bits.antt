@@ -1,4 +1,4 @@
--- No byte store asks a cleared bit to rise, and every mark clears exactly one bit. Bytes are stored where the flash is blank: in the tail, in a blank spare, in an
+-- No byte store asks a cleared bit to rise, and every mark is of one byte and clears exactly one bit, with any w. Bytes are stored where the flash is blank: in the tail, in a blank spare, in an
 -- erased region; marks go down the rows FF 7F 3F 3E 3C, 3F 3D and FF FE FC F8, a bit at a time.
 -- Assumes nothing.
 use Prim.Native.Nat.{ℕ, _+_, _*_, _≤_}
@@ -22,7 +22,7 @@ use Rattle.model.specs.Work.{recordSpace}
 use Rattle.model.specs.Request.{Request}
 use Rattle.model.specs.Change.{put, changeIn}
 use Rattle.model.specs.Rules.{firstBroken, rule1, setBroken, getBroken, nextBroken, startUpBroken, formatBroken}
-use Rattle.model.specs.Stores.{Bytes}
+use Rattle.model.specs.Stores.{stores, Bytes}
 use Rattle.model.specs.Set.{Plan, refuse, make, changePlan, setPlan}
 use Rattle.model.specs.StartUp.{startUpStores, formatStores, startUpPlan, formatPlan}
 use Rattle.model.specs.Answers.{storesOf, getPlan, nextPlan}
@@ -52,16 +52,17 @@ states-tailed img q i h l n =
     (λ h n. rw (states-below (clean-chunked (q .parts) (q .cleaned) .made) i h) (ne-eqb i (tailAt (q .r) + stateAt) n)) h n
 
 -- a call that is refused makes no stores
-unless-refused : (marks : ℕ → Bool) (img : List ℕ) (o : Option Rule) (p : Plan) → (o ≡ none → Along marks (storesOf p) img) → Along marks (storesOf (onSome o refuse p)) img
+unless-refused : (marks : ℕ → Bool) (w : ℕ) (img : List ℕ) (o : Option Rule) (p : Plan) → (o ≡ none → Along marks (storesOf w p) img)
+    → Along marks (storesOf w (onSome o refuse p)) img
 unfolding storesOf
-unless-refused marks img none p h = h refl
-unless-refused marks img (some rule) p h = tt
+unless-refused marks w img none p h = h refl
+unless-refused marks w img (some rule) p h = tt
 
 -- ---- a set
 
-module _ (marks : ℕ → Bool) (s : Session) (q : Request) (img : List ℕ) (bytes : Bytes img) (sized : Sized (set s q)) (tailed : Ready img → Tailed marks img)
+module _ (marks : ℕ → Bool) (w : ℕ) (s : Session) (q : Request) (img : List ℕ) (bytes : Bytes img) (sized : Sized (set s q)) (tailed : Ready img → Tailed marks img)
     (bare : inPlace img (changeIn q (valuesOf img)) ≡ false → Bare marks (regionSize img)) where
-  accepted-along : setBroken s q img ≡ none → Along marks (storesOf (changePlan img (changeIn q (valuesOf img)))) img
+  accepted-along : setBroken s q img ≡ none → Along marks (storesOf w (changePlan img (changeIn q (valuesOf img)))) img
   accepted-along e =
       let c = changeIn q (valuesOf img) in
       let i = ready-of img (set-length s q img e) (set-ready s q img e) in
@@ -75,24 +76,24 @@ module _ (marks : ℕ → Bool) (s : Session) (q : Request) (img : List ℕ) (by
       }) in
       let bared : inPlace joined c ≡ false → Bare marks (block * i .b) = λ h.
       subst (Bare marks) (ap regionSize (i .whole) ∙ parts-size p) (bare (ap (λ (x : List ℕ). inPlace x c) (i .whole) ∙ h)) in
-      subst (λ (x : List ℕ). Along marks (storesOf (changePlan x c)) x) (sym (i .whole))
-      (change-along marks p (i .cleaned) (i .free) (i .rested) (bytes-left (i .r) (i .w ++ i .s) (subst Bytes (i .whole) bytes))
+      subst (λ (x : List ℕ). Along marks (storesOf w (changePlan x c)) x) (sym (i .whole))
+      (change-along marks w p (i .cleaned) (i .free) (i .rested) (bytes-left (i .r) (i .w ++ i .s) (subst Bytes (i .whole) bytes))
       (subst (Tailed marks) (i .whole) (tailed i)) c putting bared)
 
-  set-along : Along marks (storesOf (setPlan s q img)) img
+  set-along : Along marks (storesOf w (setPlan s q img)) img
   unfolding setPlan
-  set-along = unless-refused marks img (setBroken s q img) (changePlan img (changeIn q (valuesOf img))) accepted-along
+  set-along = unless-refused marks w img (setBroken s q img) (changePlan img (changeIn q (valuesOf img))) accepted-along
 
 -- ---- every call, with the marks of records
 
-call-along : (img : List ℕ) → Bytes img → (c : Call) → Sized c → Along (isRecord img) (storesOf (planOf c img)) img
-unfolding planOf storesOf getPlan nextPlan startUpPlan
-call-along img bytes (set s q) sized = set-along (isRecord img) s q img bytes sized (λ i j h l n. records-bare img .below j l) (λ h. records-bare img)
-call-along img bytes (get s k buffer) sized = unless-refused (isRecord img) img (getBroken s k buffer img) (make [] []) (λ e. tt)
-call-along img bytes (next s k buffer) sized = unless-refused (isRecord img) img (nextBroken s k buffer img) (make [] []) (λ e. tt)
-call-along img bytes (startUp setup) sized =
-    unless-refused (isRecord img) img (startUpBroken img) (make [] (startUpStores img))
-    (λ e. startUp-along (isRecord img) img (startUp-length img e) (startUp-ready img e) bytes (records-bare img))
+call-along : (w : ℕ) (img : List ℕ) → Bytes img → (c : Call) → Sized c → Along (isRecord img) (storesOf w (planOf c img)) img
+unfolding planOf storesOf stores getPlan nextPlan startUpPlan
+call-along w img bytes (set s q) sized = set-along (isRecord img) w s q img bytes sized (λ i j h l n. records-bare img .below j l) (λ h. records-bare img)
+call-along w img bytes (get s k buffer) sized = unless-refused (isRecord img) w img (getBroken s k buffer img) (make [] []) (λ e. tt)
+call-along w img bytes (next s k buffer) sized = unless-refused (isRecord img) w img (nextBroken s k buffer img) (make [] []) (λ e. tt)
+call-along w img bytes (startUp setup) sized =
+    unless-refused (isRecord img) w img (startUpBroken img) (make [] (startUpStores img))
+    (λ e. startUp-along (isRecord img) img (startUp-length img e) (startUp-ready img e) bytes (records-bare img) w)
 
 -- ---- the two claims
 
@@ -104,23 +105,23 @@ format-length img h = go (rightLength img) h
     go true e = refl
     go false e = let z : _≡_ {A = ℕ} 0 1 = cc in absurd (omega arith)
 
-format-clears : (img : List ℕ) → Along (λ i. false) (storesOf (formatPlan img)) img
+format-clears : (w : ℕ) (img : List ℕ) → Along (λ i. false) (storesOf w (formatPlan img)) img
 unfolding formatPlan storesOf
-format-clears img = unless-refused (λ i. false) img (formatBroken img) (make [] (formatStores img)) (λ e. format-along img (format-length img e))
+format-clears w img = unless-refused (λ i. false) w img (formatBroken img) (make [] (formatStores img)) (λ e. format-along img (format-length img e) w)
 
 pub no-bit-rises : NoBitRises
-no-bit-rises img bytes = (
-  λ c sized. along-clears (isRecord img) (storesOf (planOf c img)) img (call-along img bytes c sized),
-  along-clears (λ i. false) (storesOf (formatPlan img)) img (format-clears img),
+no-bit-rises w img bytes = (
+  λ c sized. along-clears (isRecord img) (storesOf w (planOf c img)) img (call-along w img bytes c sized),
+  along-clears (λ i. false) (storesOf w (formatPlan img)) img (format-clears w img),
 )
 
 pub marks-clear-one-bit : MarksClearOneBit
-marks-clear-one-bit img bytes c sized = (along-one (isRecord img) (storesOf (planOf c img)) img (call-along img bytes c sized), states c sized)
+marks-clear-one-bit w img bytes c sized = (along-one (isRecord img) (storesOf w (planOf c img)) img (call-along w img bytes c sized), states c sized)
   where
-    states : (c : Call) → Sized c → StatesClearOneBit c img
+    states : (c : Call) → Sized c → StatesClearOneBit w c img
     states (set s q) sized = λ h.
-        along-one (isState img) (storesOf (setPlan s q img)) img
-        (set-along (isState img) s q img bytes sized (states-tailed img) (λ e. absurd (true≢false (sym h ∙ e))))
+        along-one (isState img) (storesOf w (setPlan s q img)) img
+        (set-along (isState img) w s q img bytes sized (states-tailed img) (λ e. absurd (true≢false (sym h ∙ e))))
     states (get s k buffer) sized = tt
     states (next s k buffer) sized = tt
     states (startUp setup) sized = tt

@@ -19,7 +19,7 @@ use Rattle.model.specs.Image.{block}
 use Rattle.model.specs.Entry.{Value}
 use Rattle.model.specs.Region.{entries, values, sound, clean, tail}
 use Rattle.model.specs.Work.{recordSpace, wellFormed, usedRecords, endsInFC, idle}
-use Rattle.model.specs.Stores.{erase, blank, run, mark, erases}
+use Rattle.model.specs.Stores.{clear, blank, run, mark, erases}
 use Rattle.model.specs.Compact.{encode, allUsed, nextRecord, fillSpare, finish, compactTo}
 use Rattle.model.proofs.Tests.{and-split}
 use Rattle.model.proofs.Segments.{length-blank}
@@ -101,7 +101,7 @@ module _ (K : List Value) {b : ℕ} {r w s : List ℕ} (p : Parts b r w s)
   pub record Emptied : Type 0 where
     pub w₁ : List ℕ
     pub opened : Opened w w₁
-    pub goes : Goes (Holding K) (cond (allUsed w) (erase b ∷ []) []) (r ++ (w ++ s)) (r ++ (w₁ ++ s))
+    pub goes : Goes (Holding K) (cond (allUsed w) (clear b ∷ []) []) (r ++ (w ++ s)) (r ++ (w₁ ++ s))
 
   emptied : Emptied
   unfolding nextRecord

@@ -1,13 +1,14 @@
--- What holds of every run of a host: the stores of the numbers that it was told are those that the definitions plan, all together and up to the deciding one, so
--- each of its calls is a step of a run, and Demand 3 speaks of it.
+-- What holds of every run of a host: with every w the stores of the numbers that it was told are those that the definitions plan, all together and up to the deciding
+-- one, so each of its calls keeps the invariant of a run with the book.
 -- Assumes nothing.
-use Prim.Native.Nat.{ℕ, suc, _≤_}
+use Prim.Native.Nat.{ℕ, suc, _+_}
 use native.Mathlib.Omega.{arith}
 use mathlib.Core.Path.{_≡_, refl, sym, ap, ap₂, _∙_, subst}
-use mathlib.Core.Bool.{Bool, true, false, cond, not, _&&_, true≢false, false≢true}
+use mathlib.Core.Bool.{Bool, true, false, cond, not, _&&_, true≢false}
 use mathlib.Core.List.{List, [], _∷_, _++_, append-assoc}
+use mathlib.Core.Logic.{inl}
 use mathlib.Core.Option.{Option, none, some}
-use lib.ListN.{length, take, drop, take-append-drop}
+use lib.ListN.{length, take, drop, length-append, take-append-drop}
 use lib.Dec.{eqb, leb, ltb}
 use borrow.Author.Tests.{le-leb}
 use Rattle.model.specs.declared.Session.{Session}
@@ -17,15 +18,13 @@ use Rattle.model.specs.Lists.{isEmpty}
 use Rattle.model.specs.Entry.{Value}
 use Rattle.model.specs.Region.{valuesOf}
 use Rattle.model.specs.Request.{Request}
-use Rattle.model.specs.Rules.{setBroken}
-use Rattle.model.specs.Stores.{Store, applyAll, Cut}
+use Rattle.model.specs.Rules.{setBroken, startUpBroken}
+use Rattle.model.specs.Stores.{Store, Write, stores, applyAll, after, Cut}
 use Rattle.model.specs.Set.{Plan, refuse, make, setPlan}
 use Rattle.model.specs.StartUp.{startUpPlan, startUpStores}
-use Rattle.model.specs.Answers.{Outcome, done, ruleNumber, outcome, imageAfter, madeOf, storesOf, decided}
-use Rattle.model.specs.declared.Context.{Context}
-use Rattle.model.proofs.Failing.{unworn, outcome-none, image-none}
-use Rattle.model.specs.Book.{Call, set, get, next, startUp, planOf, Sized, entered, counts, bookAfter, Run, begin, ran, cut, Begins, started}
-use Rattle.model.proofs.Stores.{after-all}
+use Rattle.model.specs.Answers.{ruleNumber, storesOf, decided}
+use Rattle.model.specs.Book.{Call, set, get, next, startUp, planOf, Sized, entered, bookAfter}
+use Rattle.model.proofs.Stores.{after-all, stores-append}
 use Rattle.plan.specs.declared.HostOp.{HostOp}
 use Rattle.plan.specs.declared.HostPlan.{HostPlan}
 use Rattle.plan.specs.Planned.{upTo}
@@ -33,7 +32,8 @@ use Rattle.plan.specs.Told.{storesOfNumbers, expandNumbers, noOperations, refus
 use Rattle.recovery.specs.Host.{PlannedFor, carriedOut, decidingDone, Hosting, none-yet, carried-out, power-failed, HostBegun, by-start-up, by-move, HostKeepsTheBook}
 use Rattle.recovery.proofs.Invariant.{Holding}
 use Rattle.recovery.proofs.Interface.{move-begins}
-use Rattle.recovery.proofs.Theorem.{set-kept, set-refused, book-cond, run-holds, startUp-values, startUp-plan, holding-accepted}
+use Rattle.recovery.proofs.StartingUp.{Ready, ready-holds}
+use Rattle.recovery.proofs.Theorem.{set-kept, set-refused, book-cond, call-cut, startUp-plan, startUp-refused, startUp-leaves, startUp-holds, holding-accepted, begins-ready}
 
 -- ---- the stores that were told
 
@@ -41,7 +41,7 @@ numbers-append : (content : List ℕ) (xs ys : List HostOp) → expandNumbers co
 unfolding expandNumbers
 numbers-append content [] ys = refl
 numbers-append content (x ∷ xs) ys =
-    ap (λ (l : List Store). storesOfNumbers content x ++ l) (numbers-append content xs ys)
+    ap (λ (l : List Write). storesOfNumbers content x ++ l) (numbers-append content xs ys)
     ∙ sym (append-assoc (storesOfNumbers content x) (expandNumbers content xs) (expandNumbers content ys))
 
 nothing-told : (content : List ℕ) → expandNumbers content [] ≡ []
@@ -53,24 +53,20 @@ unfolding expandNumbers storesOfNumbers noOperations
 none-stored content = refl
 
 -- all operations told are all stores planned
-told-stores : (plan : Plan) (content : List ℕ) (p : HostPlan) → Told plan content p → expandNumbers content (p .ops) ≡ storesOf plan
-unfolding storesOf refusalOf
-told-stores (refuse r) content p e = ap (λ (h : HostPlan). expandNumbers content (h .ops)) e ∙ none-stored content
-told-stores (make to on) content p t =
+told-stores : (w : ℕ) (plan : Plan) (content : List ℕ) (p : HostPlan) → Told plan content p → stores w (expandNumbers content (p .ops)) ≡ storesOf w plan
+unfolding storesOf stores refusalOf
+told-stores w (refuse r) content p e = ap (λ (h : HostPlan). stores w (expandNumbers content (h .ops))) e ∙ ap (stores w) (none-stored content)
+told-stores w (make to on) content p t =
     let n = upTo (p .deciding) in
-    ap (expandNumbers content) (sym (take-append-drop n (p .ops)))
+    ap (stores w)
+    (ap (expandNumbers content) (sym (take-append-drop n (p .ops)))
     ∙ numbers-append content (take n (p .ops)) (drop n (p .ops))
-    ∙ ap₂ (λ (x y : List Store). x ++ y) (t .1) (t .2)
+    ∙ ap₂ (λ (x y : List Write). x ++ y) (t .1) (t .2))
 
--- as many stores as a plan has
-abbrev allowed : Plan → Context
-allowed plan = unworn (length (storesOf plan))
-
-told-left : (plan : Plan) (content : List ℕ) (p : HostPlan) (part : List ℕ) → Told plan content p
-    → carriedOut content p part ≡ imageAfter (allowed plan) plan part
-told-left plan content p part t =
-    ap (λ (ss : List Store). applyAll ss part) (told-stores plan content p t)
-    ∙ sym (image-none (allowed plan) plan part refl ∙ after-all (length (storesOf plan)) (storesOf plan) part (omega arith))
+told-left : (w : ℕ) (plan : Plan) (content : List ℕ) (p : HostPlan) (part : List ℕ) → Told plan content p
+    → carriedOut w content p part ≡ after (length (storesOf w plan)) (storesOf w plan) part
+told-left w plan content p part t =
+    ap (λ (ss : List Store). applyAll ss part) (told-stores w plan content p t) ∙ sym (after-all (length (storesOf w plan)) (storesOf w plan) part (omega arith))
 
 -- ---- the rule told
 
@@ -95,30 +91,17 @@ no-rule-zero rule.Source = refl
 no-rule-zero rule.TimeBased = refl
 no-rule-zero rule.Worn = refl
 
--- given as many stores as it has, an accepted call is done
-made-done : (to on : List Store) (part : List ℕ) → outcome (allowed (make to on)) (make to on) part ≡ done (length (storesOf (make to on)))
-unfolding storesOf
-made-done to on part = outcome-none (allowed (make to on)) to on part refl ∙ rw (le-leb (length (to ++ on)) (length (to ++ on)) (omega arith))
-
--- so the rule 0 tells of a call carried out that it is done
-told-counts : (plan : Plan) (content : List ℕ) (p : HostPlan) (part : List ℕ) → Told plan content p
-    → counts (outcome (allowed plan) plan part) (decided (madeOf (allowed plan) plan part) plan) ≡ eqb (p .rule) 0
-unfolding outcome decided refusalOf
-told-counts (refuse r) content p part e = sym (ap (λ (h : HostPlan). eqb (h .rule) 0) e ∙ no-rule-zero r)
-told-counts (make to on) content p part t =
-    ap (λ (o : Outcome). counts o (decided (madeOf (allowed (make to on)) (make to on) part) (make to on))) (made-done to on part)
-    ∙ sym (ap (λ (n : ℕ). eqb n 0) (t .0))
-
-told-done : (plan : Plan) (content : List ℕ) (p : HostPlan) (part : List ℕ) → Told plan content p → p .rule ≡ 0
-    → outcome (allowed plan) plan part ≡ done (length (storesOf plan))
+-- rule 0 is told of a plan that is accepted only
+told-accepted : (plan : Plan) (content : List ℕ) (p : HostPlan) → Told plan content p → p .rule ≡ 0 → (r : Rule) → plan ≡ refuse r → ⊥
 unfolding refusalOf
-told-done (refuse r) content p part e z = absurd (true≢false (sym (ap (λ (n : ℕ). eqb n 0) z) ∙ ap (λ (h : HostPlan). eqb (h .rule) 0) e ∙ no-rule-zero r))
-told-done (make to on) content p part t z = made-done to on part
+told-accepted plan content p t z r e =
+    let refused : Told (refuse r) content p = subst (λ (q : Plan). Told q content p) e t in
+    true≢false (sym (ap (λ (n : ℕ). eqb n 0) z) ∙ ap (λ (h : HostPlan). eqb (h .rule) 0) refused ∙ no-rule-zero r)
 
 -- ---- the deciding operation told
 
 -- a call of a run whose plan has no deciding store leaves the book
-none-decides : (K : List Value) (part : List ℕ) (c : Call) → Sized c → Holding K part → (to on : List Store) → planOf c part ≡ make to on → isEmpty to ≡ true
+none-decides : (K : List Value) (part : List ℕ) (c : Call) → Sized c → Holding K part → (to on : List Write) → planOf c part ≡ make to on → isEmpty to ≡ true
     → entered c K ≡ K
 unfolding planOf entered
 none-decides K part (get s key buffer) sized holds to on e h = refl
@@ -126,7 +109,7 @@ none-decides K part (next s key buffer) sized holds to on e h = refl
 none-decides K part (startUp setup) sized holds to on e h = refl
 none-decides K part (set s q) sized holds to on e h = go (setBroken s q part) refl
   where
-    same-to : (to to′ on on′ : List Store) → make to on ≡ make to′ on′ → to ≡ to′
+    same-to : (to to′ on on′ : List Write) → make to on ≡ make to′ on′ → to ≡ to′
     same-to to to′ on on′ e = cc
 
     not-both : (r : Rule) → refuse r ≡ make to on → ⊥
@@ -139,34 +122,48 @@ none-decides K part (set s q) sized holds to on e h = go (setBroken s q part) re
     go (some r) f = absurd (not-both r (sym (set-refused s q part r f) ∙ e))
 
 -- in the plan's own numbers, or by the definitions: the book is the same
-told-decided : (K : List Value) (part : List ℕ) (c : Call) → Sized c → Holding K part → (k : ℕ) (content : List ℕ) (p : HostPlan) → Told (planOf c part) content p
-    → bookAfter c (decided k (planOf c part)) K ≡ bookAfter c (decidingDone k content p) K
-unfolding decided refusalOf
-told-decided K part c sized holds k content p t = by-plan (planOf c part) refl t
-  where
-    -- told of a plan with an empty front that it is complete: the call leaves the book anyway
-    by-front : (to on : List Store) → planOf c part ≡ make to on → (e : Bool) → isEmpty to ≡ e → (t : Bool)
-        → bookAfter c (not e && t) K ≡ bookAfter c t K
-    by-front to on e false f t = refl
-    by-front to on e true f false = refl
-    by-front to on e true f true = book-cond c false K ∙ sym (none-decides K part c sized holds to on e f) ∙ sym (book-cond c true K)
+module _ (w : ℕ) (K : List Value) (part : List ℕ) (c : Call) (sized : Sized c) (holds : Holding K part) (content : List ℕ) (p : HostPlan) (t : Told (planOf c part) content p) where
+  -- told of a plan with an empty front that it is complete: the call leaves the book anyway
+  by-front : (to on : List Write) → planOf c part ≡ make to on → (e : Bool) → isEmpty to ≡ e → (t : Bool)
+      → bookAfter c (not e && t) K ≡ bookAfter c t K
+  by-front to on e false f t = refl
+  by-front to on e true f false = refl
+  by-front to on e true f true = book-cond c false K ∙ sym (none-decides K part c sized holds to on e f) ∙ sym (book-cond c true K)
 
-    empty : (to : List Store) (k : ℕ) → [] ≡ to → (not (isEmpty to) && leb (length to) k) ≡ false
-    empty to k e = rw (sym e)
+  -- cut after k stores
+  told-decided : (k : ℕ) → bookAfter c (decided w k (planOf c part)) K ≡ bookAfter c (decidingDone w k content p) K
+  unfolding decided refusalOf
+  told-decided k = by-plan (planOf c part) refl t
+    where
+      empty : (to : List Write) → [] ≡ to → (not (isEmpty to) && leb (length (stores w to)) k) ≡ false
+      empty to e = rw (sym e)
 
-    by-number : (to on : List Store) → planOf c part ≡ make to on → (d : Bool) → ltb (p .deciding) 12 ≡ d
-        → expandNumbers content (take (cond d (suc (p .deciding)) 0) (p .ops)) ≡ to
-        → bookAfter c (not (isEmpty to) && leb (length to) k) K
-        ≡ bookAfter c (d && leb (length (expandNumbers content (take (suc (p .deciding)) (p .ops)))) k) K
-    by-number to on e true f g =
-        by-front to on e (isEmpty to) refl (leb (length to) k) ∙ ap (λ (ss : List Store). bookAfter c (leb (length ss) k) K) (sym g)
-    by-number to on e false f g = ap (λ (t : Bool). bookAfter c t K) (empty to k (sym (nothing-told content) ∙ g))
+      by-number : (to on : List Write) → planOf c part ≡ make to on → (d : Bool) → ltb (p .deciding) 12 ≡ d
+          → expandNumbers content (take (cond d (suc (p .deciding)) 0) (p .ops)) ≡ to
+          → bookAfter c (not (isEmpty to) && leb (length (stores w to)) k) K
+          ≡ bookAfter c (d && leb (length (stores w (expandNumbers content (take (suc (p .deciding)) (p .ops))))) k) K
+      by-number to on e true f g =
+          by-front to on e (isEmpty to) refl (leb (length (stores w to)) k) ∙ ap (λ (ws : List Write). bookAfter c (leb (length (stores w ws)) k) K) (sym g)
+      by-number to on e false f g = ap (λ (t : Bool). bookAfter c t K) (empty to (sym (nothing-told content) ∙ g))
 
-    by-plan : (plan : Plan) → planOf c part ≡ plan → Told plan content p → bookAfter c (decided k plan) K ≡ bookAfter c (decidingDone k content p) K
-    by-plan (refuse r) e t = ap (λ (h : HostPlan). bookAfter c (decidingDone k content h) K) (sym t)
-    by-plan (make to on) e t = by-number to on e (ltb (p .deciding) 12) refl (t .1)
+      by-plan : (plan : Plan) → planOf c part ≡ plan → Told plan content p → bookAfter c (decided w k plan) K ≡ bookAfter c (decidingDone w k content p) K
+      by-plan (refuse r) e t = ap (λ (h : HostPlan). bookAfter c (decidingDone w k content h) K) (sym t)
+      by-plan (make to on) e t = by-number to on e (ltb (p .deciding) 12) refl (t .1)
 
--- ---- so a host makes a run
+  -- carried out: the rule 0 tells that it is done
+  told-carried : bookAfter c (decided w (length (storesOf w (planOf c part))) (planOf c part)) K ≡ bookAfter c (eqb (p .rule) 0) K
+  unfolding decided storesOf refusalOf
+  told-carried = by-plan (planOf c part) refl t
+    where
+      by-plan : (plan : Plan) → planOf c part ≡ plan → Told plan content p → bookAfter c (decided w (length (storesOf w plan)) plan) K ≡ bookAfter c (eqb (p .rule) 0) K
+      by-plan (refuse r) e t = ap (λ (b : Bool). bookAfter c b K) (sym (ap (λ (h : HostPlan). eqb (h .rule) 0) t ∙ no-rule-zero r))
+      by-plan (make to on) e t =
+          let l : length (stores w (to ++ on)) ≡ length (stores w to) + length (stores w on) = ap length (stores-append w to on) ∙ length-append (stores w to) (stores w on) in
+          ap (λ (b : Bool). bookAfter c (not (isEmpty to) && b) K) (le-leb (length (stores w to)) (length (stores w (to ++ on))) (omega arith))
+          ∙ by-front to on e (isEmpty to) refl true
+          ∙ ap (λ (b : Bool). bookAfter c b K) (sym (ap (λ (n : ℕ). eqb n 0) (t .0)))
+
+-- ---- so the part holds the book
 
 told-of : (c : Call) (part content : List ℕ) (p : HostPlan) → PlannedFor c part content p → Told (planOf c part) content p
 unfolding planOf
@@ -175,49 +172,42 @@ told-of (get s k buffer) part content p t = t
 told-of (next s k buffer) part content p t = t
 told-of (startUp setup) part content p t = t
 
-pub hosting-runs : (start : List ℕ) → Begins start → {part : List ℕ} {book : List Value} → Hosting start part book → Run start part book
-hosting-runs start st none-yet = begin
-hosting-runs start st (carried-out {part} {book} hosting c sized content p planned) =
+hosting-holds : (start : List ℕ) → Ready start → {part : List ℕ} {book : List Value} → Hosting start part book → Holding book part
+hosting-holds start ready none-yet = ready-holds start ready
+hosting-holds start ready (carried-out {part} {book} hosting c sized content p planned w) =
+    let holds = hosting-holds start ready hosting in
     let plan = planOf c part in
     let t = told-of c part content p planned in
-    subst
-    (λ (x : List ℕ). Run start x (bookAfter c (eqb (p .rule) 0) book))
-    (sym (told-left plan content p part t))
-    (subst
-    (λ (b : Bool). Run start (imageAfter (allowed plan) plan part) (bookAfter c b book))
-    (told-counts plan content p part t)
-    (ran (hosting-runs start st hosting) c sized (allowed plan)))
-hosting-runs start st (power-failed {part} {part′} {book} hosting c sized content p planned k left) =
+    let k = length (storesOf w plan) in
+    subst (λ (x : List ℕ). Holding (bookAfter c (eqb (p .rule) 0) book) x) (sym (told-left w plan content p part t))
+    (subst (λ (vs : List Value). Holding vs (after k (storesOf w plan) part)) (told-carried w book part c sized holds content p t)
+    (call-cut w book part (after k (storesOf w plan) part) c sized holds k (inl refl)))
+hosting-holds start ready (power-failed {part} {part′} {book} hosting c sized content p planned w k left) =
+    let holds = hosting-holds start ready hosting in
     let t = told-of c part content p planned in
-    let run = hosting-runs start st hosting in
-    subst
-    (λ (vs : List Value). Run start part′ vs)
-    (told-decided book part c sized (run-holds start st run) k content p t)
-    (cut run c sized k (subst (λ (ss : List Store). Cut ss k part part′) (told-stores (planOf c part) content p t) left))
+    subst (λ (vs : List Value). Holding vs part′) (told-decided w book part c sized holds content p t k)
+    (call-cut w book part part′ c sized holds k (subst (λ (ss : List Store). Cut ss k part part′) (told-stores w (planOf c part) content p t) left))
 
 -- ---- what it begins on
 
-host-begins : (start : List ℕ) → HostBegun start → Begins start
-host-begins start (by-start-up before content p bytes up accepted) =
-    started
-    (record {
-      before = before;
-      bytes = bytes;
-      context = allowed (startUpPlan before);
-      stores = length (storesOf (startUpPlan before));
-      finished = told-done (startUpPlan before) content p before up accepted;
-      left = told-left (startUpPlan before) content p before up;
-    })
-host-begins start (by-move from source target m) = move-begins start from source target m
+-- an accepted start-up's stores, and what they leave
+startUp-told : (w : ℕ) (img content : List ℕ) (p : HostPlan) → startUpBroken img ≡ none → Told (startUpPlan img) content p
+    → carriedOut w content p img ≡ applyAll (stores w (startUpStores img)) img
+unfolding storesOf
+startUp-told w img content p accepted t =
+    ap (λ (ss : List Store). applyAll ss img) (told-stores w (startUpPlan img) content p t ∙ ap (storesOf w) (startUp-plan img accepted))
+
+host-begins : (start : List ℕ) → HostBegun start → Ready start
+host-begins start (by-start-up before content p bytes up zero w) = go (startUpBroken before) refl
+  where
+    go : (o : Option Rule) → startUpBroken before ≡ o → Ready (carriedOut w content p before)
+    go none e = subst Ready (sym (startUp-told w before content p e up)) (startUp-leaves w before e)
+    go (some r) e = absurd (told-accepted (startUpPlan before) content p up zero r (startUp-refused before r e))
+host-begins start (by-move from source target m) = begins-ready start (move-begins start from source target m)
 
 pub host-keeps-the-book : HostKeepsTheBook
-host-keeps-the-book start part content book p begun hosting again =
-    let began = host-begins start begun in
-    let holds = run-holds start began (hosting-runs start began hosting) in
-    let told : Told (make [] (startUpStores part)) content p =
-    subst (λ (plan : Plan). Told plan content p) (startUp-plan part (holding-accepted book part holds)) again in
-    let plan = startUpPlan part in (
-      told .0,
-      ap valuesOf (told-left plan content p part again)
-          ∙ startUp-values book part holds (allowed plan) (length (storesOf plan)) (told-done plan content p part again (told .0)),
-    )
+host-keeps-the-book start part content book p begun hosting again w =
+    let holds = hosting-holds start (host-begins start begun) hosting in
+    let accepted = holding-accepted book part holds in
+    let told : Told (make [] (startUpStores part)) content p = subst (λ (plan : Plan). Told plan content p) (startUp-plan part accepted) again in
+    (told .0, ap valuesOf (startUp-told w part content p accepted again) ∙ startUp-holds w book part holds)

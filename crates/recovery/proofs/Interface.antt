@@ -18,9 +18,9 @@ use Rattle.model.specs.Name.{Key}
 use Rattle.model.specs.Entry.{Value}
 use Rattle.model.specs.Region.{valuesOf}
 use Rattle.model.specs.Rules.{getBroken, nextBroken}
-use Rattle.model.specs.Stores.{after, applyAll}
+use Rattle.model.specs.Stores.{stores, after, applyAll}
 use Rattle.model.specs.Set.{refuse, make}
-use Rattle.model.specs.Answers.{Outcome, done, refused, ruleNumber, answerOf, outcome, imageAfter, madeOf, storesOf, decided, getPlan, nextPlan}
+use Rattle.model.specs.Answers.{Outcome, done, refused, ruleNumber, answerOf, outcome, imageAfter, madeOf, pageOf, storesOf, decided, getPlan, nextPlan}
 use Rattle.model.specs.Move.{moveBroken, moveAnswer}
 use Rattle.model.specs.Book.{Call, set, get, next, startUp, planOf, counts, bookAfter, Run, begin, ran, cut, Begins, started, moved-in}
 use Rattle.recovery.specs.Interface.{Returned, MoveReturned, Begun, by-start-up, by-move, Calls, none-yet, returned, power-failed, InterfaceKeepsTheBook}
@@ -28,7 +28,7 @@ use Rattle.recovery.proofs.Theorem.{demand3}
 
 -- get and next-name make no stores
 none-made : (x : Context) (o : Option Rule) (img : List ℕ) → imageAfter x (onSome o refuse (make [] [])) img ≡ img
-unfolding imageAfter storesOf after applyAll
+unfolding imageAfter storesOf stores after applyAll
 none-made x (some rule) img = rw take-nil
 none-made x none img = rw take-nil
 
@@ -59,13 +59,13 @@ calls-run {start} (returned {img} {img′} {book} calls c sized x a m) =
     let s = step-of c x img img′ a m in
     let made = madeOf x (planOf c img) img in
     subst
-    (λ (i : List ℕ). Run start i (bookAfter c (counts (answerOf a) (decided made (planOf c img))) book))
+    (λ (i : List ℕ). Run start i (bookAfter c (counts (answerOf a) (decided (pageOf x) made (planOf c img))) book))
     (sym (s .left))
     (subst
-    (λ (o : Outcome). Run start (imageAfter x (planOf c img) img) (bookAfter c (counts o (decided made (planOf c img))) book))
+    (λ (o : Outcome). Run start (imageAfter x (planOf c img) img) (bookAfter c (counts o (decided (pageOf x) made (planOf c img))) book))
     (sym (s .told))
     (ran (calls-run calls) c sized x))
-calls-run (power-failed calls c sized k left) = cut (calls-run calls) c sized k left
+calls-run (power-failed calls c sized x k left) = cut (calls-run calls) c sized (pageOf x) k left
 
 -- ---- what they begin on
 

@@ -27,7 +27,13 @@ pub mod BitsOfCompaction
 pub mod BitsOfSets
 -- The two claims about bits, of every call
 pub mod Bits
+-- With w = 1 the lists of stores are 01's; with no dead byte, the answers
+pub mod Today
+-- Every store lies within one page, and those of a compaction are whole ones
+pub mod Chip
+-- Numbers of stores, worked out
+pub mod Counts
 -- The interface: by their contracts, calls to it are a run
 pub mod Interface
--- A host that carries out plans by itself: what it was told is what the definitions plan, so it makes a run
+-- A host that carries out plans by itself: what it was told is what the definitions plan
 pub mod Host

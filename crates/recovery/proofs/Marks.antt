@@ -20,7 +20,7 @@ use Rattle.model.specs.Entry.{Value}
 use Rattle.model.specs.Walk.{Entry, stateOf, entryKey}
 use Rattle.model.specs.Region.{entries, sound, isEntry, added, replacing, standing, values, find}
 use Rattle.model.specs.Change.{without}
-use Rattle.model.specs.Stores.{Store, mark}
+use Rattle.model.specs.Stores.{Write, mark}
 use Rattle.model.specs.Set.{markState, leftover, deleteTo}
 use Rattle.model.proofs.Tests.{and-split, key-eq}
 use Rattle.model.proofs.Chunks.{entriesOf, Made, made-entries, made-sound, soundEntries, restated, state-byte, mark-made}
@@ -159,7 +159,7 @@ stands k es = go (added k es) (replacing k es) refl refl
 -- a 3E entry of a name beside a 3F entry: after its mark the same values stand, no 3E entry does, and the 3F entry has a place
 module _ (P : List ℕ → Type 0) (K : List Value) (size : ℕ) (rest : List ℕ)
     (holds : (r t : List ℕ) (es : List Entry) → State size r t es → values es ≡ K → P (r ++ rest)) where
-  pub record Cleared (k : Key) (r t : List ℕ) (f : Entry) (ss : List Store) : Type 0 where
+  pub record Cleared (k : Key) (r t : List ℕ) (f : Entry) (ss : List Write) : Type 0 where
     pub r′ : List ℕ
     pub es′ : List Entry
     pub goes : Goes P ss (r ++ rest) (r′ ++ rest)
@@ -210,7 +210,7 @@ module _ (P : List ℕ → Type 0) (K : List Value) (size : ℕ) (rest : List �
 
   -- ---- a delete: leftover first, then the value's own entry
 
-  pub record Deleted (k : Key) (r t : List ℕ) (ss : List Store) : Type 0 where
+  pub record Deleted (k : Key) (r t : List ℕ) (ss : List Write) : Type 0 where
     pub r′ : List ℕ
     pub es′ : List Entry
     pub goes : Goes P ss (r ++ rest) (r′ ++ rest)

@@ -20,7 +20,7 @@ use Rattle.model.specs.Walk.{Entry, stateOf, entryKey, entryValue}
 use Rattle.model.specs.Region.{entries, tailAt, tail, values, valuesOf, sound, clean, within, isEntry, added, find}
 use Rattle.model.specs.Work.{idle}
 use Rattle.model.specs.Change.{without, spaceOf}
-use Rattle.model.specs.Stores.{Store}
+use Rattle.model.specs.Stores.{Write}
 use Rattle.model.specs.Compact.{compactTo, compactOn}
 use Rattle.model.specs.Set.{markState, leftover, entryStores, tailTo, tailOn, deleteTo, fitsTail}
 use Rattle.model.proofs.Tests.{and-split, key-refl, true-and}
@@ -38,7 +38,7 @@ use Rattle.recovery.proofs.TailWrite.{ff, ff-length, tailPlace, front-o
 
 -- ---- a plan that keeps K up to its deciding store, and K′ from there on
 
-pub record Kept (K K′ : List Value) (to on : List Store) (img : List ℕ) : Type 0 where
+pub record Kept (K K′ : List Value) (to on : List Write) (img : List ℕ) : Type 0 where
   pub middle : List ℕ
   pub end : List ℕ
   pub to-goes : Goes (Holding K) to img middle
@@ -103,7 +103,7 @@ module _ (P P′ : List ℕ → Type 0) (K : List Value) (size : ℕ) (rest : Li
       more .1 ∙ ap (λ (x : Key). without x (values (p .es′)) ++ (entryValue e ∷ [])) its-key ∙ ap (λ (l : List Value). without k l ++ (entryValue e ∷ [])) (p .kept) ∙ ap (λ (x : Value). without k K ++ (x ∷ [])) (reads .value) in
       let write = write-goes P K size rest holds st′ (p .kept) v valid j blank-tail in
       let to : Goes P (tailTo (tailAt r) v es) (r ++ rest) (r₁ ++ rest) =
-      subst (λ (ss : List Store). Goes P ss (r ++ rest) (r₁ ++ rest)) (regroup (tailAt r))
+      subst (λ (ss : List Write). Goes P ss (r ++ rest) (r₁ ++ rest)) (regroup (tailAt r))
       (goes-append (p .goes) (subst (λ (n : ℕ). Goes P (entryStores n v ++ markState n 0x3F) (p .r′ ++ rest) (r₁ ++ rest)) (sym place) write)) in
       let here : isEntry 0x3F k e ≡ true = true-and (eq-eqb (stateOf e) 0x3F (reads .state)) (ap (λ (x : Key). sameKey x k) its-key ∙ key-refl k) in
       last to e here state₁ stands₁ (p .old)

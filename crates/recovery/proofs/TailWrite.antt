@@ -9,7 +9,7 @@ use mathlib.Core.Logic.{_≢_}
 use mathlib.Core.Bool.{Bool, true, false, cond, _&&_}
 use mathlib.Core.List.{List, [], _∷_, _++_, append-assoc, append-nil}
 use mathlib.Core.Option.{none, some}
-use lib.ListN.{length, replicate, length-append, length-replicate, replicate-append-replicate}
+use lib.ListN.{length, getD, replicate, length-append, length-replicate, replicate-append-replicate}
 use lib.Dec.{eqb, leb}
 use borrow.Author.Tests.{le-leb, ne-eqb, eqb-true, eqb-false}
 use Rattle.model.specs.Layout.{authenticated, stateAt}
@@ -18,11 +18,11 @@ use Rattle.model.specs.Entry.{entryBytesIn, headerFieldsIn, readHeaderIn}
 use Rattle.model.specs.Entry.{Header, headerSize, startId, headerFields, readHeader, Value, plainSize, entrySize, headerFront, headerRest, entryBytes}
 use Rattle.model.specs.Walk.{Entry, placed}
 use Rattle.model.specs.Region.{knownState, within, live, values}
-use Rattle.model.specs.Stores.{run, mark}
+use Rattle.model.specs.Stores.{header, run, mark}
 use Rattle.model.specs.Set.{markState, entryStores}
 use Rattle.model.proofs.Chunks.{join, Framed, AllFramed, entryOf, entriesOf, join-append, framed-append, entriesOf-append, header-length, made-length, soundEntries}
 use Rattle.model.proofs.Values.{add-dead}
-use Rattle.recovery.proofs.Cuts.{Goes, goes-append, goes-run, goes-mark, OneBit, bit-7F, bit-3F}
+use Rattle.recovery.proofs.Cuts.{Goes, goes-append, goes-run, goes-mark, goes-header, OneBit, bit-7F, bit-3F}
 use Rattle.model.specs.Beside.{Valid}
 use Rattle.model.proofs.Encode.{blank-stops, headerOf, length-rest, header-read, chunk-framed}
 use Rattle.recovery.proofs.Marks.{State}
@@ -125,6 +125,13 @@ module _ (P : List ℕ → Type 0) (K : List Value) (size : ℕ) (rest : List �
         rw (seg-eq a o x, seg-eq a bs x)
         (goes-run P at (front-of ++ a) o (x ++ rest) (seg-place a at place) bs l (λ y h. rw (← seg-eq a y x) (f y h)))
 
+    stage-header : (x front hr of or : List ℕ) → length of ≡ length front → length or ≡ length hr
+        → ((y : List ℕ) → length y ≡ length front + 1 + length hr → getD y (length front) 0 ≡ 0xFF → P (front-of ++ ((y ++ x) ++ rest)))
+        → Goes P (header tailPlace front hr ∷ []) (front-of ++ (((of ++ (0xFF ∷ or)) ++ x) ++ rest)) (front-of ++ (((front ++ (0xFF ∷ []) ++ hr) ++ x) ++ rest))
+    stage-header x front hr of or lf lr f =
+        rw (append-assoc (of ++ (0xFF ∷ or)) x rest, append-assoc (front ++ (0xFF ∷ []) ++ hr) x rest)
+        (goes-header P tailPlace front-of (x ++ rest) front hr of or front-length lf lr (λ y l e. rw (← append-assoc y x rest) (f y l e)))
+
     stage-mark : (at : ℕ) (a x : List ℕ) (old new : ℕ) → tailPlace + length a ≡ at → OneBit old new
         → P (front-of ++ ((a ++ ((old ∷ []) ++ x)) ++ rest))
         → Goes P (mark at new) (front-of ++ ((a ++ ((old ∷ []) ++ x)) ++ rest)) (front-of ++ ((a ++ ((new ∷ []) ++ x)) ++ rest))
@@ -157,14 +164,14 @@ module _ (P : List ℕ → Type 0) (K : List Value) (size : ℕ) (rest : List �
           blank-tail ∙ ap ff e ∙ ap (λ (l : List ℕ). 0xFF ∷ 0xFF ∷ 0xFF ∷ l) (sym (rw body (ff-join 57 k)))
 
       -- the start id with state FF: the entry counts as its header
-      fresh-holds : (y : List ℕ) → length y ≡ 57 → P (front-of ++ ((0xAA ∷ 0x55 ∷ 0xFF ∷ (y ++ (ff (length (v .name)) ++ (ff (length (v .bytes)) ++ q)))) ++ rest))
+      fresh-holds : (a b : ℕ) → a + 256 * b ≡ startId → (y : List ℕ) → length y ≡ 57 → P (front-of ++ ((a ∷ b ∷ 0xFF ∷ (y ++ (ff (length (v .name)) ++ (ff (length (v .bytes)) ++ q)))) ++ rest))
       unfolding headerFieldsIn placed
-      fresh-holds y l =
+      fresh-holds a b s y l =
           let k = length (v .name) + (length (v .bytes) + (pad + j)) in
-          let c : List ℕ = 0xAA ∷ 0x55 ∷ 0xFF ∷ y in
+          let c : List ℕ = a ∷ b ∷ 0xFF ∷ y in
           let long : length c ≡ 60 = omega arith in
           let all : length (c ++ ff k) ≡ length t = length-append c (ff k) ∙ rw (ff-length k, tail-length) (omega arith) in
-          let framed : Framed authenticated c = record { long = omega arith; start = refl; whole = sym long } in
+          let framed : Framed authenticated c = record { long = omega arith; start = s; whole = sym long } in
           rw body (one-holds c k all framed refl refl refl)
 
       -- the header whole, with state 7F: the entry counts as its sizes say, whatever bytes stand behind the header
@@ -193,20 +200,16 @@ module _ (P : List ℕ → Type 0) (K : List Value) (size : ℕ) (rest : List �
       -- ---- the whole write, up to the 3F
 
       pub write-goes : Goes P (entryStores tailPlace v ++ markState tailPlace 0x3F) (r ++ rest) ((front-of ++ (entryBytes 0x3F v ++ ff j)) ++ rest)
-      unfolding entryStores headerFront run entryBytesIn
+      unfolding entryStores headerFront entryBytesIn
       write-goes =
           let n = length (v .name) in
           let d = length (v .bytes) in
           let x₂ : List ℕ = 0xFF ∷ (ff 57 ++ (ff n ++ (ff d ++ q))) in
           let rest-long = length-rest authenticated v valid in
-          let a₁ : Goes P (run tailPlace (0xAA ∷ [])) (front-of ++ ((0xFF ∷ 0xFF ∷ x₂) ++ rest)) (front-of ++ ((0xAA ∷ 0xFF ∷ x₂) ++ rest)) =
-          stage-run tailPlace [] (0xFF ∷ []) (0xFF ∷ x₂) (0xAA ∷ []) (omega arith) refl first-byte in
-          let a₂ : Goes P (run (suc tailPlace) (0x55 ∷ [])) (front-of ++ ((0xAA ∷ 0xFF ∷ x₂) ++ rest)) (front-of ++ ((0xAA ∷ 0x55 ∷ x₂) ++ rest)) =
-          stage-run (suc tailPlace) (0xAA ∷ []) (0xFF ∷ []) x₂ (0x55 ∷ []) (omega arith) refl second-byte in
-          let b : Goes P (run (tailPlace + stateAt + 1) hr) (front-of ++ ((0xAA ∷ 0x55 ∷ x₂) ++ rest)) (front-of ++ ((0xAA ∷ 0x55 ∷ 0xFF ∷ (hr ++ (ff n ++ (ff d ++ q)))) ++ rest)) =
-          stage-run (tailPlace + stateAt + 1) (0xAA ∷ 0x55 ∷ 0xFF ∷ []) (ff 57) (ff n ++ (ff d ++ q)) hr (omega arith) (sym rest-long) (λ y l. fresh-holds y l) in
+          let b : Goes P (header tailPlace (0xAA ∷ 0x55 ∷ []) hr ∷ []) (front-of ++ ((0xFF ∷ 0xFF ∷ x₂) ++ rest)) (front-of ++ ((0xAA ∷ 0x55 ∷ 0xFF ∷ (hr ++ (ff n ++ (ff d ++ q)))) ++ rest)) =
+          stage-header (ff n ++ (ff d ++ q)) (0xAA ∷ 0x55 ∷ []) hr (0xFF ∷ 0xFF ∷ []) (ff 57) refl (ff-length 57 ∙ sym rest-long) any-header in
           let c : Goes P (mark (tailPlace + stateAt) 0x7F) (front-of ++ ((0xAA ∷ 0x55 ∷ 0xFF ∷ (hr ++ (ff n ++ (ff d ++ q)))) ++ rest)) (front-of ++ ((0xAA ∷ 0x55 ∷ 0x7F ∷ (hr ++ (ff n ++ (ff d ++ q)))) ++ rest)) =
-          stage-mark (tailPlace + stateAt) (0xAA ∷ 0x55 ∷ []) (hr ++ (ff n ++ (ff d ++ q))) 0xFF 0x7F refl bit-7F (fresh-holds hr rest-long) in
+          stage-mark (tailPlace + stateAt) (0xAA ∷ 0x55 ∷ []) (hr ++ (ff n ++ (ff d ++ q))) 0xFF 0x7F refl bit-7F (fresh-holds 0xAA 0x55 refl hr rest-long) in
           let e : Goes P (run (tailPlace + headerSize) (v .name)) (front-of ++ ((0xAA ∷ 0x55 ∷ 0x7F ∷ (hr ++ (ff n ++ (ff d ++ q)))) ++ rest)) (front-of ++ ((0xAA ∷ 0x55 ∷ 0x7F ∷ (hr ++ (v .name ++ (ff d ++ q)))) ++ rest)) =
           stage-run (tailPlace + headerSize) (0xAA ∷ 0x55 ∷ 0x7F ∷ hr) (ff n) (ff d ++ q) (v .name) (omega arith) (ff-length n)
           (λ y l.
@@ -234,33 +237,35 @@ module _ (P : List ℕ → Type 0) (K : List Value) (size : ℕ) (rest : List �
           ap (λ (l : List ℕ). front-of ++ ((0xAA ∷ 0x55 ∷ 0x3F ∷ l) ++ rest)) written ∙ sym (append-assoc front-of (entryBytes 0x3F v ++ ff j) rest) in
           subst (λ (l : List ℕ). Goes P (entryStores tailPlace v ++ markState tailPlace 0x3F) l ((front-of ++ (entryBytes 0x3F v ++ ff j)) ++ rest)) (sym begins)
           (subst (λ (l : List ℕ). Goes P (entryStores tailPlace v ++ markState tailPlace 0x3F) (front-of ++ ((0xFF ∷ 0xFF ∷ x₂) ++ rest)) l) ends
-          (goes-append (goes-append (goes-append (goes-append (goes-append (goes-append a₁ a₂) b) c) e) f) g))
+          (goes-append (goes-append (goes-append (goes-append b c) e) f) g))
         where
           written : hr ++ (v .name ++ (v .bytes ++ q)) ≡ (((hr ++ v .name) ++ v .bytes) ++ ff pad) ++ ff j
           written =
               let e : (((hr ++ v .name) ++ v .bytes) ++ ff pad) ++ ff j ≡ hr ++ (v .name ++ (v .bytes ++ (ff pad ++ ff j))) = simp append-assoc in
               sym (e ∙ ap (λ (l : List ℕ). hr ++ (v .name ++ (v .bytes ++ l))) (ff-join pad j))
 
-          first-byte : (y : List ℕ) → length y ≡ 1 → P (front-of ++ (([] ++ (y ++ (0xFF ∷ 0xFF ∷ (ff 57 ++ (ff (length (v .name)) ++ (ff (length (v .bytes)) ++ q)))))) ++ rest))
-          first-byte [] l = absurd (omega arith)
-          first-byte (b ∷ c ∷ y) l = absurd (omega arith)
-          first-byte (b ∷ []) l =
-              none-holds (b ∷ 0xFF ∷ 0xFF ∷ (ff 57 ++ (ff (length (v .name)) ++ (ff (length (v .bytes)) ++ q)))) (sym (ap length blank-split))
-              (no-start b 0xFF (0xFF ∷ (ff 57 ++ (ff (length (v .name)) ++ (ff (length (v .bytes)) ++ q)))) (omega arith))
-
-          second-byte : (y : List ℕ) → length y ≡ 1 → P (front-of ++ (((0xAA ∷ []) ++ (y ++ (0xFF ∷ (ff 57 ++ (ff (length (v .name)) ++ (ff (length (v .bytes)) ++ q)))))) ++ rest))
-          second-byte [] l = absurd (omega arith)
-          second-byte (b ∷ c ∷ y) l = absurd (omega arith)
-          second-byte (b ∷ []) l = go (eqb b 0x55) refl
+          -- the bytes of the header, any but the state: no entry, or one that counts as its header
+          any-header : (x : List ℕ) → length x ≡ 2 + 1 + length hr → getD x 2 0 ≡ 0xFF
+              → P (front-of ++ ((x ++ (ff (length (v .name)) ++ (ff (length (v .bytes)) ++ q))) ++ rest))
+          any-header [] l e = absurd (omega arith)
+          any-header (a ∷ []) l e = absurd (omega arith)
+          any-header (a ∷ b ∷ []) l e = absurd (omega arith)
+          any-header (a ∷ b ∷ c ∷ y) l e = go (eqb (a + 256 * b) startId) refl
             where
-              go : (u : Bool) → eqb b 0x55 ≡ u → P (front-of ++ ((0xAA ∷ b ∷ 0xFF ∷ (ff 57 ++ (ff (length (v .name)) ++ (ff (length (v .bytes)) ++ q)))) ++ rest))
+              tail-of : List ℕ
+              tail-of = ff (length (v .name)) ++ (ff (length (v .bytes)) ++ q)
+
+              long : length y ≡ 57
+              long = omega (arith, length-rest authenticated v valid)
+
+              go : (u : Bool) → eqb (a + 256 * b) startId ≡ u → P (front-of ++ ((a ∷ b ∷ c ∷ (y ++ (ff (length (v .name)) ++ (ff (length (v .bytes)) ++ q)))) ++ rest))
               go true h =
-                  subst (λ (x : ℕ). P (front-of ++ ((0xAA ∷ x ∷ 0xFF ∷ (ff 57 ++ (ff (length (v .name)) ++ (ff (length (v .bytes)) ++ q)))) ++ rest))) (sym (eqb-true b 0x55 h))
-                  (fresh-holds (ff 57) (ff-length 57))
+                  subst (λ (z : ℕ). P (front-of ++ ((a ∷ b ∷ z ∷ (y ++ (ff (length (v .name)) ++ (ff (length (v .bytes)) ++ q)))) ++ rest))) (sym e)
+                  (fresh-holds a b (eqb-true (a + 256 * b) startId h) y long)
               go false h =
-                  let n : b ≢ 0x55 = eqb-false b 0x55 h in
-                  none-holds (0xAA ∷ b ∷ 0xFF ∷ (ff 57 ++ (ff (length (v .name)) ++ (ff (length (v .bytes)) ++ q)))) (sym (ap length blank-split))
-                  (no-start 0xAA b (0xFF ∷ (ff 57 ++ (ff (length (v .name)) ++ (ff (length (v .bytes)) ++ q)))) (omega arith))
+                  none-holds (a ∷ b ∷ c ∷ (y ++ (ff (length (v .name)) ++ (ff (length (v .bytes)) ++ q))))
+                  (ap (λ (k : ℕ). suc (suc (suc k))) (length-append y (ff (length (v .name)) ++ (ff (length (v .bytes)) ++ q)) ∙ rw (long, ← ff-length 57, ← length-append (ff 57) (ff (length (v .name)) ++ (ff (length (v .bytes)) ++ q)))) ∙ sym (ap length blank-split))
+                  (no-start a b (c ∷ (y ++ (ff (length (v .name)) ++ (ff (length (v .bytes)) ++ q)))) (eqb-false (a + 256 * b) startId h))
 
           data-place : length hr ≡ 57 → tailPlace + length (0xAA ∷ 0x55 ∷ 0x7F ∷ (hr ++ v .name)) ≡ tailPlace + headerSize + length (v .name)
           data-place h = let l = length-append hr (v .name) in omega arith

@@ -27,14 +27,14 @@ use Rattle.model.specs.Work.{wellFormed, endsInFC, idle, pending, readyForStart
 use Rattle.model.specs.Request.{Request}
 use Rattle.model.specs.Change.{Change, nothing, remove, put, changeIn, step, without, spaceOf}
 use Rattle.model.specs.Rules.{setBroken, getBroken, nextBroken, startUpBroken}
-use Rattle.model.specs.Stores.{Store, byte, erase, run, mark, applyAll, after, reach, Cut}
+use Rattle.model.specs.Stores.{Store, Write, write, clear, stores, run, mark, applyAll, after, reach, Cut}
 use Rattle.model.specs.Compact.{encode, allUsed, nextRecord, compactTo, compactOn, fillSpare}
 use Rattle.model.specs.Set.{Plan, refuse, make, markState, leftover, entryStores, deleteTo, tailTo, tailOn, fitsTail, putPlan, changePlan, setPlan}
 use Rattle.model.specs.StartUp.{startUpStores, startUpPlan}
-use Rattle.model.specs.Answers.{ruleNumber, done, stopped, refused, outcome, ended, deadOf, madeOf, imageAfter, storesOf, decided, getPlan, nextPlan}
+use Rattle.model.specs.Answers.{ruleNumber, done, stopped, refused, outcome, ended, deadOf, pageOf, madeOf, imageAfter, storesOf, decided, getPlan, nextPlan}
 use Rattle.model.specs.Book.{Call, set, get, next, startUp, planOf, Sized, entered, counts, bookAfter, Run, begin, ran, cut, StartedUp, MovedInto, Begins, started, moved-in, Agrees, AgreesAll, Demand3}
 use Rattle.model.proofs.Tests.{or-left, or-right, true-and}
-use Rattle.model.proofs.Stores.{after-all}
+use Rattle.model.proofs.Stores.{after-all, stores-append}
 use Rattle.model.proofs.Chunks.{Chunked, region-chunked}
 use Rattle.model.proofs.Values.{find-standing}
 use Rattle.recovery.proofs.Cuts.{Safe, cut-at}
@@ -53,8 +53,8 @@ use Rattle.recovery.proofs.Sets.{Kept, its-state, nothing-kept, delete-
 -- ---- a set that breaks no rule
 
 pub record SetKept (s : Session) (r : Request) (img : List ℕ) (K : List Value) : Type 0 where
-  pub to : List Store
-  pub on : List Store
+  pub to : List Write
+  pub on : List Write
   pub plan : setPlan s r img ≡ make to on
   pub kept : Kept K (step (changeIn r K) K) to on img
   pub decides : isEmpty to ≡ true → step (changeIn r K) K ≡ K
@@ -76,8 +76,8 @@ module _ {b : ℕ} {r w s : List ℕ} (p : Parts b r w s) (rested : idle w ≡ t
   its-values = ap (λ (l : List ℕ). values (entries l)) (parts-region p)
 
   pub record PlanKept (c : Change) : Type 0 where
-    pub to : List Store
-    pub on : List Store
+    pub to : List Write
+    pub on : List Write
     pub plan : changePlan joined-image c ≡ make to on
     pub kept : Kept its-list (step c its-list) to on joined-image
     pub decides : isEmpty to ≡ true → step c its-list ≡ its-list
@@ -99,7 +99,7 @@ module _ {b : ℕ} {r w s : List ℕ} (p : Parts b r w s) (rested : idle w ≡ t
 
       go : (o : Option Entry) → standing k (entries r) ≡ o → isEmpty (deleteTo k (entries r)) ≡ false
       go none e = absurd (false≢true (ap isSome (sym (looked ∙ ap (λ (o : Option Entry). onSome o (λ e. some (entryValue e)) none) e)) ∙ present))
-      go (some x) e = rw e (last-there (leftover k (entries r)) (byte (x .at + stateAt) (stateOf x - 0x02)))
+      go (some x) e = rw e (last-there (leftover k (entries r)) (write (x .at + stateAt) ((stateOf x - 0x02) ∷ [])))
 
   pub remove-plan : (k : Key) → isSome (find k its-list) ≡ true → PlanKept (remove k)
   unfolding changePlan step
@@ -111,7 +111,7 @@ module _ {b : ℕ} {r w s : List ℕ} (p : Parts b r w s) (rested : idle w ≡ t
     decides = λ e. absurd (true≢false (sym e ∙ delete-some k present));
   }
 
-  put-as : (v : Value) {to on : List Store} → Kept its-list (without (keyOf v) its-list ++ (v ∷ [])) to on joined-image → Kept its-list (step (put v) its-list) to on joined-image
+  put-as : (v : Value) {to on : List Write} → Kept its-list (without (keyOf v) its-list ++ (v ∷ [])) to on joined-image → Kept its-list (step (put v) its-list) to on joined-image
   unfolding step
   put-as v k = k
 
@@ -119,16 +119,16 @@ module _ {b : ℕ} {r w s : List ℕ} (p : Parts b r w s) (rested : idle w ≡ t
   tail-some : (at : ℕ) (v : Value) (es : List Entry) → isEmpty (tailTo at v es) ≡ false
   unfolding tailTo
   tail-some at v es =
-      last-there (leftover (keyOf v) es ++ onSome (added (keyOf v) es) (λ e. markState (e .at) 0x3E) [] ++ entryStores at v) (byte (at + stateAt) 0x3F)
+      last-there (leftover (keyOf v) es ++ onSome (added (keyOf v) es) (λ e. markState (e .at) 0x3E) [] ++ entryStores at v) (write (at + stateAt) (0x3F ∷ []))
 
   compact-some : (x : List ℕ) (vs : List Value) → isEmpty (compactTo x vs) ≡ false
   unfolding compactTo fillSpare
   compact-some x vs =
       last-there
-      (cond (allUsed (work x)) (erase (blocks x) ∷ []) []
+      (cond (allUsed (work x)) (clear (blocks x) ∷ []) []
       ++ mark (block * blocks x + nextRecord (work x)) 0xFE
       ++ run (block * blocks x + block) (encode (regionSize x) vs))
-      (byte (block * blocks x + nextRecord (work x)) 0xFC)
+      (write (block * blocks x + nextRecord (work x)) (0xFC ∷ []))
 
   put-tail : (v : Value) → fitsTail r v ≡ true → putPlan joined-image v ≡ make (tailTo (tailAt r) v (entries r)) (tailOn v (entries r))
   unfolding putPlan
@@ -176,7 +176,7 @@ ready-values img K i (in-spare h) =
     closed true e f = false≢true (ap not (sym f) ∙ e)
     closed false e f = false≢true e
 
-kept-as : {K K₁ K′ K₁′ : List Value} {to on : List Store} {img img₁ : List ℕ} → K ≡ K₁ → K′ ≡ K₁′ → img ≡ img₁ → Kept K K′ to on img → Kept K₁ K₁′ to on img₁
+kept-as : {K K₁ K′ K₁′ : List Value} {to on : List Write} {img img₁ : List ℕ} → K ≡ K₁ → K′ ≡ K₁′ → img ≡ img₁ → Kept K K′ to on img → Kept K₁ K₁′ to on img₁
 kept-as {K} {K₁} {K′} {K₁′} {to} {on} {img} {img₁} e f g k =
     subst (λ (x : List ℕ). Kept K₁ K₁′ to on x) g (subst (λ (x : List Value). Kept K₁ x to on img) f (subst (λ (x : List Value). Kept x K′ to on img) e k))
 
@@ -231,29 +231,7 @@ module _ (s : Session) (q : Request) (img : List ℕ) (K : List Value) (accepted
           (subst (λ (vs : List Value). spaceOf (step (put v) vs) ≤ regionSize img) same fits) in
           from (put v) e (put-plan p (i .rested) (i .free) (i .cleaned) v (put-is-valid s q img accepted v e long) room)
 
--- ---- any call, cut after k stores
-
-module _ (img img′ : List ℕ) (K K′ : List Value) (to on : List Store) (kept : Kept K K′ to on img) (k : ℕ) (left : Cut (to ++ on) k img img′) where
-  kept-cut : (k < length to → Holding K img′) × (length to ≤ k → Holding K′ img′)
-  kept-cut =
-      let on-safe : Safe (Holding K′) on (applyAll to img) = subst (Safe (Holding K′) on) (sym (kept .to-goes .left)) (kept .on-goes .safe) in
-      let end : Holding K′ (applyAll on (applyAll to img)) =
-      subst (Holding K′) (sym (ap (applyAll on) (kept .to-goes .left) ∙ kept .on-goes .left)) (subst (λ (vs : List Value). Holding vs (kept .end)) (kept .held) (ready-holds (kept .end) (kept .ready))) in
-      cut-at (Holding K) (Holding K′) to on k img img′ (kept .to-goes .safe) on-safe end left
-
-  -- by whether the deciding store is complete
-  kept-decided : (isEmpty to ≡ true → K′ ≡ K) → Holding (cond (decided k (make to on)) K′ K) img′
-  unfolding decided
-  kept-decided decides = go (isEmpty to) refl (leb (length to) k) refl
-    where
-      empty-length : (l : List Store) → isEmpty l ≡ true → length l ≡ 0
-      empty-length [] h = refl
-      empty-length (x ∷ l) h = absurd (false≢true h)
-
-      go : (e : Bool) → isEmpty to ≡ e → (t : Bool) → leb (length to) k ≡ t → Holding (cond (not (isEmpty to) && leb (length to) k) K′ K) img′
-      go true e t f = rw e (subst (λ (vs : List Value). Holding vs img′) (decides e) (kept-cut .1 (let z = empty-length to e in omega arith)))
-      go false e true f = rw (e, f) (kept-cut .1 (leb-true (length to) k f))
-      go false e false f = rw (e, f) (kept-cut .0 (leb-false (length to) k f))
+-- ---- what does not depend on w
 
 -- a call with no stores leaves the image
 cut-none : (k : ℕ) (img img′ : List ℕ) → Cut [] k img img′ → img′ ≡ img
@@ -271,8 +249,6 @@ book-same : (c : Call) (t : Bool) (K : List Value) → entered c K ≡ K → boo
 book-same c true K e = book-cond c true K ∙ e
 book-same c false K e = book-cond c false K
 
--- ---- a start-up
-
 -- in a run a start-up is never refused
 pub holding-accepted : (K : List Value) (img : List ℕ) → Holding K img → startUpBroken img ≡ none
 unfolding readyForStartUp pending
@@ -289,164 +265,204 @@ pub startUp-plan : (img : List ℕ) → startUpBroken img ≡ none → startUpPl
 unfolding startUpPlan
 startUp-plan img h = rw h
 
--- a start-up that is done was accepted, and made all its stores
-pub record Finished (x : Context) (img : List ℕ) : Type 0 where
-  pub accepted : startUpBroken img ≡ none
-  pub left : imageAfter x (startUpPlan img) img ≡ applyAll (startUpStores img) img
-
-refused-not : (rule stores : ℕ) → refused rule ≡ done stores → ⊥
-refused-not rule stores e = let z : _≡_ {A = ℕ} 0 1 = cc in omega arith
-
-stopped-not : (stores : ℕ) → stopped ≡ done stores → ⊥
-stopped-not stores e = let z : _≡_ {A = ℕ} 0 1 = cc in omega arith
-
--- done: all stores were made
-ended-done : (n reached len stores : ℕ) → ended n reached len ≡ done stores → len ≤ min n reached
-ended-done n reached len stores h = go (leb len (min n reached)) refl (ltb reached n) h
-  where
-    go : (t : Bool) → leb len (min n reached) ≡ t → (u : Bool) → cond t (done len) (cond u (refused 23) stopped) ≡ done stores → len ≤ min n reached
-    go true e u f = leb-true len (min n reached) e
-    go false e true f = absurd (refused-not 23 stores f)
-    go false e false f = absurd (stopped-not stores f)
-
-pub finished : (x : Context) (stores : ℕ) (img : List ℕ) → outcome x (startUpPlan img) img ≡ done stores → Finished x img
-unfolding startUpPlan outcome imageAfter madeOf storesOf
-finished x stores img h = go (startUpBroken img) refl h
-  where
-    go : (o : Option Rule) → startUpBroken img ≡ o → outcome x (onSome o refuse (make [] (startUpStores img))) img ≡ done stores → Finished x img
-    go (some rule) e f = absurd (refused-not (ruleNumber rule) stores f)
-    go none e f =
-        let few = ended-done (x .limit) (reach (deadOf x) (startUpStores img) img) (length (startUpStores img)) stores f in
-        record { accepted = e; left = rw e (after-all (min (x .limit) (reach (deadOf x) (startUpStores img) img)) (startUpStores img) img few) }
-
--- ---- every call of a run keeps the invariant with the book
+pub startUp-refused : (img : List ℕ) (rule : Rule) → startUpBroken img ≡ some rule → startUpPlan img ≡ refuse rule
+unfolding startUpPlan
+startUp-refused img rule h = rw h
 
 -- a refused set, and a call that stores nothing
 pub set-refused : (s : Session) (q : Request) (img : List ℕ) (rule : Rule) → setBroken s q img ≡ some rule → setPlan s q img ≡ refuse rule
 unfolding setPlan
 set-refused s q img rule e = rw e
 
-no-stores : (o : Option Rule) → storesOf (onSome o refuse (make [] [])) ≡ []
-unfolding storesOf
-no-stores none = refl
-no-stores (some rule) = refl
-
 unchanged : (K : List Value) (img img′ : List ℕ) (ss : List Store) (k : ℕ) → ss ≡ [] → Holding K img → Cut ss k img img′ → Holding K img′
 unchanged K img img′ ss k e holds left = subst (Holding K) (sym (cut-none k img img′ (subst (λ (x : List Store). Cut x k img img′) e left))) holds
-
-get-stores : (s : Session) (key : Key) (buffer img : List ℕ) → storesOf (getPlan s key buffer img) ≡ []
-unfolding getPlan
-get-stores s key buffer img = no-stores (getBroken s key buffer img)
-
-next-stores : (s : Session) (key : Key) (buffer img : List ℕ) → storesOf (nextPlan s key buffer img) ≡ []
-unfolding nextPlan
-next-stores s key buffer img = no-stores (nextBroken s key buffer img)
 
 -- a list of stores with no deciding one
 cut-on : (K : List Value) (img img′ : List ℕ) (ss : List Store) (k : ℕ) → Safe (Holding K) ss img → Holding K (applyAll ss img) → Cut ss k img img′ → Holding K img′
 unfolding applyAll
 cut-on K img img′ ss k safe end left = cut-at (Holding K) (Holding K) [] ss k img img′ tt safe end left .1 (omega arith)
 
--- a start-up, however cut
-startUp-cut : (K : List Value) (img img′ : List ℕ) → Holding K img → (k : ℕ) → Cut (storesOf (startUpPlan img)) k img img′ → Holding K img′
-unfolding storesOf
-startUp-cut K img img′ holds k left =
-    let up = startUp-holding K img holds in
-    let cut : Cut (startUpStores img) k img img′ = subst (λ (p : Plan). Cut (storesOf p) k img img′) (startUp-plan img (holding-accepted K img holds)) left in
-    let end : Holding K (applyAll (startUpStores img) img) =
-    subst (Holding K) (sym (up .goes .left)) (subst (λ (vs : List Value). Holding vs (up .end)) (up .held) (ready-holds (up .end) (up .ready))) in
-    cut-on K img img′ (startUpStores img) k (up .goes .safe) end cut
+-- ---- any call, cut after k stores
 
-refused-decides : (k : ℕ) (rule : Rule) → decided k (refuse rule) ≡ false
-unfolding decided
-refused-decides k rule = refl
+module _ (w : ℕ) where
+  module _ (img img′ : List ℕ) (K K′ : List Value) (to on : List Write) (kept : Kept K K′ to on img) (k : ℕ) (left : Cut (stores w (to ++ on)) k img img′) where
+    kept-cut : (k < length (stores w to) → Holding K img′) × (length (stores w to) ≤ k → Holding K′ img′)
+    kept-cut =
+        let on-safe : Safe (Holding K′) (stores w on) (applyAll (stores w to) img) = subst (Safe (Holding K′) (stores w on)) (sym (kept .to-goes .left w)) (kept .on-goes .safe w) in
+        let end : Holding K′ (applyAll (stores w on) (applyAll (stores w to) img)) =
+        subst (Holding K′) (sym (ap (applyAll (stores w on)) (kept .to-goes .left w) ∙ kept .on-goes .left w)) (subst (λ (vs : List Value). Holding vs (kept .end)) (kept .held) (ready-holds (kept .end) (kept .ready))) in
+        cut-at (Holding K) (Holding K′) (stores w to) (stores w on) k img img′ (kept .to-goes .safe w) on-safe end
+        (subst (λ (ss : List Store). Cut ss k img img′) (stores-append w to on) left)
 
--- a cut call
-pub call-cut : (K : List Value) (img img′ : List ℕ) (c : Call) → Sized c → Holding K img → (k : ℕ) → Cut (storesOf (planOf c img)) k img img′
-    → Holding (bookAfter c (decided k (planOf c img)) K) img′
-unfolding planOf entered storesOf
-call-cut K img img′ (set s q) sized holds k left = go (setBroken s q img) refl
+    -- by whether the deciding store is complete
+    kept-decided : (isEmpty to ≡ true → K′ ≡ K) → Holding (cond (decided w k (make to on)) K′ K) img′
+    unfolding decided stores
+    kept-decided decides = go (isEmpty to) refl (leb (length (stores w to)) k) refl
+      where
+        empty-length : (l : List Write) → isEmpty l ≡ true → length (stores w l) ≡ 0
+        empty-length [] h = refl
+        empty-length (x ∷ l) h = absurd (false≢true h)
+
+        go : (e : Bool) → isEmpty to ≡ e → (t : Bool) → leb (length (stores w to)) k ≡ t → Holding (cond (not (isEmpty to) && leb (length (stores w to)) k) K′ K) img′
+        go true e t f = rw e (subst (λ (vs : List Value). Holding vs img′) (decides e) (kept-cut .1 (let z = empty-length to e in omega arith)))
+        go false e true f = rw (e, f) (kept-cut .1 (leb-true (length (stores w to)) k f))
+        go false e false f = rw (e, f) (kept-cut .0 (leb-false (length (stores w to)) k f))
+
+  no-stores : (o : Option Rule) → storesOf w (onSome o refuse (make [] [])) ≡ []
+  unfolding storesOf stores
+  no-stores none = refl
+  no-stores (some rule) = refl
+
+  get-stores : (s : Session) (key : Key) (buffer img : List ℕ) → storesOf w (getPlan s key buffer img) ≡ []
+  unfolding getPlan
+  get-stores s key buffer img = no-stores (getBroken s key buffer img)
+
+  next-stores : (s : Session) (key : Key) (buffer img : List ℕ) → storesOf w (nextPlan s key buffer img) ≡ []
+  unfolding nextPlan
+  next-stores s key buffer img = no-stores (nextBroken s key buffer img)
+
+  -- a start-up, however cut
+  startUp-cut : (K : List Value) (img img′ : List ℕ) → Holding K img → (k : ℕ) → Cut (storesOf w (startUpPlan img)) k img img′ → Holding K img′
+  unfolding storesOf
+  startUp-cut K img img′ holds k left =
+      let up = startUp-holding K img holds in
+      let cut : Cut (stores w (startUpStores img)) k img img′ = subst (λ (p : Plan). Cut (storesOf w p) k img img′) (startUp-plan img (holding-accepted K img holds)) left in
+      let end : Holding K (applyAll (stores w (startUpStores img)) img) =
+      subst (Holding K) (sym (up .goes .left w)) (subst (λ (vs : List Value). Holding vs (up .end)) (up .held) (ready-holds (up .end) (up .ready))) in
+      cut-on K img img′ (stores w (startUpStores img)) k (up .goes .safe w) end cut
+
+  refused-decides : (k : ℕ) (rule : Rule) → decided w k (refuse rule) ≡ false
+  unfolding decided
+  refused-decides k rule = refl
+
+  -- a cut call
+  pub call-cut : (K : List Value) (img img′ : List ℕ) (c : Call) → Sized c → Holding K img → (k : ℕ) → Cut (storesOf w (planOf c img)) k img img′
+      → Holding (bookAfter c (decided w k (planOf c img)) K) img′
+  unfolding planOf entered storesOf
+  call-cut K img img′ (set s q) sized holds k left = go (setBroken s q img) refl
+    where
+      go : (o : Option Rule) → setBroken s q img ≡ o → Holding (bookAfter (set s q) (decided w k (setPlan s q img)) K) img′
+      go none e =
+          let kept = set-kept s q img K e (sized .2) holds in
+          let plan = kept .plan in
+          let cut : Cut (stores w (kept .to ++ kept .on)) k img img′ = subst (λ (p : Plan). Cut (storesOf w p) k img img′) plan left in
+          subst (λ (p : Plan). Holding (bookAfter (set s q) (decided w k p) K) img′) (sym plan)
+          (subst (λ (vs : List Value). Holding vs img′) (sym (book-cond (set s q) (decided w k (make (kept .to) (kept .on))) K))
+          (kept-decided img img′ K (step (changeIn q K) K) (kept .to) (kept .on) (kept .kept) k cut (kept .decides)))
+      go (some rule) e =
+          let plan = set-refused s q img rule e in
+          subst (λ (p : Plan). Holding (bookAfter (set s q) (decided w k p) K) img′) (sym plan)
+          (subst (λ (vs : List Value). Holding vs img′) (sym (ap (λ (t : Bool). bookAfter (set s q) t K) (refused-decides k rule) ∙ book-cond (set s q) false K)) (unchanged K img img′ (storesOf w (setPlan s q img)) k (ap (storesOf w) plan) holds left))
+  call-cut K img img′ (get s key buffer) sized holds k left =
+      subst (λ (vs : List Value). Holding vs img′) (sym (book-same (get s key buffer) (decided w k (getPlan s key buffer img)) K refl))
+      (unchanged K img img′ (storesOf w (getPlan s key buffer img)) k (get-stores s key buffer img) holds left)
+  call-cut K img img′ (next s key buffer) sized holds k left =
+      subst (λ (vs : List Value). Holding vs img′) (sym (book-same (next s key buffer) (decided w k (nextPlan s key buffer img)) K refl))
+      (unchanged K img img′ (storesOf w (nextPlan s key buffer img)) k (next-stores s key buffer img) holds left)
+  call-cut K img img′ (startUp setup) sized holds k left =
+      subst (λ (vs : List Value). Holding vs img′) (sym (book-same (startUp setup) (decided w k (startUpPlan img)) K refl))
+      (startUp-cut K img img′ holds k left)
+
+-- ---- a start-up that is done
+
+refused-not : (rule count : ℕ) → refused rule ≡ done count → ⊥
+refused-not rule count e = let z : _≡_ {A = ℕ} 0 1 = cc in omega arith
+
+stopped-not : (count : ℕ) → stopped ≡ done count → ⊥
+stopped-not count e = let z : _≡_ {A = ℕ} 0 1 = cc in omega arith
+
+-- done: all stores were made
+ended-done : (n reached len count : ℕ) → ended n reached len ≡ done count → len ≤ min n reached
+ended-done n reached len count h = go (leb len (min n reached)) refl (ltb reached n) h
   where
-    go : (o : Option Rule) → setBroken s q img ≡ o → Holding (bookAfter (set s q) (decided k (setPlan s q img)) K) img′
-    go none e =
-        let kept = set-kept s q img K e (sized .2) holds in
-        let plan = kept .plan in
-        let cut : Cut (kept .to ++ kept .on) k img img′ = subst (λ (p : Plan). Cut (storesOf p) k img img′) plan left in
-        subst (λ (p : Plan). Holding (bookAfter (set s q) (decided k p) K) img′) (sym plan)
-        (subst (λ (vs : List Value). Holding vs img′) (sym (book-cond (set s q) (decided k (make (kept .to) (kept .on))) K))
-        (kept-decided img img′ K (step (changeIn q K) K) (kept .to) (kept .on) (kept .kept) k cut (kept .decides)))
-    go (some rule) e =
-        let plan = set-refused s q img rule e in
-        subst (λ (p : Plan). Holding (bookAfter (set s q) (decided k p) K) img′) (sym plan)
-        (subst (λ (vs : List Value). Holding vs img′) (sym (ap (λ (t : Bool). bookAfter (set s q) t K) (refused-decides k rule) ∙ book-cond (set s q) false K)) (unchanged K img img′ (storesOf (setPlan s q img)) k (ap storesOf plan) holds left))
-call-cut K img img′ (get s key buffer) sized holds k left =
-    subst (λ (vs : List Value). Holding vs img′) (sym (book-same (get s key buffer) (decided k (getPlan s key buffer img)) K refl))
-    (unchanged K img img′ (storesOf (getPlan s key buffer img)) k (get-stores s key buffer img) holds left)
-call-cut K img img′ (next s key buffer) sized holds k left =
-    subst (λ (vs : List Value). Holding vs img′) (sym (book-same (next s key buffer) (decided k (nextPlan s key buffer img)) K refl))
-    (unchanged K img img′ (storesOf (nextPlan s key buffer img)) k (next-stores s key buffer img) holds left)
-call-cut K img img′ (startUp setup) sized holds k left =
-    subst (λ (vs : List Value). Holding vs img′) (sym (book-same (startUp setup) (decided k (startUpPlan img)) K refl))
-    (startUp-cut K img img′ holds k left)
+    go : (t : Bool) → leb len (min n reached) ≡ t → (u : Bool) → cond t (done len) (cond u (refused 23) stopped) ≡ done count → len ≤ min n reached
+    go true e u f = leb-true len (min n reached) e
+    go false e true f = absurd (refused-not 23 count f)
+    go false e false f = absurd (stopped-not count f)
+
+-- it was accepted, and made all its stores
+pub record Finished (x : Context) (img : List ℕ) : Type 0 where
+  pub accepted : startUpBroken img ≡ none
+  pub left : imageAfter x (startUpPlan img) img ≡ applyAll (stores (pageOf x) (startUpStores img)) img
+
+pub finished : (x : Context) (count : ℕ) (img : List ℕ) → outcome x (startUpPlan img) img ≡ done count → Finished x img
+unfolding startUpPlan outcome imageAfter madeOf storesOf
+finished x count img h = go (startUpBroken img) refl h
+  where
+    go : (o : Option Rule) → startUpBroken img ≡ o → outcome x (onSome o refuse (make [] (startUpStores img))) img ≡ done count → Finished x img
+    go (some rule) e f = absurd (refused-not (ruleNumber rule) count f)
+    go none e f =
+        let ss : List Store = stores (pageOf x) (startUpStores img) in
+        let few = ended-done (x .limit) (reach (deadOf x) ss img) (length ss) count f in
+        record { accepted = e; left = rw e (after-all (min (x .limit) (reach (deadOf x) ss img)) ss img few) }
+
+-- ---- a call that ran is one cut after the stores that it made
 
 refused-same : (c : Call) (x : Context) (rule : Rule) (img : List ℕ) (K : List Value)
-    → bookAfter c (decided (madeOf x (refuse rule) img) (refuse rule)) K ≡ bookAfter c (counts (outcome x (refuse rule) img) (decided (madeOf x (refuse rule) img) (refuse rule))) K
+    → bookAfter c (decided (pageOf x) (madeOf x (refuse rule) img) (refuse rule)) K
+    ≡ bookAfter c (counts (outcome x (refuse rule) img) (decided (pageOf x) (madeOf x (refuse rule) img) (refuse rule))) K
 unfolding outcome
 refused-same c x rule img K = refl
 
-made-counted : (n reached : ℕ) (c : Call) (K : List Value) (to on : List Store) → (isEmpty to ≡ true → entered c K ≡ K)
-    → bookAfter c (decided (min n reached) (make to on)) K
-    ≡ bookAfter c (counts (ended n reached (length (to ++ on))) (decided (min n reached) (make to on))) K
+made-counted : (w n reached : ℕ) (c : Call) (K : List Value) (to on : List Write) → (isEmpty to ≡ true → entered c K ≡ K)
+    → bookAfter c (decided w (min n reached) (make to on)) K
+    ≡ bookAfter c (counts (ended n reached (length (stores w (to ++ on)))) (decided w (min n reached) (make to on))) K
 unfolding decided
-made-counted n reached c K to on decides = go (leb (length (to ++ on)) (min n reached)) refl (ltb reached n)
+made-counted w n reached c K to on decides = go (leb (length (stores w (to ++ on))) (min n reached)) refl (ltb reached n)
   where
     -- done: the deciding store, if any, is complete
-    complete : length (to ++ on) ≤ min n reached → (e : Bool) → isEmpty to ≡ e → bookAfter c (not e && leb (length to) (min n reached)) K ≡ bookAfter c true K
+    complete : length (stores w (to ++ on)) ≤ min n reached → (e : Bool) → isEmpty to ≡ e → bookAfter c (not e && leb (length (stores w to)) (min n reached)) K ≡ bookAfter c true K
     complete h true e = book-cond c false K ∙ sym (decides e) ∙ sym (book-cond c true K)
-    complete h false e = ap (λ (t : Bool). bookAfter c t K) (le-leb (length to) (min n reached) (let l = length-append to on in omega arith))
+    complete h false e =
+        ap (λ (t : Bool). bookAfter c t K)
+        (le-leb (length (stores w to)) (min n reached)
+        (let l : length (stores w (to ++ on)) ≡ length (stores w to) + length (stores w on) = ap length (stores-append w to on) ∙ length-append (stores w to) (stores w on) in omega arith))
 
-    go : (t : Bool) → leb (length (to ++ on)) (min n reached) ≡ t → (u : Bool)
-        → bookAfter c (not (isEmpty to) && leb (length to) (min n reached)) K
-        ≡ bookAfter c (counts (cond t (done (length (to ++ on))) (cond u (refused 23) stopped)) (not (isEmpty to) && leb (length to) (min n reached))) K
-    go true h u = complete (leb-true (length (to ++ on)) (min n reached) h) (isEmpty to) refl
+    go : (t : Bool) → leb (length (stores w (to ++ on))) (min n reached) ≡ t → (u : Bool)
+        → bookAfter c (not (isEmpty to) && leb (length (stores w to)) (min n reached)) K
+        ≡ bookAfter c (counts (cond t (done (length (stores w (to ++ on)))) (cond u (refused 23) stopped)) (not (isEmpty to) && leb (length (stores w to)) (min n reached))) K
+    go true h u = complete (leb-true (length (stores w (to ++ on))) (min n reached) h) (isEmpty to) refl
     go false h true = refl
     go false h false = refl
 
-made-accepted : (x : Context) (c : Call) (img : List ℕ) (K : List Value) (to on : List Store) → (isEmpty to ≡ true → entered c K ≡ K)
-    → bookAfter c (decided (madeOf x (make to on) img) (make to on)) K
-    ≡ bookAfter c (counts (outcome x (make to on) img) (decided (madeOf x (make to on) img) (make to on))) K
+made-accepted : (x : Context) (c : Call) (img : List ℕ) (K : List Value) (to on : List Write) → (isEmpty to ≡ true → entered c K ≡ K)
+    → bookAfter c (decided (pageOf x) (madeOf x (make to on) img) (make to on)) K
+    ≡ bookAfter c (counts (outcome x (make to on) img) (decided (pageOf x) (madeOf x (make to on) img) (make to on))) K
 unfolding outcome madeOf storesOf
-made-accepted x c img K to on decides = made-counted (x .limit) (reach (deadOf x) (to ++ on) img) c K to on decides
+made-accepted x c img K to on decides = made-counted (pageOf x) (x .limit) (reach (deadOf x) (stores (pageOf x) (to ++ on)) img) c K to on decides
 
--- a call that ran is one cut after the stores that it made; a done set with no deciding store changes nothing
+-- a done set with no deciding store changes nothing
 counted : (K : List Value) (img : List ℕ) (c : Call) → Sized c → Holding K img → (x : Context)
-    → bookAfter c (decided (madeOf x (planOf c img) img) (planOf c img)) K
-    ≡ bookAfter c (counts (outcome x (planOf c img) img) (decided (madeOf x (planOf c img) img) (planOf c img))) K
+    → bookAfter c (decided (pageOf x) (madeOf x (planOf c img) img) (planOf c img)) K
+    ≡ bookAfter c (counts (outcome x (planOf c img) img) (decided (pageOf x) (madeOf x (planOf c img) img) (planOf c img))) K
 unfolding planOf entered
 counted K img (get s key buffer) sized holds x = book-same (get s key buffer) _ K refl ∙ sym (book-same (get s key buffer) _ K refl)
 counted K img (next s key buffer) sized holds x = book-same (next s key buffer) _ K refl ∙ sym (book-same (next s key buffer) _ K refl)
 counted K img (startUp setup) sized holds x = book-same (startUp setup) _ K refl ∙ sym (book-same (startUp setup) _ K refl)
 counted K img (set s q) sized holds x = go (setBroken s q img) refl
   where
-    go : (o : Option Rule) → setBroken s q img ≡ o
-        → bookAfter (set s q) (decided (madeOf x (setPlan s q img) img) (setPlan s q img)) K
-        ≡ bookAfter (set s q) (counts (outcome x (setPlan s q img) img) (decided (madeOf x (setPlan s q img) img) (setPlan s q img))) K
+    Counted : Plan → Type 0
+    Counted p =
+        bookAfter (set s q) (decided (pageOf x) (madeOf x p img) p) K ≡ bookAfter (set s q) (counts (outcome x p img) (decided (pageOf x) (madeOf x p img) p)) K
+
+    go : (o : Option Rule) → setBroken s q img ≡ o → Counted (setPlan s q img)
     go none e =
         let kept = set-kept s q img K e (sized .2) holds in
-        subst (λ (p : Plan). bookAfter (set s q) (decided (madeOf x p img) p) K ≡ bookAfter (set s q) (counts (outcome x p img) (decided (madeOf x p img) p)) K) (sym (kept .plan))
-        (made-accepted x (set s q) img K (kept .to) (kept .on) (kept .decides))
-    go (some rule) e =
-        subst (λ (p : Plan). bookAfter (set s q) (decided (madeOf x p img) p) K ≡ bookAfter (set s q) (counts (outcome x p img) (decided (madeOf x p img) p)) K) (sym (set-refused s q img rule e))
-        (refused-same (set s q) x rule img K)
+        subst Counted (sym (kept .plan)) (made-accepted x (set s q) img K (kept .to) (kept .on) (kept .decides))
+    go (some rule) e = subst Counted (sym (set-refused s q img rule e)) (refused-same (set s q) x rule img K)
 
 -- ---- the run
 
--- what a done start-up leaves is ready, whatever image it began on
+-- what a start-up leaves that is carried out is ready, whatever image it began on
+pub startUp-leaves : (w : ℕ) (img : List ℕ) → startUpBroken img ≡ none → Ready (applyAll (stores w (startUpStores img)) img)
+startUp-leaves w img accepted =
+    let up = startUp-any img (startUp-length img accepted) (startUp-ready img accepted) .up in
+    subst Ready (sym (up .goes .left w)) (up .ready)
+
 started-ready : (start : List ℕ) → StartedUp start → Ready start
 started-ready start st =
     let f = finished (st .context) (st .stores) (st .before) (st .finished) in
-    let up = startUp-any (st .before) (startUp-length (st .before) (f .accepted)) (startUp-ready (st .before) (f .accepted)) .up in
-    subst Ready (sym (st .left ∙ f .left ∙ up .goes .left)) (up .ready)
+    subst Ready (sym (st .left ∙ f .left)) (startUp-leaves (pageOf (st .context)) (st .before) (f .accepted))
 
 -- and so is what a done move leaves in the authenticated form
 moved-ready : (start : List ℕ) → MovedInto start → Ready start
@@ -468,27 +484,28 @@ run-holds start st begin = ready-holds start (begins-ready start st)
 run-holds start st (ran {img} {book} r c sized x) =
     let holds = run-holds start st r in
     let k = madeOf x (planOf c img) img in
-    subst (λ (vs : List Value). Holding vs (after k (storesOf (planOf c img)) img)) (counted book img c sized holds x)
-    (call-cut book img (after k (storesOf (planOf c img)) img) c sized holds k (inl refl))
-run-holds start st (cut {img} {img′} {book} r c sized k left) = call-cut book img img′ c sized (run-holds start st r) k left
+    subst (λ (vs : List Value). Holding vs (after k (storesOf (pageOf x) (planOf c img)) img)) (counted book img c sized holds x)
+    (call-cut (pageOf x) book img (after k (storesOf (pageOf x) (planOf c img)) img) c sized holds k (inl refl))
+run-holds start st (cut {img} {img′} {book} r c sized w k left) = call-cut w book img img′ c sized (run-holds start st r) k left
 
--- a done start-up leaves the book's values
-pub startUp-values : (K : List Value) (img : List ℕ) → Holding K img → (x : Context) (stores : ℕ) → outcome x (startUpPlan img) img ≡ done stores
+-- a start-up that is carried out leaves the book's values
+pub startUp-holds : (w : ℕ) (K : List Value) (img : List ℕ) → Holding K img → valuesOf (applyAll (stores w (startUpStores img)) img) ≡ K
+startUp-holds w K img holds = let up = startUp-holding K img holds in ap valuesOf (up .goes .left w) ∙ up .held
+
+pub startUp-values : (K : List Value) (img : List ℕ) → Holding K img → (x : Context) (count : ℕ) → outcome x (startUpPlan img) img ≡ done count
     → valuesOf (imageAfter x (startUpPlan img) img) ≡ K
-startUp-values K img holds x stores h =
-    let up = startUp-holding K img holds in
-    ap valuesOf (finished x stores img h .left ∙ up .goes .left) ∙ up .held
+startUp-values K img holds x count h = ap valuesOf (finished x count img h .left) ∙ startUp-holds (pageOf x) K img holds
 
 agrees : (K : List Value) (img : List ℕ) → Holding K img → (c : Call) (x : Context) → Agrees c x img K
 agrees K img holds (set s q) x = tt
 agrees K img holds (get s key buffer) x = tt
 agrees K img holds (next s key buffer) x = tt
-agrees K img holds (startUp setup) x = λ stores h. startUp-values K img holds x stores h
+agrees K img holds (startUp setup) x = λ count h. startUp-values K img holds x count h
 
 agrees-all : (start : List ℕ) → Begins start → {img : List ℕ} {book : List Value} → (r : Run start img book) → AgreesAll r
 agrees-all start st begin = tt
 agrees-all start st (ran {img} {book} r c sized x) = (agrees-all start st r, agrees book img (run-holds start st r) c x)
-agrees-all start st (cut r c sized k left) = agrees-all start st r
+agrees-all start st (cut r c sized w k left) = agrees-all start st r
 
 pub demand3 : Demand3
 demand3 start img book st r = agrees-all start st r

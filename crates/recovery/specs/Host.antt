@@ -1,5 +1,6 @@
--- A host that stores by itself: it asks for a plan and carries out the operations that it is told, one after the other. What it has done when the power fails, the
--- book beside it, and what holds of every run of it. All that the host does is said in the numbers that it was told, `HostPlan`, as C sees them.
+-- A host that stores by itself: it asks for a plan and carries out the operations that it is told, one after the other. Its part stores up to w bytes at a time, and
+-- its driver cuts what it is told at page ends. What it has done when the power fails, the book beside it, and what holds of every run of it, for every w, another
+-- at each step. All that the host does is said in the numbers that it was told, `HostPlan`, as C sees them.
 use Prim.Native.Nat.{ℕ, suc}
 use mathlib.Core.Path.{_≡_}
 use mathlib.Core.Bool.{Bool, _&&_}
@@ -11,7 +12,7 @@ use Rattle.model.specs.declared.Answer.the-variants.{Done}
 use Rattle.model.specs.Layout.{authenticated}
 use Rattle.model.specs.Entry.{Value}
 use Rattle.model.specs.Region.{valuesOf}
-use Rattle.model.specs.Stores.{Bytes, applyAll, Cut}
+use Rattle.model.specs.Stores.{Bytes, stores, applyAll, Cut}
 use Rattle.model.specs.Set.{setPlan}
 use Rattle.model.specs.StartUp.{startUpPlan}
 use Rattle.model.specs.Answers.{getPlan, nextPlan}
@@ -33,15 +34,17 @@ PlannedFor (get s k buffer) part content p = Told (getPlan s k buffer part) cont
 PlannedFor (next s k buffer) part content p = Told (nextPlan s k buffer part) content p
 PlannedFor (startUp setup) part content p = StartUpPlanned part content p
 
--- the part when all operations are carried out; after a refusal there are none, so it is as before
-abbrev pub carriedOut : List ℕ → HostPlan → List ℕ → List ℕ
-carriedOut content p part = applyAll (expandNumbers content (p .ops)) part
+-- the part when all operations are carried out, in stores of at most w bytes; after a refusal there are none, so it is as before
+abbrev pub carriedOut : ℕ → List ℕ → HostPlan → List ℕ → List ℕ
+carriedOut w content p part = applyAll (stores w (expandNumbers content (p .ops))) part
 
 -- the deciding operation, if one decides, is complete: the first k stores hold those of the operations up to it and its own
-abbrev pub decidingDone : ℕ → List ℕ → HostPlan → Bool
-decidingDone k content p = ltb (p .deciding) 12 && leb (length (expandNumbers content (take (suc (p .deciding)) (p .ops)))) k
+abbrev pub decidingDone : ℕ → ℕ → List ℕ → HostPlan → Bool
+decidingDone w k content p =
+    ltb (p .deciding) 12 && leb (length (stores w (expandNumbers content (take (suc (p .deciding)) (p .ops))))) k
 
--- A run of a host from the bytes `start` of a part: the part's bytes, and the book. Each call is planned over a copy that equals the part. Then
+-- A run of a host from the bytes `start` of a part: the part's bytes, and the book. Each call is planned over a copy that equals the part, and has its own w, which
+-- may be any number, also one that no call of the interface takes. Then
 -- * all its operations are carried out, and the book moves if the rule told is 0 ("a set that is done"); a refused call has no operations and moves nothing; or
 -- * the power fails: of the stores told the first k are complete and the next may be begun, as `Cut` says, and the book moves if the deciding operation was complete
 --   ("or had that store complete"). A host that gives a plan up between two stores is of this kind too, and so is one whose part fails at a store, because a byte
@@ -57,7 +60,8 @@ pub data Hosting (start : List ℕ) : List ℕ → List Value → Type 0 where
       → (content : List ℕ)
       → (p : HostPlan)
       → PlannedFor c part content p
-      → Hosting start (carriedOut content p part) (bookAfter c (eqb (p .rule) 0) book)
+      → (w : ℕ)
+      → Hosting start (carriedOut w content p part) (bookAfter c (eqb (p .rule) 0) book)
   power-failed : {part part′ : List ℕ}
       {book : List Value}
       → Hosting start part book
@@ -66,9 +70,9 @@ pub data Hosting (start : List ℕ) : List ℕ → List Value → Type 0 where
       → (content : List ℕ)
       → (p : HostPlan)
       → PlannedFor c part content p
-      → (k : ℕ)
-      → Cut (expandNumbers content (p .ops)) k part part′
-      → Hosting start part′ (bookAfter c (decidingDone k content p) book)
+      → (w k : ℕ)
+      → Cut (stores w (expandNumbers content (p .ops))) k part part′
+      → Hosting start part′ (bookAfter c (decidingDone w k content p) book)
 
 -- What a host begins on: a part that a start-up left, told with rule 0 and carried out, on whatever bytes it found; or one with the bytes that a move into the
 -- form in which calls store left in its target, done.
@@ -77,7 +81,8 @@ pub data HostBegun : List ℕ → Type 0 where
       → Bytes before
       → StartUpPlanned before content p
       → p .rule ≡ 0
-      → HostBegun (carriedOut content p before)
+      → (w : ℕ)
+      → HostBegun (carriedOut w content p before)
   by-move : {start : List ℕ} (from : Layout) (source target : List ℕ) → MoveReturned from authenticated source target start (Done 0) → HostBegun start
 
 -- Begun so, and however often the power failed since: a start-up is not refused, and carried out it leaves exactly the values of the book.
@@ -87,4 +92,5 @@ HostKeepsTheBook =
     → HostBegun start
     → Hosting start part book
     → StartUpPlanned part content p
-    → (p .rule ≡ 0) × (valuesOf (carriedOut content p part) ≡ book)
+    → (w : ℕ)
+    → (p .rule ≡ 0) × (valuesOf (carriedOut w content p part) ≡ book)

@@ -6,6 +6,7 @@ use Rattle.model.specs.declared.Layout.{Layout}
 use Rattle.model.specs.declared.Setup.{Setup}
 use Rattle.model.specs.declared.Context.{Context}
 use Rattle.model.specs.declared.Answer.{Answer}
+use Rattle.model.specs.declared.Context.{Context}
 use Rattle.model.specs.declared.Answer.the-variants.{Done}
 use Rattle.model.specs.Layout.{authenticated}
 use Rattle.model.specs.Entry.{Value}
@@ -13,7 +14,7 @@ use Rattle.model.specs.Region.{valuesOf}
 use Rattle.model.specs.Stores.{Bytes, Cut}
 use Rattle.model.specs.Set.{setPlan}
 use Rattle.model.specs.StartUp.{startUpPlan}
-use Rattle.model.specs.Answers.{answerOf, outcome, imageAfter, madeOf, storesOf, decided, getPlan, nextPlan}
+use Rattle.model.specs.Answers.{answerOf, outcome, imageAfter, madeOf, pageOf, storesOf, decided, getPlan, nextPlan}
 use Rattle.model.specs.Move.{moveAnswer, imageMoved}
 use Rattle.model.specs.Book.{Call, set, get, next, startUp, planOf, Sized, counts, bookAfter}
 
@@ -54,15 +55,19 @@ pub data Calls (start : List ℕ) : List ℕ → List Value → Type 0 where
       → (x : Context)
       → (a : Answer)
       → Returned c x img img′ a
-      → Calls start img′ (bookAfter c (counts (answerOf a) (decided (madeOf x (planOf c img) img) (planOf c img))) book)
+      → Calls
+      start
+      img′
+      (bookAfter c (counts (answerOf a) (decided (pageOf x) (madeOf x (planOf c img) img) (planOf c img))) book)
   power-failed : {img img′ : List ℕ}
       {book : List Value}
       → Calls start img book
       → (c : Call)
       → Sized c
+      → (x : Context)
       → (k : ℕ)
-      → Cut (storesOf (planOf c img)) k img img′
-      → Calls start img′ (bookAfter c (decided k (planOf c img)) book)
+      → Cut (storesOf (pageOf x) (planOf c img)) k img img′
+      → Calls start img′ (bookAfter c (decided (pageOf x) k (planOf c img)) book)
 
 -- These are the functions of the interface, and this holds of every list of calls to them: begun so, and however many of the calls were stopped, failed or cut, a
 -- start-up that returns done leaves exactly the values of the book.

@@ -4,3 +4,7 @@ pub mod Claims
 pub mod Interface
 -- A host that carries out plans by itself, and what holds of every run of it
 pub mod Host
+-- The lists of stores of 01, which w = 1 gives
+pub mod Today
+-- What the chip is asked to do: stores within a page
+pub mod Chip
