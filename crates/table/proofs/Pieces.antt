@@ -3,22 +3,23 @@
 -- Assumes nothing.
 use Prim.Native.Nat.{ℕ, _+_, _*_, _≤_}
 use native.Mathlib.Omega.{arith}
-use mathlib.Core.Path.{_≡_, refl, ap, _∙_}
+use mathlib.Core.Path.{_≡_, refl, sym, ap, _∙_}
 use mathlib.Core.Bool.{Bool, true, false, _&&_}
 use mathlib.Core.List.{List, [], _∷_, _++_}
 use lib.ListN.{length, length-append, length-take, length-drop, length-replicate}
 use lib.Dec.{T, leb, leb→le}
 use Rattle.model.specs.Lists.{overlay}
 use Rattle.model.specs.Image.{block}
-use Rattle.model.specs.Stores.{Store, erase, blank, apply, applyAll, run}
-use Rattle.model.proofs.Stores.{applyAll-append, run-overlay}
+use Rattle.model.specs.Stores.{Store, erase, Write, run, blank, apply, applyAll, bytewise, todays, todaysOne}
+use Rattle.model.specs.Stores.{clear as clearing}
+use Rattle.model.proofs.Stores.{applyAll-append, run-overlay, stores-run, pages-bytewise}
 
 pub data Piece : Type 0 where
   store : ℕ → List ℕ → Piece
   clear : ℕ → Piece
 
 abbrev pub storesIn : Piece → List Store
-storesIn (store at bs) = run at bs
+storesIn (store at bs) = bytewise at bs
 storesIn (clear b) = erase b ∷ []
 
 unfoldable pub flat : List Piece → List Store
@@ -61,7 +62,8 @@ laid-length (clear b) img t =
 
 laid-piece : (p : Piece) (img : List ℕ) → T (inside (length img) p) → applyAll (storesIn p) img ≡ laid p img
 unfolding applyAll apply
-laid-piece (store at bs) img t = run-overlay at bs img (leb→le (at + length bs) (length img) t)
+laid-piece (store at bs) img t =
+    ap (λ (ss : List Store). applyAll ss img) (sym (stores-run 1 at bs ∙ pages-bytewise at bs)) ∙ run-overlay 1 at bs img (leb→le (at + length bs) (length img) t)
 laid-piece (clear b) img t = refl
 
 pub flat-laid : (ps : List Piece) (img : List ℕ) → T (allInside (length img) ps) → applyAll (flat ps) img ≡ laidAll ps img
@@ -72,3 +74,15 @@ flat-laid (p ∷ ps) img t =
     applyAll-append (storesIn p) (flat ps) img
     ∙ ap (applyAll (flat ps)) (laid-piece p img (h .0))
     ∙ flat-laid ps (laid p img) (rw (laid-length p img (h .0)) (h .1))
+
+-- what a list of pieces writes: byte by byte it is their stores
+unfoldable pub asWrites : List Piece → List Write
+asWrites [] = []
+asWrites (store at bs ∷ ps) = run at bs ++ asWrites ps
+asWrites (clear b ∷ ps) = clearing b ∷ asWrites ps
+
+pub as-flat : (ps : List Piece) → todays (asWrites ps) ≡ flat ps
+unfolding asWrites flat todays todaysOne
+as-flat [] = refl
+as-flat (store at bs ∷ ps) = ap (λ (l : List Store). bytewise at bs ++ l) (as-flat ps)
+as-flat (clear b ∷ ps) = ap (λ (l : List Store). erase b ∷ l) (as-flat ps)

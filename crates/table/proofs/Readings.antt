@@ -5,13 +5,14 @@ use Prim.Native.Nat.{ℕ}
 use mathlib.Core.Path.{_≡_, refl, ap, _∙_}
 use mathlib.Core.List.{List, [], _∷_, _++_, append-nil}
 use lib.ListN.{replicate}
+use Rattle.model.specs.Stores.{todays}
 use Rattle.model.specs.Set.{make}
-use Rattle.model.specs.Answers.{done, storesOf}
+use Rattle.model.specs.Answers.{done}
 use Rattle.model.specs.Book.{Call, set, startUp, planOf}
-use Rattle.table.proofs.Pieces.{store, clear, flat}
+use Rattle.table.proofs.Pieces.{store, clear, asWrites, as-flat}
 use Rattle.table.proofs.Runs.{resumption}
 use Rattle.table.proofs.Row.{Row, Holds, HoldAll, end, _and_, computed, refuses, plain, ff, zeros, header, headerOf, image, guid, rate, four, behindState, startId, rateHeader, rateEntry, setting, rateStands}
-use Rattle.table.proofs.Held.{held, told}
+use Rattle.table.proofs.Held.{held, listed, told}
 
 -- ---- a 3E entry alone is the value: 76 stores to replace it, 3E becomes 3C to delete it, an equal set stores nothing
 
@@ -329,14 +330,15 @@ resumed = record {
   tail = 104;
 }
 
-resumed-plan : planOf (resumed .call) (resumed .image) ≡ make [] (flat (resumed .stores) ++ [])
+resumed-plan : planOf (resumed .call) (resumed .image) ≡ make [] (asWrites (resumed .stores) ++ [])
 unfolding computed
 resumed-plan = resumption (resumed .image) (resumed .stores) refl refl tt refl
 
 resumed-holds : Holds resumed
 unfolding computed
 resumed-holds =
-    held resumed (ap told resumed-plan) (ap storesOf resumed-plan ∙ append-nil (flat (resumed .stores))) tt tt refl refl
+    held resumed (ap told resumed-plan)
+    (ap listed resumed-plan ∙ ap todays (append-nil (asWrites (resumed .stores))) ∙ as-flat (resumed .stores)) tt tt refl refl
 
 -- ---- b = 2, nothing pending: spare erased, work block erased, and a tail that is not all FF compacted, with a lone 3E entry carried
 

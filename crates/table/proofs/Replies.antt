@@ -11,7 +11,7 @@ use Rattle.model.specs.StartUp.{formatPlan}
 use Rattle.model.specs.Answers.{done, refused, outcome, storesOf, Reply, getReply, nextReply, lockOutcome, lockSession}
 use Rattle.table.proofs.Pieces.{store, clear, flat}
 use Rattle.table.proofs.Row.{computed, quiet, plain, boot, zeros, header, guid, rate, four, rateStands}
-use Rattle.table.proofs.Held.{plan-told}
+use Rattle.table.proofs.Held.{plan-listed, plan-told}
 
 abbrev theRate : Key
 theRate = record { name = rate; vendor = guid }
@@ -115,9 +115,9 @@ unfolding computed
 phaseBack = refl
 
 -- formatting: three erases and 28 bytes
-formatted : storesOf (formatPlan (replicate 12288 0x00)) ≡ flat (clear 0 ∷ clear 1 ∷ clear 2 ∷ store 0 header ∷ [])
+formatted : storesOf 1 (formatPlan (replicate 12288 0x00)) ≡ flat (clear 0 ∷ clear 1 ∷ clear 2 ∷ store 0 header ∷ [])
 unfolding computed
-formatted = refl
+formatted = plan-listed (formatPlan (replicate 12288 0x00))
 
 formattedDone : outcome quiet (formatPlan (replicate 12288 0x00)) (replicate 12288 0x00) ≡ done 31
 unfolding computed

@@ -1,4 +1,5 @@
--- A row of a table of cases: an image and a call, and what document 01 says of them; and what the rows are made of.
+-- A row of a table of cases: an image and a call, and what document 01 says of them, which is what holds with w = 1 and no dead byte; and what the rows are
+-- made of.
 -- Assumes nothing.
 use Prim.Native.Nat.{ℕ}
 use mathlib.Core.Path.{_≡_}
@@ -12,7 +13,7 @@ use Rattle.model.specs.Region.{tailAt}
 use Rattle.model.specs.Answers.{Outcome, refused, outcome, imageAfter, storesOf}
 use Rattle.model.specs.Book.{Call, set, planOf}
 use Rattle.table.proofs.Evaluated.{evaluated}
-use Rattle.table.proofs.Pieces.{Piece, flat, laidAll, allInside}
+use Rattle.table.proofs.Pieces.{Piece, flat, laidAll, allInside, asWrites}
 
 -- an image, a call; its answer, its stores in their order, the whole image after it, and the offset of that region's tail
 pub record Row : Type 0 where
@@ -27,13 +28,13 @@ pub record Row : Type 0 where
 abbrev pub unlimited : ℕ
 unlimited = 100000
 
--- no stop, and no dead byte
+-- no stop, no dead byte, single bytes
 abbrev pub quiet : Context
-quiet = record { limit = unlimited; count = 0; dead = [] }
+quiet = record { limit = unlimited; count = 0; dead = []; width = 1 }
 
 pub record Holds (row : Row) : Type 0 where
   pub answer : outcome quiet (planOf (row .call) (row .image)) (row .image) ≡ row .answer
-  pub stores : storesOf (planOf (row .call) (row .image)) ≡ flat (row .stores)
+  pub stores : storesOf 1 (planOf (row .call) (row .image)) ≡ flat (row .stores)
   pub left : imageAfter quiet (planOf (row .call) (row .image)) (row .image) ≡ row .left
   pub tail : tailAt (region (row .left)) ≡ row .tail
 
@@ -49,7 +50,7 @@ refuses img at call rule = record { image = img; call = call; answer = refused r
 
 -- all that a row's evaluation opens
 unfoldable pub computed : Unit {0}
-unfolding evaluated flat laidAll allInside
+unfolding evaluated flat laidAll allInside asWrites
 computed = tt
 
 -- ---- what the rows are made of; every byte is written out here, and none is taken from the definitions

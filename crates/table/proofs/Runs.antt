@@ -1,29 +1,29 @@
--- What refutes a claim about runs: an image of the cases that a start-up leaves as it is, a call on it cut after so many whole stores, and what the next start-up
--- finds. Under the definitions as they stand the claims hold, so no image and no call meets what is asked here; under an edited definition one may.
+-- What refutes a claim about runs: an image of the cases that a start-up leaves as it is, a call on it cut after so many whole stores of one byte, and what the next
+-- start-up finds. Under the definitions as they stand the claims hold, so no image and no call meets what is asked here; under an edited definition one may.
 -- Assumes nothing.
 use Prim.Native.Nat.{ℕ, _-_}
 use native.Mathlib.Omega.{arith}
-use mathlib.Core.Path.{_≡_, refl, sym, ap, _∙_}
+use mathlib.Core.Path.{_≡_, refl, sym, ap, _∙_, subst}
 use mathlib.Core.Logic.{inl}
-use mathlib.Core.Bool.{Bool, true, false, _&&_}
+use mathlib.Core.Bool.{Bool, true, false, cond, _&&_}
 use mathlib.Core.List.{List, [], _∷_, _++_, append-nil}
 use mathlib.Core.Option.{none}
 use lib.ListN.{length, replicate}
-use lib.Dec.{T, ltb, ltb→lt}
+use lib.Dec.{T, leb, ltb, ltb→lt}
 use borrow.Author.Tests.{le-leb}
 use Rattle.model.specs.Lists.{all, onSome}
 use Rattle.model.specs.Entry.{Value}
 use Rattle.model.specs.Region.{valuesOf}
-use Rattle.model.specs.Stores.{Store, Bytes, applyAll, after}
+use Rattle.model.specs.Stores.{Store, stores, todays, widthOf, Bytes, applyAll, after}
 use Rattle.model.specs.Rules.{startUpBroken}
 use Rattle.model.specs.Set.{Plan, refuse, make}
 use Rattle.model.specs.StartUp.{resume, tidySpare, tidyWork, tidyTail, andThen, startUpStores, startUpPlan}
-use Rattle.model.specs.Answers.{done, outcome, imageAfter, storesOf, decided}
-use Rattle.model.proofs.Failing.{unworn, outcome-none, image-none}
+use Rattle.model.specs.Answers.{done, stopped, outcome, imageAfter}
+use Rattle.model.proofs.Failing.{unworn, outcome-none}
 use Rattle.model.specs.Book.{Call, startUp, planOf, Sized, bookAfter, Run, begin, ran, cut, StartedUp, started, Demand3}
-use Rattle.model.proofs.Stores.{after-all, after-append}
-use Rattle.table.proofs.Pieces.{Piece, flat, laidAll, allInside, flat-laid}
-use Rattle.table.proofs.Row.{plain, ff, zeros, header, image, guid, rateEntry, behindState, startId, setting}
+use Rattle.model.proofs.Stores.{after-all, after-append, stores-todays}
+use Rattle.table.proofs.Pieces.{Piece, flat, laidAll, allInside, flat-laid, asWrites, as-flat}
+use Rattle.table.proofs.Row.{listed, settled, plan-listed, plan-settled, plan-left, plain, ff, zeros, header, image, guid, rateEntry, behindState, startId, setting}
 
 abbrev isByte : ℕ → Bool
 isByte b = ltb b 256
@@ -40,18 +40,20 @@ bytes (b ∷ l) t = let h = both (isByte b) (all isByte l) t in (ltb→lt b 256 
 pub rested : (img : List ℕ) → T (all isByte img) → outcome (unworn 0) (startUpPlan img) img ≡ done 0 → StartedUp img
 unfolding after applyAll
 rested img small idle =
-    record { before = img; bytes = bytes img small; context = unworn 0; stores = 0; finished = idle; left = sym (image-none (unworn 0) (startUpPlan img) img refl) }
+    record { before = img; bytes = bytes img small; context = unworn 0; stores = 0; finished = idle; left = sym (plan-left 0 (startUpPlan img) img) }
 
 module _ (img : List ℕ) (c : Call) (sized : Sized c) (k : ℕ) where
   -- the image when k stores of the call are complete, and the book then
   abbrev pub torn : List ℕ
-  torn = after k (storesOf (planOf c img)) img
+  torn = after k (listed (planOf c img)) img
 
   abbrev pub book : List Value
-  book = bookAfter c (decided k (planOf c img)) (valuesOf img)
+  book = bookAfter c (settled k (planOf c img)) (valuesOf img)
 
   pub torn-run : Run img torn book
-  torn-run = cut begin c sized k (inl refl)
+  torn-run =
+      subst (λ (t : Bool). Run img torn (bookAfter c t (valuesOf img))) (plan-settled k (planOf c img))
+      (cut begin c sized 1 k (inl (ap (λ (ss : List Store). after k ss img) (sym (plan-listed (planOf c img))))))
 
 -- the same image by the pieces that its stores are, where there are too many to make one by one
 pub laid-after : (img : List ℕ) (ss : List Store) (ps : List Piece) (rest : List Store)
@@ -87,17 +89,21 @@ lost up run n stores finished left same other demand =
 -- what follows a resumption is judged on the image that it leaves, found by laying its pieces over the image before
 pub resumption : (img : List ℕ) (ps : List Piece)
     → startUpBroken img ≡ none
-    → resume img ≡ flat ps
+    → resume img ≡ asWrites ps
     → T (allInside (length img) ps)
     → andThen tidySpare (andThen tidyWork tidyTail) (laidAll ps img) ≡ []
-    → startUpPlan img ≡ make [] (flat ps ++ [])
+    → startUpPlan img ≡ make [] (asWrites ps ++ [])
 unfolding startUpPlan startUpStores
-resumption img ps sound stores inside none-more =
+resumption img ps sound writes inside none-more =
     let tidy = andThen tidySpare (andThen tidyWork tidyTail) in
-    let then : tidy (applyAll (resume img) img) ≡ [] = ap (λ ss. tidy (applyAll ss img)) stores ∙ ap tidy (flat-laid ps img inside) ∙ none-more in
+    let then : tidy (applyAll (stores 1 (resume img)) img) ≡ [] =
+    ap (λ ws. tidy (applyAll (stores 1 ws) img)) writes
+    ∙ ap (λ ss. tidy (applyAll ss img)) (stores-todays (asWrites ps) ∙ as-flat ps)
+    ∙ ap tidy (flat-laid ps img inside)
+    ∙ none-more in
     ap (λ o. onSome o refuse (make [] (startUpStores img))) sound
-    ∙ ap (λ ss. make [] (resume img ++ ss)) then
-    ∙ ap (λ ss. make [] (ss ++ [])) stores
+    ∙ ap (λ ws. make [] (resume img ++ ws)) then
+    ∙ ap (λ ws. make [] (ws ++ [])) writes
 
 -- where the start-up's stores are pieces too
 pub lost-laid : {start img : List ℕ}
@@ -105,25 +111,29 @@ pub lost-laid : {start img : List ℕ}
     → StartedUp start
     → Run start img book
     → (ps : List Piece)
-    → startUpPlan img ≡ make [] (flat ps ++ [])
+    → startUpPlan img ≡ make [] (asWrites ps ++ [])
     → T (allInside (length img) ps)
     → (valuesOf (laidAll ps img) ≡ book → ⊥)
     → Demand3
     → ⊥
-unfolding storesOf
+unfolding listed widthOf
 lost-laid {img = img} up run ps plan inside other =
-    let n = length (flat ps ++ []) in
+    let n = length (flat ps) in
+    let whole : todays (asWrites ps ++ []) ≡ flat ps = ap todays (append-nil (asWrites ps)) ∙ as-flat ps in
     lost
     up
     run
     n
     n
-    (ap (λ (p : Plan). outcome (unworn n) p img) plan ∙ outcome-none (unworn n) [] (flat ps ++ []) img refl ∙ rw (le-leb n n (omega arith)))
+    (ap (λ (p : Plan). outcome (unworn n) p img) plan
+    ∙ outcome-none (unworn n) [] (asWrites ps ++ []) img refl
+    ∙ ap (λ (ss : List Store). cond (leb (length ss) n) (done (length ss)) stopped) (stores-todays (asWrites ps ++ []) ∙ whole)
+    ∙ rw (le-leb n n (omega arith)))
     (laidAll ps img)
     (ap (λ (p : Plan). imageAfter (unworn n) p img) plan
-    ∙ image-none (unworn n) (make [] (flat ps ++ [])) img refl
-    ∙ after-all n (flat ps ++ []) img (omega arith)
-    ∙ ap (λ (ss : List Store). applyAll ss img) (append-nil (flat ps))
+    ∙ plan-left n (make [] (asWrites ps ++ [])) img
+    ∙ ap (λ (ss : List Store). after n ss img) whole
+    ∙ after-all n (flat ps) img (omega arith)
     ∙ flat-laid ps img inside)
     other
 
