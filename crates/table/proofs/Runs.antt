@@ -23,7 +23,8 @@ use Rattle.model.proofs.Failing.{unworn, outcome-none}
 use Rattle.model.specs.Book.{Call, startUp, planOf, Sized, bookAfter, Run, begin, ran, cut, StartedUp, started, Demand3}
 use Rattle.model.proofs.Stores.{after-all, after-append, stores-todays}
 use Rattle.table.proofs.Pieces.{Piece, flat, laidAll, allInside, flat-laid, asWrites, as-flat}
-use Rattle.table.proofs.Row.{listed, settled, plan-listed, plan-settled, plan-left, plain, ff, zeros, header, image, guid, rateEntry, behindState, startId, setting}
+use Rattle.table.proofs.Row.{plain, ff, zeros, header, image, guid, rateEntry, behindState, startId, setting}
+use Rattle.table.proofs.Held.{listed, settled, plan-listed, plan-settled, plan-left}
 
 abbrev isByte : ℕ → Bool
 isByte b = ltb b 256
