@@ -1,17 +1,17 @@
 -- What a loop that stores needs of pages: bytes within one page are one store; a run up to a page end and a run from there on are the run of both; the number of stores
--- depends on the number of bytes alone. By induction over the bytes.
+-- depends on the number of bytes alone, and is no greater. By induction over the bytes. And the widths that there are, one by one.
 -- Assumes nothing.
 use Prim.Native.Nat.{ℕ, zero, suc, _+_, _%_, _≤_, _<_}
 use native.Mathlib.Nat.{add-zero, mod-add-mod, mod-eq-of-lt}
 use native.Mathlib.Numerals.{add-one}
 use native.Mathlib.Omega.{arith}
 use mathlib.Core.Path.{_≡_, refl, sym, ap, _∙_, subst}
-use mathlib.Core.Bool.{Bool, true, false, cond, true≢false}
+use mathlib.Core.Bool.{Bool, true, false, cond, _||_}
 use mathlib.Core.List.{List, [], _∷_, _++_}
 use lib.ListN.{length}
 use lib.Dec.{eqb}
-use borrow.Author.Tests.{eq-eqb, ne-eqb}
-use Rattle.model.specs.Stores.{Store, page, joinedTo, pages}
+use borrow.Author.Tests.{eqb-true, eq-eqb, ne-eqb}
+use Rattle.model.specs.Stores.{Store, page, joinedTo, pages, widthOf}
 use Rattle.model.proofs.Stores.{Starts, none-there, page-there, pages-start, pages-first}
 
 suc-place : (w at : ℕ) → at % w + 1 < w → suc at % w ≡ at % w + 1
@@ -71,3 +71,32 @@ pages-length w at (x ∷ xs) (y ∷ ys) h = go (eqb (suc at % w) 0) (pages-lengt
     go : (t : Bool) → length (pages w (suc at) xs) ≡ length (pages w (suc at) ys) → length (inFront t at x (pages w (suc at) xs)) ≡ length (inFront t at y (pages w (suc at) ys))
     go true e = ap suc e
     go false e = joined-length at x y (pages-start w (suc at) xs) (pages-start w (suc at) ys) e
+
+-- no more stores than bytes
+pub pages-few : (w at : ℕ) (bs : List ℕ) → length (pages w at bs) ≤ length bs
+unfolding pages
+pages-few w at [] = omega arith
+pages-few w at (b ∷ bs) = go (eqb (suc at % w) 0) (pages-few w (suc at) bs)
+  where
+    joined : {ss : List Store} → Starts (suc at) ss → length ss ≤ length bs → length (joinedTo at b ss) ≤ suc (length bs)
+    joined none-there h = omega arith
+    joined (page-there cs ss) h = omega arith
+
+    go : (t : Bool) → length (pages w (suc at) bs) ≤ length bs → length (cond t (page at (b ∷ []) ∷ pages w (suc at) bs) (joinedTo at b (pages w (suc at) bs))) ≤ suc (length bs)
+    go true h = omega arith
+    go false h = joined (pages-start w (suc at) bs) h
+
+-- the widths that there are
+pub widths : (P : ℕ → Type 0) → P 1 → P 2 → P 4 → P 8 → P 16 → (n : ℕ) → P (widthOf n)
+unfolding widthOf
+widths P a b c d e n = go (eqb n 2) (eqb n 4) (eqb n 8) (eqb n 16) refl refl refl refl
+  where
+    go : (t u v x : Bool) → eqb n 2 ≡ t → eqb n 4 ≡ u → eqb n 8 ≡ v → eqb n 16 ≡ x → P (cond (t || (u || (v || (x || false)))) n 1)
+    go true u v x i j k l = subst P (sym (eqb-true n 2 i)) b
+    go false true v x i j k l = subst P (sym (eqb-true n 4 j)) c
+    go false false true x i j k l = subst P (sym (eqb-true n 8 k)) d
+    go false false false true i j k l = subst P (sym (eqb-true n 16 l)) e
+    go false false false false i j k l = a
+
+pub width-positive : (n : ℕ) → 1 ≤ widthOf n
+width-positive = widths (λ w. 1 ≤ w) (omega arith) (omega arith) (omega arith) (omega arith) (omega arith)

@@ -127,8 +127,8 @@ Bytes (b ∷ bs) = (b < 256) × Bytes bs
 abbrev pub Uncleared : ℕ → ℕ → ℕ → Type 0
 Uncleared old new x = (bitAnd new x ≡ new) × (bitAnd x old ≡ x)
 
--- a begun store: "each byte of that page may have any of its wanted bits uncleared, and one or more of the store's are";
--- "an erase leaves anything in its block; no other byte changes"
+-- a begun store: 02 (i), "each byte of that page may have any of its wanted bits uncleared, and one or more of the store's are", where a byte beside the store's has
+-- no wanted bit; of one byte it is 01, "leaves uncleared one or more of the bits it had to clear"; "an erase leaves anything in its block; no other byte changes"
 abbrev pub Begun : Store → List ℕ → List ℕ → Type 0
 Begun (page at bs) img img′ =
     (xs : List ℕ)

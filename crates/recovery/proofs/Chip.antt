@@ -6,13 +6,14 @@ use native.Mathlib.Numerals.{add-one}
 use native.Mathlib.Omega.{arith}
 use mathlib.Core.Path.{_≡_, refl, sym, ap, _∙_, subst}
 use mathlib.Core.Logic.{_≢_}
-use mathlib.Core.Bool.{Bool, true, false, cond, _||_}
+use mathlib.Core.Bool.{Bool, true, false, cond}
 use mathlib.Core.List.{List, [], _∷_, _++_}
 use lib.ListN.{length}
 use lib.Dec.{eqb, ltb}
 use borrow.Author.Tests.{eqb-true, eqb-false, ltb-true, ltb-false}
 use Rattle.model.specs.Image.{block}
 use Rattle.model.specs.Stores.{Store, page, erase, Write, write, header, clear, joinedTo, pages, stores, storesOne, Every, widthOf}
+use Rattle.model.proofs.Pages.{widths, width-positive}
 use Rattle.model.proofs.Stores.{stores-run, stores-mark, Starts, none-there, page-there, pages-start, pages-first, pages-one}
 use Rattle.recovery.specs.Chip.{OnePage, StoresWithinPages, WholePage, WholePagesStored, MarksAreSingle}
 
@@ -180,41 +181,12 @@ pages-paged w at (b ∷ bs) = go (eqb (suc at % w) 0) (pages-paged w (suc at) bs
     go true h = (tt, h)
     go false h = paged-joined at b (pages-start w (suc at) bs) h
 
--- no more stores than bytes
-pub pages-few : (w at : ℕ) (bs : List ℕ) → length (pages w at bs) ≤ length bs
-unfolding pages
-pages-few w at [] = omega arith
-pages-few w at (b ∷ bs) = go (eqb (suc at % w) 0) (pages-few w (suc at) bs)
-  where
-    joined : {ss : List Store} → Starts (suc at) ss → length ss ≤ length bs → length (joinedTo at b ss) ≤ suc (length bs)
-    joined none-there h = omega arith
-    joined (page-there cs ss) h = omega arith
-
-    go : (t : Bool) → length (pages w (suc at) bs) ≤ length bs → length (cond t (page at (b ∷ []) ∷ pages w (suc at) bs) (joinedTo at b (pages w (suc at) bs))) ≤ suc (length bs)
-    go true h = omega arith
-    go false h = joined (pages-start w (suc at) bs) h
-
 whole-count : (w : ℕ) (ss : List Store) → Every (WholePage w) ss → Every Paged ss → length ss * w ≡ total ss
 whole-count w [] h p = zero-mul w
 whole-count w (page at bs ∷ ss) h p =
     let rest = whole-count w ss (h .1) (p .1) in
     suc-mul (length ss) w ∙ omega (arith, h .0 .1, rest)
 whole-count w (erase b ∷ ss) h p = absurd (p .0)
-
--- the widths that there are
-widths : (P : ℕ → Type 0) → P 1 → P 2 → P 4 → P 8 → P 16 → (n : ℕ) → P (widthOf n)
-unfolding widthOf
-widths P a b c d e n = go (eqb n 2) (eqb n 4) (eqb n 8) (eqb n 16) refl refl refl refl
-  where
-    go : (t u v x : Bool) → eqb n 2 ≡ t → eqb n 4 ≡ u → eqb n 8 ≡ v → eqb n 16 ≡ x → P (cond (t || (u || (v || (x || false)))) n 1)
-    go true u v x i j k l = subst P (sym (eqb-true n 2 i)) b
-    go false true v x i j k l = subst P (sym (eqb-true n 4 j)) c
-    go false false true x i j k l = subst P (sym (eqb-true n 8 k)) d
-    go false false false true i j k l = subst P (sym (eqb-true n 16 l)) e
-    go false false false false i j k l = a
-
-width-positive : (n : ℕ) → 1 ≤ widthOf n
-width-positive = widths (λ w. 1 ≤ w) (omega arith) (omega arith) (omega arith) (omega arith) (omega arith)
 
 block-begins : (k n : ℕ) → block * k % widthOf n ≡ 0
 unfolding block
