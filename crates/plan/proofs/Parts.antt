@@ -20,6 +20,7 @@ nothing-ready : (c img : List ℕ) → Ready c nothings img
 unfolding nothings
 nothing-ready c img = record {
   fit = (tt, (tt, (tt, (tt, (tt, (tt, (tt, (tt, (tt, (tt, (tt, (tt, tt))))))))))));
+  blank = (tt, (tt, (tt, (tt, (tt, (tt, (tt, (tt, (tt, (tt, (tt, (tt, tt))))))))))));
   bits = λ w. (tt, (tt, (tt, (tt, (tt, (tt, (tt, (tt, (tt, (tt, (tt, (tt, tt))))))))))));
 }
 
