@@ -7,8 +7,8 @@ use lib.ListN.{length, take, drop, take-append-drop}
 use lib.Seq.{take-nil}
 use Rattle.model.specs.declared.Rule.{Rule}
 use Rattle.model.specs.declared.Context.{Context}
-use Rattle.model.specs.Stores.{applyAll, after, reach}
-use Rattle.model.specs.Answers.{Outcome, refused, ruleNumber, storesOf, deadOf, madeOf, ended, outcome, imageAfter}
+use Rattle.model.specs.Stores.{stores, applyAll, after, reach}
+use Rattle.model.specs.Answers.{Outcome, refused, ruleNumber, storesOf, deadOf, pageOf, madeOf, ended, outcome, imageAfter}
 use Rattle.plan.specs.declared.Op.{Op}
 use Rattle.plan.specs.declared.Judged.the-variants.{Accepted, Refused}
 use Rattle.plan.specs.declared.Planned.{Planned}
@@ -20,8 +20,8 @@ whole : (c : List ℕ) (ops : List Op) (d : ℕ) → expand c (take d ops) ++ ex
 whole c ops d = sym (expand-append c (take d ops) (drop d ops)) ∙ ap (expand c) (take-append-drop d ops)
 
 pub accepted-end : (x : Context) (c img : List ℕ) (p : Planned) → p .judged ≡ Accepted → {o : Outcome} {img′ : List ℕ}
-    → (o ≡ ended (x .limit) (reach (deadOf x) (expand c (p .plan)) img) (length (expand c (p .plan))))
-    × (img′ ≡ after (min (x .limit) (reach (deadOf x) (expand c (p .plan)) img)) (expand c (p .plan)) img)
+    → (o ≡ ended (x .limit) (reach (deadOf x) (stores (pageOf x) (expand c (p .plan))) img) (length (stores (pageOf x) (expand c (p .plan)))))
+    × (img′ ≡ after (min (x .limit) (reach (deadOf x) (stores (pageOf x) (expand c (p .plan))) img)) (stores (pageOf x) (expand c (p .plan))) img)
     → (o ≡ outcome x (plannedAs c p) img) × (img′ ≡ imageAfter x (plannedAs c p) img)
 unfolding plannedAs outcome imageAfter madeOf storesOf
 accepted-end x c img p j h = rw (j, whole c (p .plan) (upTo (p .deciding))) h

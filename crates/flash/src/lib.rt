@@ -1,14 +1,16 @@
-// The executor: the only functions that write an image. It carries out the operations of a plan store by store, and ends where n stores are made or one fails.
+// The executor: the only functions that write an image. It carries out the operations of a plan store by store, cut into pages of w bytes, and ends where n stores
+// are made or one fails.
 ghost use mathlib.Core.Path.{_≡_};
 ghost use mathlib.Core.Bool.{true, not, cond, _&&_};
-ghost use Prim.Native.Nat.{_+_, _*_, _-_, _≤_, _<_, min};
+ghost use Prim.Native.Nat.{_+_, _*_, _-_, _%_, _≤_, _<_, min};
+ghost use mathlib.Core.Logic.{_≢_};
 ghost use lib.ListN.{length, getD};
-ghost use lib.Dec.{leb, ltb};
-ghost use Rattle.model.specs.Lists.{among};
+ghost use lib.Dec.{eqb, leb, ltb};
+ghost use Rattle.model.specs.Lists.{among, part};
 ghost use Rattle.model.specs.Image.{block};
-ghost use Rattle.model.specs.Stores.{byte, erase, apply, applyAll, after, falls, fails, reach};
+ghost use Rattle.model.specs.Stores.{byte, page, erase, apply, applyAll, after, falls, fails, reach, stores, widthOf};
 ghost use Rattle.model.specs.Answers.{answerOf, outcome, imageAfter, ended};
-ghost use Rattle.plan.specs.Plan.{expand, sizeOf, runOf, Programmed, Turned, Fits, OneBit, Ready};
+ghost use Rattle.plan.specs.Plan.{expand, sizeOf, runOf, countOf, Programmed, Turned, Fits, OneBit, Ready};
 ghost use Rattle.plan.specs.Planned.{plannedAs};
 ghost use Rattle.plan.specs.declared.Step.the-variants.{Mark, Header};
 use model::Answer;
@@ -100,23 +102,33 @@ fn mark(image: &mut [u8], at: usize, new: u8, dead: &[u32]) -> usize
     0
 }
 
-// How many stores an operation is.
-fn size(step: Step) -> usize
-    ensures { λ r. ⌜ r ≡ sizeOf step ⌝ }
+// The places of a header.
+fn header_size(w: usize) -> usize
+    ensures { λ r. ⌜ r ≡ cond (eqb w 1) 59 60 ⌝ }
+{
+    if w == 1 {
+        return HEADER_STORES;
+    }
+    Layout::HEADER
+}
+
+// How many places an operation has: stores of a byte or a block; with longer pages the bytes of a header, its state among them.
+fn size(step: Step, w: usize) -> usize
+    ensures { λ r. ⌜ r ≡ sizeOf w step ⌝ }
 {
     match step {
         Step::Nothing => 0,
         Step::Mark(_, _) => 1,
         Step::Erase(_, count) => count,
         Step::Program(_, _, len) => len,
-        Step::Header(_, _) => HEADER_STORES,
+        Step::Header(_, _) => header_size(w),
     }
 }
 
 // Bytes of the content stored from an offset on, in rising order.
 fn put_run(image: &mut [u8], at: usize, from: usize, r: usize, content: &[u8])
     requires { ⌜ (from + r ≤ length (now content)) × (at + r ≤ length (now image)) ⌝ }
-    ensures { λ _. ⌜ now (image .exit) ≡ applyAll (runOf (now (content .entry)) at from r) (now (image .entry)) ⌝ }
+    ensures { λ _. ⌜ now (image .exit) ≡ applyAll (runOf 1 (now (content .entry)) at from r) (now (image .entry)) ⌝ }
 {
     let mut j = 0;
     while j < r {
@@ -125,22 +137,30 @@ fn put_run(image: &mut [u8], at: usize, from: usize, r: usize, content: &[u8])
     }
 }
 
-// Of k bytes that are to be stored, those before a dead address where a bit would have to fall.
+// Whether one of n bytes that are to be stored is at a dead address, and a bit would have to fall there.
+fn touches(image: &[u8], at: usize, from: usize, n: usize, content: &[u8], a: usize) -> bool
+    requires { ⌜ (from + n ≤ length (now content)) × (at + n ≤ length (now image)) ⌝ }
+    ensures { λ r. ⌜ r ≡ (leb at a && ltb a (at + n) && falls (getD (now (image .entry)) a 0) (getD (now (content .entry)) (from + (a - at)) 0)) ⌝ }
+{
+    if a < at {
+        return false;
+    }
+    let j = a - at;
+    if n <= j {
+        return false;
+    }
+    let old = image[a];
+    let new = content[from + j];
+    old & new != old
+}
+
+// Of k bytes that are to be stored one by one, those before a dead address where a bit would have to fall.
 fn before_dead(image: &[u8], at: usize, from: usize, k: usize, content: &[u8], a: usize) -> usize
     requires { ⌜ (from + k ≤ length (now content)) × (at + k ≤ length (now image)) ⌝ }
     ensures { λ r. ⌜ r ≡ cond (leb at a && ltb a (at + k) && falls (getD (now (image .entry)) a 0) (getD (now (content .entry)) (from + (a - at)) 0)) (a - at) k ⌝ }
 {
-    if a < at {
-        return k;
-    }
-    let j = a - at;
-    if k <= j {
-        return k;
-    }
-    let old = image[a];
-    let new = content[from + j];
-    if old & new != old {
-        return j;
+    if touches(image, at, from, k, content, a) {
+        return a - at;
     }
     k
 }
@@ -148,7 +168,7 @@ fn before_dead(image: &[u8], at: usize, from: usize, k: usize, content: &[u8], a
 // How many of r bytes can be stored before one fails: the least over the dead addresses.
 fn spared(image: &[u8], at: usize, from: usize, r: usize, content: &[u8], dead: &[u32]) -> usize
     requires { ⌜ (from + r ≤ length (now content)) × (at + r ≤ length (now image)) ⌝ }
-    ensures { λ k. ⌜ k ≡ reach (now (dead .entry)) (runOf (now (content .entry)) at from r) (now (image .entry)) ⌝ }
+    ensures { λ k. ⌜ k ≡ reach (now (dead .entry)) (runOf 1 (now (content .entry)) at from r) (now (image .entry)) ⌝ }
 {
     let mut k = r;
     let mut d = 0;
@@ -169,8 +189,8 @@ fn least(a: usize, b: u64) -> usize
     a
 }
 
-// Bytes of the content, no more than are left, up to the first that fails.
-fn program(
+// Bytes of the content, each a store, no more than are left, up to the first that fails.
+fn bytes(
     image: &mut [u8],
     at: usize,
     from: usize,
@@ -180,7 +200,7 @@ fn program(
     dead: &[u32],
 ) -> usize
     requires { ⌜ (1 ≤ len) × (1 ≤ left) × (from + len ≤ length (now content)) × (at + len ≤ length (now image)) ⌝ }
-    ensures { λ r. ⌜ (r ≤ len) × Programmed (now (dead .entry)) (now (content .entry)) at from left (now (image .entry)) (now (image .exit)) r ⌝ }
+    ensures { λ r. ⌜ Programmed (now (dead .entry)) 1 (now (content .entry)) at from len left (now (image .entry)) (now (image .exit)) r ⌝ }
 {
     let n = least(len, left);
     let k = spared(image, at, from, n, content, dead);
@@ -188,8 +208,84 @@ fn program(
     k
 }
 
-// Bytes of a header: those before the state, or those behind it.
-fn header(
+// The bytes up to the end of a page, or of what is to be stored.
+fn to_page_end(w: usize, at: usize, len: usize) -> usize
+    requires { ⌜ (1 ≤ w) × (1 ≤ len) ⌝ }
+    ensures { λ r. ⌜ (1 ≤ r) × (r ≤ len) × (at % w + r ≤ w) × (r ≢ len → at % w + r ≡ w) ⌝ }
+{
+    let n = w - at % w;
+    if len < n {
+        return len;
+    }
+    n
+}
+
+// Whether a store of n bytes fails: "A dead byte with a bit to fall fails its whole store".
+fn is_page_worn(
+    image: &[u8],
+    at: usize,
+    from: usize,
+    n: usize,
+    content: &[u8],
+    dead: &[u32],
+) -> bool
+    requires { ⌜ (from + n ≤ length (now content)) × (at + n ≤ length (now image)) ⌝ }
+    ensures { λ r. ⌜ r ≡ fails (now (dead .entry)) (page at (part from n (now (content .entry)))) (now (image .entry)) ⌝ }
+{
+    let mut d = 0;
+    while d < dead.len() {
+        if touches(image, at, from, n, content, address(dead[d])) {
+            return true;
+        }
+        d += 1;
+    }
+    false
+}
+
+// One page of bytes of the content, a store; none where it fails.
+fn one_page(
+    image: &mut [u8],
+    at: usize,
+    from: usize,
+    len: usize,
+    content: &[u8],
+    left: u64,
+    dead: &[u32],
+    w: usize,
+) -> usize
+    requires { ⌜ (1 ≤ len) × (1 ≤ left) × (from + len ≤ length (now content)) × (at + len ≤ length (now image)) × (1 ≤ w) × (w ≢ 1) ⌝ }
+    ensures { λ r. ⌜ Programmed (now (dead .entry)) w (now (content .entry)) at from len left (now (image .entry)) (now (image .exit)) r ⌝ }
+{
+    let n = to_page_end(w, at, len);
+    if is_page_worn(image, at, from, n, content, dead) {
+        return 0;
+    }
+    put_run(image, at, from, n, content);
+    n
+}
+
+// Bytes of the content: byte by byte, or one page.
+fn program(
+    image: &mut [u8],
+    at: usize,
+    from: usize,
+    len: usize,
+    content: &[u8],
+    left: u64,
+    dead: &[u32],
+    w: usize,
+) -> usize
+    requires { ⌜ (1 ≤ len) × (1 ≤ left) × (from + len ≤ length (now content)) × (at + len ≤ length (now image)) × (1 ≤ w) ⌝ }
+    ensures { λ r. ⌜ Programmed (now (dead .entry)) w (now (content .entry)) at from len left (now (image .entry)) (now (image .exit)) r ⌝ }
+{
+    if w == 1 {
+        return bytes(image, at, from, len, content, left, dead);
+    }
+    one_page(image, at, from, len, content, left, dead, w)
+}
+
+// A header byte by byte: those before the state, or those behind it.
+fn header_bytes(
     image: &mut [u8],
     at: usize,
     from: usize,
@@ -199,10 +295,10 @@ fn header(
     dead: &[u32],
 ) -> usize
     requires { ⌜ (i < 59) × (1 ≤ left) × (from + 60 ≤ length (now content)) × (at + 60 ≤ length (now image)) ⌝ }
-    ensures { λ r. ⌜ Turned (now (dead .entry)) (now (content .entry)) (Header at from) i left (now (image .entry)) (now (image .exit)) r ⌝ }
+    ensures { λ r. ⌜ Turned (now (dead .entry)) 1 (now (content .entry)) (Header at from) i left (now (image .entry)) (now (image .exit)) r ⌝ }
 {
     if i < Layout::STATE {
-        return program(
+        return bytes(
             image,
             at + i,
             from + i,
@@ -212,7 +308,7 @@ fn header(
             dead,
         );
     }
-    program(
+    bytes(
         image,
         at + i + 1,
         from + i + 1,
@@ -223,10 +319,47 @@ fn header(
     )
 }
 
-// Stores of an operation from a place of its list on, no more than are left: a mark, an erase, or bytes one behind another. None where the next one fails.
-fn stores(image: &mut [u8], step: Step, i: usize, content: &[u8], left: u64, dead: &[u32]) -> usize
-    requires { ⌜ (i < sizeOf step) × (1 ≤ left) × Fits (length (now content)) (length (now image)) step × (i ≡ 0 → OneBit step (now image)) ⌝ }
-    ensures { λ r. ⌜ Turned (now (dead .entry)) (now (content .entry)) step i left (now (image .entry)) (now (image .exit)) r ⌝ }
+// A header: without its state byte by byte, or a page of it, with FF in the place of its state.
+fn header(
+    image: &mut [u8],
+    at: usize,
+    from: usize,
+    i: usize,
+    content: &[u8],
+    left: u64,
+    dead: &[u32],
+    w: usize,
+) -> usize
+    requires { ⌜ (i < sizeOf w (Header at from)) × (1 ≤ left) × (from + 60 ≤ length (now content)) × (at + 60 ≤ length (now image)) × (1 ≤ w) ⌝ }
+    ensures { λ r. ⌜ Turned (now (dead .entry)) w (now (content .entry)) (Header at from) i left (now (image .entry)) (now (image .exit)) r ⌝ }
+{
+    if w == 1 {
+        return header_bytes(image, at, from, i, content, left, dead);
+    }
+    one_page(
+        image,
+        at + i,
+        from + i,
+        Layout::HEADER - i,
+        content,
+        left,
+        dead,
+        w,
+    )
+}
+
+// Stores of an operation from a place of it on, no more than are left: a mark, an erase, bytes one behind another, or a page. None where the next one fails.
+fn turn(
+    image: &mut [u8],
+    step: Step,
+    i: usize,
+    content: &[u8],
+    left: u64,
+    dead: &[u32],
+    w: usize,
+) -> usize
+    requires { ⌜ (i < sizeOf w step) × (1 ≤ left) × Fits (length (now content)) (length (now image)) step × (i ≡ 0 → OneBit step (now image)) × (1 ≤ w) ⌝ }
+    ensures { λ r. ⌜ Turned (now (dead .entry)) w (now (content .entry)) step i left (now (image .entry)) (now (image .exit)) r ⌝ }
 {
     match step {
         Step::Nothing => 0,
@@ -243,16 +376,40 @@ fn stores(image: &mut [u8], step: Step, i: usize, content: &[u8], left: u64, dea
             content,
             left,
             dead,
+            w,
         ),
-        Step::Header(at, from) => header(image, at, from, i, content, left, dead),
+        Step::Header(at, from) => header(image, at, from, i, content, left, dead, w),
     }
 }
 
+// The stores of r places that were gone over in one turn: each is one with w = 1, and else all are.
+fn counted(w: usize, r: usize) -> u64
+    ensures { λ n. ⌜ n ≡ countOf w r ⌝ }
+{
+    if w == 1 {
+        return r as u64;
+    }
+    if r == 0 {
+        return 0;
+    }
+    1
+}
+
 // The stores of a plan in their order, ended where n of them are made, or where one fails.
-fn make_stores(image: &mut [u8], plan: Plan, content: &[u8], n: u64, dead: &[u32]) -> Answer
-    requires { ⌜ Ready (now content) plan (now image) ⌝ }
-    ensures { λ r. ⌜ (answerOf r ≡ ended n (reach (now (dead .entry)) (expand (now (content .entry)) plan) (now (image .entry))) (length (expand (now (content .entry)) plan)))
-        × (now (image .exit) ≡ after (min n (reach (now (dead .entry)) (expand (now (content .entry)) plan) (now (image .entry)))) (expand (now (content .entry)) plan) (now (image .entry))) ⌝ }
+fn make_stores(
+    image: &mut [u8],
+    plan: Plan,
+    content: &[u8],
+    n: u64,
+    dead: &[u32],
+    w: usize,
+) -> Answer
+    requires { ⌜ Ready (now content) plan (now image) × (1 ≤ w) ⌝ }
+    ensures { λ r. ⌜ (answerOf r
+        ≡ ended n (reach (now (dead .entry)) (stores w (expand (now (content .entry)) plan)) (now (image .entry))) (length (stores w (expand (now (content .entry)) plan))))
+        × (now (image .exit)
+        ≡ after (min n (reach (now (dead .entry)) (stores w (expand (now (content .entry)) plan)) (now (image .entry))))
+        (stores w (expand (now (content .entry)) plan)) (now (image .entry))) ⌝ }
 {
     let mut made: u64 = 0;
     let mut op = 0;
@@ -260,16 +417,16 @@ fn make_stores(image: &mut [u8], plan: Plan, content: &[u8], n: u64, dead: &[u32
     while op < 12 {
         let o = plan[op];
         let step = o.step;
-        if i < size(step) {
+        if i < size(step, w) {
             if made == n {
                 return Answer::Stopped;
             }
-            let k = stores(image, step, i, content, n - made, dead);
-            if k == 0 {
+            let r = turn(image, step, i, content, n - made, dead, w);
+            if r == 0 {
                 return Answer::Refused(Rule::Worn);
             }
-            made += k as u64;
-            i += k;
+            made += counted(w, r);
+            i += r;
         } else {
             op += 1;
             i = 0;
@@ -288,6 +445,25 @@ fn dead_count(count: u32, dead: [u32; 16]) -> usize
     count as usize
 }
 
+// How many bytes the part stores at a time: 1, 2, 4, 8 or 16; any other number counts as 1.
+fn width(w: u32) -> usize
+    ensures { λ r. ⌜ (r ≡ widthOf w) × (1 ≤ r) ⌝ }
+{
+    if w == 2 {
+        return 2;
+    }
+    if w == 4 {
+        return 4;
+    }
+    if w == 8 {
+        return 8;
+    }
+    if w == 16 {
+        return 16;
+    }
+    1
+}
+
 // A call carried out as it was planned: "The answer is done with its number of stores, stopped, or refused holding its rule."
 pub fn carry_out(image: &mut [u8], planned: Planned, content: &[u8], context: Context) -> Answer
     requires { ⌜ Ready (now content) (planned .plan) (now image) ⌝ }
@@ -300,7 +476,8 @@ pub fn carry_out(image: &mut [u8], planned: Planned, content: &[u8], context: Co
         Judged::Accepted => {
             let dead = context.dead;
             let count = dead_count(context.count, dead);
-            make_stores(image, plan, content, context.limit, &dead[..count])
+            let w = width(context.width);
+            make_stores(image, plan, content, context.limit, &dead[..count], w)
         }
         Judged::Refused(rule) => Answer::Refused(rule),
     }

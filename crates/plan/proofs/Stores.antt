@@ -27,7 +27,7 @@ unfolding bytewise
 length-bytewise at [] = refl
 length-bytewise at (b ∷ bs) = ap suc (length-bytewise (suc at) bs)
 
-length-part : (from len : ℕ) (c : List ℕ) → from + len ≤ length c → length (part from len c) ≡ len
+pub length-part : (from len : ℕ) (c : List ℕ) → from + len ≤ length c → length (part from len c) ≡ len
 length-part from len c h = length-take-le len (drop from c) (rw length-drop (omega arith))
 
 -- with w = 1 there are as many as bytes

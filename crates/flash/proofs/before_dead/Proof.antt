@@ -1,51 +1,27 @@
--- `flash::before_dead` meets its contract, by its three tests. Assumes nothing.
-use native.Mathlib.Omega.{arith}
+-- `flash::before_dead` meets its contract, by its test. Assumes nothing.
+use Prim.Native.Nat.{_+_, _-_}
+use mathlib.Core.Path.{sym, _∙_}
 use lib.ListN.{getD}
-use lib.Bits.{bitAnd}
 use denote.Ref.{now}
-use borrow.Author.Tests.{lt-leb, le-leb, lt-ltb, le-ltb, eq-eqb, ne-eqb}
-use Rattle.flash.proofs.Dead.{below, beyond, falling, standing}
+use Rattle.model.specs.Stores.{falls}
+use Rattle.flash.proofs.Dead.{touched-behind}
 use borrow.Author.Needs.{needs}
 use Rattle.flash.proofs.before_dead.Statement.{statement}
 use Rattle.flash.proofs.before_dead.Tie as tie
 
+touches-requires : tie.Need-touches-requires
+touches-requires c κs = search needs
+
+sub-result : tie.Need-sub-result
+sub-result c =
+    let a = c .before .before .before .before .args in
+    touched-behind (a .at) (a .a) (a .k) (falls (getD (now (a .image)) (a .a) 0) (getD (now (a .content)) (a .from + (a .a - a .at)) 0)) (sym (c .before .touches .ensures) ∙ c .if1 .taken)
+
 returns : tie.Need-returns
-returns c =
-    let a = c .before .args in
-    below (a .at) (a .a) (a .k) (getD (now (a .image)) (a .a) 0) _ (c .if1 .taken)
+returns c = rw (sym (c .before .touches .ensures) ∙ c .if1 .taken)
 
 returns-2 : tie.Need-returns-2
-returns-2 c =
-    let a = c .before .before .args in
-    beyond (a .at) (a .a) (a .k) (getD (now (a .image)) (a .a) 0) _ (omega arith)
-
-shared-slice-read-old : tie.Need-shared-slice-read-old
-shared-slice-read-old c = search needs
-
-add-new : tie.Need-add-new
-add-new c = search needs
-
-shared-slice-read-new : tie.Need-shared-slice-read-new
-shared-slice-read-new c = search needs
-
-returns-3 : tie.Need-returns-3
-returns-3 c =
-    let a = c .before .before .before .before .before .args in
-    falling (a .at) (a .a) (a .k) (getD (now (a .image)) (a .a) 0) _ (omega arith) (omega arith) (c .if3 .taken)
-
-returns-4 : tie.Need-returns-4
-returns-4 c =
-    let a = c .before .before .before .before .before .args in
-    standing (a .at) (a .a) (a .k) (getD (now (a .image)) (a .a) 0) _ (c .if3 .left)
+returns-2 c = rw (sym (c .before .touches .ensures) ∙ c .if1 .left)
 
 pub before-dead-spec : {M : Type 1} → statement M
-before-dead-spec =
-    tie.close
-    (tie.spec
-    returns
-    returns-2
-    shared-slice-read-old
-    add-new
-    shared-slice-read-new
-    returns-3
-    returns-4)
+before-dead-spec = tie.close (tie.spec touches-requires sub-result returns returns-2)

@@ -14,13 +14,16 @@ dead-count-requires : tie.Need-dead-count-requires
 dead-count-requires c κs = search needs
 
 array-share-prefix-dead : tie.Need-array-share-prefix-dead
-array-share-prefix-dead c = c .before .dead-count .ensures .1
+array-share-prefix-dead c = c .before .before .dead-count .ensures .1
 
 slice-aggregate-make-stores : tie.Need-slice-aggregate-make-stores
-slice-aggregate-make-stores c = sym (length-take-le (c .before .before .dead-count .result) _ (c .before .before .dead-count .ensures .1))
+slice-aggregate-make-stores c = sym (length-take-le (c .before .before .before .dead-count .result) _ (c .before .before .before .dead-count .ensures .1))
+
+width-requires : tie.Need-width-requires
+width-requires c κs = search needs
 
 make-stores-requires : tie.Need-make-stores-requires
-make-stores-requires c κs = search needs
+make-stores-requires c κs = (c .before .before .before .before .before .before .before .before .before .before .pre, c .before .before .width .ensures .1)
 
 enum-known-judged : tie.Need-enum-known-judged
 enum-known-judged c = search needs
@@ -30,9 +33,9 @@ same-length c = search needs
 
 returns : tie.Need-returns
 returns c =
-    let a = c .before .before .before .before .before .before .before .before .before .before .before .before .args in
-    accepted-end (a .context) (now (a .content)) (now (a .image)) (a .planned) (c .before .before .before .before .before .before .before .enum-told .given .1)
-    (rw (sym (c .before .before .before .before .before .dead-count .ensures .0)) (c .before .before .make-stores .ensures))
+    let a = c .before .before .before .before .before .before .before .before .before .before .before .before .before .args in
+    accepted-end (a .context) (now (a .content)) (now (a .image)) (a .planned) (c .before .before .before .before .before .before .before .before .enum-told .given .1)
+    (rw (sym (c .before .before .before .before .before .before .dead-count .ensures .0), sym (c .before .before .before .before .before .width .ensures .0)) (c .before .before .make-stores .ensures))
 
 returns-2 : tie.Need-returns-2
 returns-2 c =
@@ -45,6 +48,7 @@ carry-out-spec =
     (tie.spec
     enum-told
     dead-count-requires
+    width-requires
     array-share-prefix-dead
     slice-aggregate-make-stores
     make-stores-requires

@@ -1,55 +1,45 @@
--- `flash::header` meets its contract: its bytes before the state, and behind it, are runs. Assumes nothing.
-use native.Mathlib.Omega.{arith}
+-- `flash::header` meets its contract, by w. Assumes nothing.
 use Prim.Native.Nat.{_+_, _-_}
+use native.Mathlib.Omega.{arith}
 use denote.Ref.{now}
 use Rattle.plan.specs.declared.Step.the-variants.{Header}
-use Rattle.plan.proofs.Stores.{header-front, header-rest}
-use Rattle.flash.proofs.Dead.{program-turned}
+use Rattle.plan.proofs.Stores.{header-piece}
+use Rattle.flash.proofs.Dead.{piece-turned, header-short, header-long, header-places}
 use borrow.Author.Needs.{needs}
 use Rattle.flash.proofs.header.Statement.{statement}
 use Rattle.flash.proofs.header.Tie as tie
 
-add-program : tie.Need-add-program
-add-program c = search needs
-
-add-program-2 : tie.Need-add-program-2
-add-program-2 c = search needs
-
-sub-program : tie.Need-sub-program
-sub-program c = search needs
-
-program-requires : tie.Need-program-requires
-program-requires c κs = search needs
+header-bytes-requires : tie.Need-header-bytes-requires
+header-bytes-requires c κs =
+    let s = c .before .before .before .before .before in
+    (header-short (s .pre .0) (c .before .if1 .taken), s .pre .1, s .pre .2, s .pre .3)
 
 same-length : tie.Need-same-length
 same-length c = search needs
 
 returns : tie.Need-returns
 returns c =
-    let s = c .before .before .before .before .before .before .before .before in
-    let a = s .args in
-    let t = c .before .before .before .before .if1 .taken in
-    program-turned (now (a .dead)) (now (a .content)) (Header (a .at) (a .from)) (a .i) (a .at + a .i) (a .from + a .i) (2 - a .i) (a .left) (c .before .before .program .result) (now (a .image)) _
-    (λ j l. header-front (now (a .content)) (a .at) (a .from) (a .i) j (s .pre .2) t (omega (arith, t, l)))
-    (omega (arith, t)) (omega (arith, s .pre .2)) (omega (arith, t)) (c .before .before .program .ensures)
+    rw (c .before .before .before .before .if1 .taken) (c .before .before .header-bytes .ensures)
 
-add-program-3 : tie.Need-add-program-3
-add-program-3 c = search needs
+add-one-page : tie.Need-add-one-page
+add-one-page c =
+    let s = c .before .before .before .before .before in
+    let l = header-long (s .pre .0) (c .before .if1 .left) in omega (arith, l, s .pre .3)
 
-add-program-4 : tie.Need-add-program-4
-add-program-4 c = search needs
+add-one-page-2 : tie.Need-add-one-page-2
+add-one-page-2 c =
+    let s = c .before .before .before .before .before in
+    let l = header-long (s .pre .0) (c .before .if1 .left) in omega (arith, l, s .pre .2)
 
-add-program-5 : tie.Need-add-program-5
-add-program-5 c = search needs
+sub-one-page : tie.Need-sub-one-page
+sub-one-page c =
+    let s = c .before .before .before .before .before in
+    let l = header-long (s .pre .0) (c .before .if1 .left) in omega (arith, l)
 
-add-program-6 : tie.Need-add-program-6
-add-program-6 c = search needs
-
-sub-program-2 : tie.Need-sub-program-2
-sub-program-2 c = search needs
-
-program-requires-2 : tie.Need-program-requires-2
-program-requires-2 c κs = search needs
+one-page-requires : tie.Need-one-page-requires
+one-page-requires c κs =
+    let s = c .before .before .before .before .before in
+    let l = header-long (s .pre .0) (c .before .if1 .left) in (omega (arith, l), s .pre .1, omega (arith, l, s .pre .2), omega (arith, l, s .pre .3), s .pre .4, c .before .if1 .left)
 
 same-length-2 : tie.Need-same-length-2
 same-length-2 c = search needs
@@ -59,25 +49,20 @@ returns-2 c =
     let s = c .before .before .before .before .before .before .before .before in
     let a = s .args in
     let t = c .before .before .before .before .if1 .left in
-    program-turned (now (a .dead)) (now (a .content)) (Header (a .at) (a .from)) (a .i) (a .at + a .i + 1) (a .from + a .i + 1) (59 - a .i) (a .left) (c .before .before .program2 .result) (now (a .image)) _
-    (λ j l. header-rest (now (a .content)) (a .at) (a .from) (a .i) j (s .pre .2) t (omega (arith, t, l, s .pre .0)))
-    (omega (arith, s .pre .0)) (omega (arith, s .pre .2, s .pre .0)) (omega (arith, s .pre .0)) (c .before .before .program2 .ensures)
+    let l = header-long (s .pre .0) t in
+    piece-turned (now (a .dead)) (a .w) (now (a .content)) (Header (a .at) (a .from)) (a .i) (a .at + a .i) (a .from + a .i) (60 - a .i) (a .left) (now (a .image)) _ (c .before .before .one-page .result)
+    (header-piece (a .w) (now (a .content)) (a .at) (a .from) (a .i) t) (header-places (a .w) (a .i) t l) (c .before .before .one-page .ensures)
 
 pub header-spec : {M : Type 1} → statement M
 header-spec =
     tie.close
     (tie.spec
-    add-program
-    add-program-2
-    sub-program
-    program-requires
+    header-bytes-requires
     same-length
     returns
-    add-program-3
-    add-program-4
-    add-program-5
-    add-program-6
-    sub-program-2
-    program-requires-2
+    add-one-page
+    add-one-page-2
+    sub-one-page
+    one-page-requires
     same-length-2
     returns-2)

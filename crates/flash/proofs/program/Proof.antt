@@ -1,40 +1,29 @@
--- `flash::program` meets its contract: no more than are left, and of those the ones before the first that fails. Assumes nothing.
-use native.Mathlib.Omega.{arith}
-use denote.Ref.{now}
-use Rattle.flash.proofs.Dead.{programmed, reach-within}
+-- `flash::program` meets its contract, by w. Assumes nothing.
 use borrow.Author.Needs.{needs}
 use Rattle.flash.proofs.program.Statement.{statement}
 use Rattle.flash.proofs.program.Tie as tie
 
-least-requires : tie.Need-least-requires
-least-requires c κs = search needs
-
-spared-requires : tie.Need-spared-requires
-spared-requires c κs = search needs
-
-put-run-requires : tie.Need-put-run-requires
-put-run-requires c κs =
-    let s = c .before .before .before .before .before .before .before in
-    let a = s .args in
-    let e = c .before .before .before .least .ensures in
-    let k =
-    reach-within (now (a .dead)) (now (a .content)) (a .at) (a .from) (c .before .before .before .least .result) (now (a .image)) (c .before .spared .result) (omega (arith, s .pre .2, e .0))
-    (c .before .spared .ensures) in
-    (omega (arith, s .pre .2, e .0, k), omega (arith, s .pre .3, e .0, k))
+bytes-requires : tie.Need-bytes-requires
+bytes-requires c κs = search needs
 
 same-length : tie.Need-same-length
 same-length c = search needs
 
 returns : tie.Need-returns
 returns c =
-    let s = c .before .before .before .before .before .before .before .before .before .before in
-    let a = s .args in
-    let e = c .before .before .before .before .before .before .least .ensures in
-    let n = c .before .before .before .before .before .before .least .result in
-    let p =
-    programmed (now (a .dead)) (now (a .content)) (a .at) (a .from) n (a .left) (c .before .before .before .before .spared .result) (now (a .image)) _
-    (omega (arith, s .pre .2, e .0)) (e .2 (s .pre .0) (s .pre .1)) (e .1) (c .before .before .before .before .spared .ensures) (c .before .before .put-run .ensures) in
-    (omega (arith, p .0, e .0), p .1)
+    let a = c .before .before .before .before .before .before .before .before .args in
+    rw (c .before .before .before .before .if1 .taken) (c .before .before .bytes .ensures)
+
+one-page-requires : tie.Need-one-page-requires
+one-page-requires c κs = search needs
+
+same-length-2 : tie.Need-same-length-2
+same-length-2 c = search needs
+
+returns-2 : tie.Need-returns-2
+returns-2 c = search needs
 
 pub program-spec : {M : Type 1} → statement M
-program-spec = tie.close (tie.spec least-requires spared-requires put-run-requires same-length returns)
+program-spec =
+    tie.close
+    (tie.spec bytes-requires same-length returns one-page-requires same-length-2 returns-2)

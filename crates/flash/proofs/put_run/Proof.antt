@@ -14,7 +14,7 @@ use Rattle.flash.proofs.put_run.Tie as tie
 
 abbrev Inv-loop : tie.InvT-loop
 Inv-loop image₀ at from r content j₀ image j =
-    (j ≤ r) × (length image ≡ length image₀) × (image ≡ applyAll (runOf content at from j) image₀)
+    (j ≤ r) × (length image ≡ length image₀) × (image ≡ applyAll (runOf 1 content at from j) image₀)
 
 abbrev μ-loop : tie.MeasureT-loop
 μ-loop image₀ at from r content j₀ image j = r - j
@@ -59,7 +59,7 @@ returns c =
     let l = c .before .loop in
     let a = c .before .before .args in
     let all : l .j ≡ a .r = omega arith in
-    l .inv .2 ∙ ap (λ (k : ℕ). applyAll (runOf (now (a .content)) (a .at) (a .from) k) (now (a .image))) all
+    l .inv .2 ∙ ap (λ (k : ℕ). applyAll (runOf 1 (now (a .content)) (a .at) (a .from) k) (now (a .image))) all
 
 pub put-run-spec : {M : Type 1} → statement M
 put-run-spec =

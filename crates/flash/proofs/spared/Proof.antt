@@ -15,7 +15,7 @@ use Rattle.flash.proofs.spared.Tie as tie
 
 abbrev Inv-loop : tie.InvT-loop
 Inv-loop image at from r content dead k₀ d₀ k d =
-    (d ≤ length dead) × (k ≤ r) × (k ≡ reach (take d dead) (runOf content at from r) image)
+    (d ≤ length dead) × (k ≤ r) × (k ≡ reach (take d dead) (runOf 1 content at from r) image)
 
 abbrev μ-loop : tie.MeasureT-loop
 μ-loop image at from r content dead k₀ d₀ k d = length dead - d
@@ -59,7 +59,7 @@ returns : tie.Need-returns Inv-loop μ-loop
 returns c =
     let l = c .before in
     let a = l .before .before .before .before .args in
-    l .loop .inv .2 ∙ ap (λ (ds : List _). reach ds (runOf (now (a .content)) (a .at) (a .from) (a .r)) (now (a .image))) (take-all (l .loop .d) (now (a .dead)) (omega arith))
+    l .loop .inv .2 ∙ ap (λ (ds : List _). reach ds (runOf 1 (now (a .content)) (a .at) (a .from) (a .r)) (now (a .image))) (take-all (l .loop .d) (now (a .dead)) (omega arith))
 
 pub spared-spec : {M : Type 1} → statement M
 spared-spec =
