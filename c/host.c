@@ -1,6 +1,6 @@
 /* A host of the variable store.
  *
- *   host         a small flash part: set, append, delete, power cuts in a compaction, and a byte that dies
+ *   host         a small flash part: set, append, delete, power cuts in a compaction, a byte that dies, and pages
  *   host IMAGE   lists the variables of an image file
  *
  * It shows how a firmware's variable driver is built on varstore.h: start up at every power-on, keep the session, ask with an empty buffer first, and carry
@@ -12,8 +12,8 @@
 
 #include "varstore.h"
 
-#if VS_INTERFACE != 3
-#error "this host knows the operations of interface 3"
+#if VS_INTERFACE != 4
+#error "this host knows the operations of interface 4"
 #endif
 
 static const vs_context no_limit = {.limit = VS_NO_LIMIT};
@@ -133,7 +133,7 @@ static int list_file(const char *path)
  *
  * In a driver `program` and `erase` are commands to the part. They return when it has completed them, and tell whether it has.
  * This part is played: its power fails when so many stores are complete, before the next one begins or inside it; and one of its bytes may have died, which
- * it does not tell: bits that are to fall there stay.
+ * it does not tell: bits that are to fall there stay. A program stores up to `width` bytes within one page, and counts as one store.
  */
 
 enum { BLOCK = VS_BLOCK, PART = BLOCK * 3, PLAIN = VS_NV | VS_BOOT_ACCESS | VS_RUNTIME_ACCESS };
@@ -144,18 +144,20 @@ static struct {
     uint64_t power;            /* stores until the power fails */
     int inside;                /* whether it fails inside a store */
     size_t dead;               /* a byte that no longer clears; PART if there is none */
-} part = {.power = UINT64_MAX, .dead = PART};
+    size_t width;              /* bytes that it stores at a time */
+} part = {.power = UINT64_MAX, .dead = PART, .width = 1};
 
-/* Bits only fall. A byte store that has begun has left one or more of them: here the lowest that was to fall. */
-static int program(size_t at, uint8_t byte)
+/* Bits only fall. A store that has begun has left one or more of them: here the lowest that was to fall of each byte. */
+static int program(size_t at, const uint8_t *bytes, size_t len)
 {
-    uint8_t to_fall = at == part.dead ? 0 : part.bytes[at] & (uint8_t)~byte;
-    if (part.power == 0) {
+    for (size_t i = 0; i < len; i++) {
+        uint8_t to_fall = at + i == part.dead ? 0 : part.bytes[at + i] & (uint8_t)~bytes[i];
         uint8_t lowest = to_fall & (uint8_t)-to_fall;
-        part.bytes[at] ^= part.inside ? to_fall ^ lowest : 0;
+        part.bytes[at + i] ^= part.power > 0 ? to_fall : part.inside ? to_fall ^ lowest : 0;
+    }
+    if (part.power == 0) {
         return 0;
     }
-    part.bytes[at] ^= to_fall;
     part.programs++;
     part.power--;
     return 1;
@@ -203,19 +205,33 @@ static void remember(size_t at)
 /* Whether a plan was carried out: its next store was made, the power failed, or the byte is dead. */
 enum stored { FAILED, MADE, WORN };
 
-/* Bytes of the content, or one that marks a state, in rising order. */
-static enum stored store(size_t at, const uint8_t *bytes, size_t len)
+/* Bytes within one page. */
+static enum stored store_page(size_t at, const uint8_t *bytes, size_t len)
 {
+    if (!program(at, bytes, len)) {
+        return FAILED;
+    }
     for (size_t i = 0; i < len; i++) {
         uint8_t wanted = image[at + i] & bytes[i];
-        if (!program(at + i, bytes[i])) {
-            return FAILED;
-        }
         if (part.bytes[at + i] != wanted) {
             remember(at + i);
             return WORN;
         }
         image[at + i] = wanted;
+    }
+    return MADE;
+}
+
+/* Bytes of the content, or one that marks a state, in rising order, cut at page ends. */
+static enum stored store(size_t at, const uint8_t *bytes, size_t len)
+{
+    for (size_t i = 0; i < len;) {
+        size_t room = part.width - (at + i) % part.width, n = len - i < room ? len - i : room;
+        enum stored stored = store_page(at + i, bytes + i, n);
+        if (stored != MADE) {
+            return stored;
+        }
+        i += n;
     }
     return MADE;
 }
@@ -233,7 +249,10 @@ static enum stored erase_blocks(size_t first, size_t count)
 
 static enum stored header(size_t at, const uint8_t *bytes, size_t len)
 {
-    /* the third byte is the state */
+    /* the third byte is the state: byte by byte it is left out, and in pages it is FF */
+    if (part.width > 1) {
+        return store(at, bytes, len);
+    }
     enum stored before = store(at, bytes, 2);
     return before == MADE ? store(at + 3, bytes + 3, len - 3) : before;
 }
@@ -430,6 +449,25 @@ static void worn_region(vs_session *session, const uint8_t *before)
     printf("RATE is %d\n", rate(session));
 }
 
+/* The same calls on a part that stores sixteen bytes at a time. A set over a standing RATE makes twelve stores, and number 11 decides; the power fails in the first and
+ * the last page of the header, and in the last two marks. */
+static void pages(vs_session *session)
+{
+    static const uint8_t old_rate[4] = {100};
+    static const uint64_t in[] = {2, 6, 11, 12};
+    static uint8_t kept[PART];
+    part.width = 16;
+    printf("a part that stores %zu bytes at a time\n", part.width);
+    print_answer("format", format());
+    print_answer("start-up", power_on(session));
+    print_answer("set RATE", set(session, "RATE", PLAIN, old_rate, sizeof old_rate));
+    memcpy(kept, part.bytes, PART);
+    for (size_t i = 0; i < sizeof in / sizeof in[0]; i++) {
+        cut(kept, in[i] - 1, 1);
+    }
+    print_answer("set RATE", set(session, "RATE", PLAIN, old_rate, sizeof old_rate));
+}
+
 /* A compaction of one block makes 8,197 stores; number 4,098 decides. */
 static int story(void)
 {
@@ -448,6 +486,7 @@ static int story(void)
     printf("complete: %llu byte programs, %llu block erases\n", (unsigned long long)part.programs, (unsigned long long)part.erases);
     worn_tail(&session);
     worn_region(&session, full);
+    pages(&session);
     printf("dead bytes found: %u, at %u and %u\n", (unsigned)known.count, (unsigned)known.dead[0], (unsigned)known.dead[1]);
     return memcmp(image, part.bytes, PART) != 0;
 }
@@ -461,7 +500,7 @@ int main(int argc, char **argv)
         fprintf(stderr,
                 "usage: host [IMAGE]\n"
                 "  with IMAGE: lists the variables of an image file: name, attributes, data\n"
-                "  without: a small flash part, power cuts in a compaction, and a byte that dies\n");
+                "  without: a small flash part, power cuts in a compaction, a byte that dies, and pages\n");
         return 2;
     }
     return list_file(argv[1]);
