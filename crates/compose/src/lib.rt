@@ -102,7 +102,53 @@ pub fn put_padding(out: &mut [u8], at: usize, size: usize) -> usize
     output::put_bytes(out, at, &blank[..n])
 }
 
-// An entry in state 3F, whole: header, name, data (those kept, then those given), padding.
+// An entry in a state, whole: header, name, data (those kept, then those given), padding.
+pub fn put_entry_in(
+    state: u8,
+    out: &mut [u8],
+    at: usize,
+    attributes: u32,
+    stamp: &[u8],
+    name: &[u8],
+    vendor: &[u8],
+    old: &[u8],
+    own: &[u8],
+) -> usize
+    requires { ⌜ (at < 2 ^ 62) × (length (now stamp) < 2 ^ 32) × (length (now name) < 2 ^ 32) × (length (now vendor) < 2 ^ 32)
+        × (length (now old) < 2 ^ 32) × (length (now own) < 2 ^ 32) ⌝ }
+    ensures { λ r.
+        ⌜ Wrote
+        (entryBytes state
+        (record {
+          name = now (name .entry);
+          vendor = now (vendor .entry);
+          attributes = attributes;
+          stamp = now (stamp .entry);
+          bytes = now
+              (old .entry) ++ now (own .entry);
+        })) at (now (out .entry)) (now (out .exit)) r ⌝ }
+{
+    let next = put_header(
+        out,
+        at,
+        state,
+        attributes,
+        stamp,
+        name.len(),
+        old.len() + own.len(),
+        vendor,
+    );
+    let next = output::put_bytes(out, next, name);
+    let next = output::put_bytes(out, next, old);
+    let next = output::put_bytes(out, next, own);
+    put_padding(
+        out,
+        next,
+        Layout::HEADER + name.len() + old.len() + own.len(),
+    )
+}
+
+// An entry in state 3F, as it stands once all its stores are made.
 pub fn put_entry(
     out: &mut [u8],
     at: usize,
@@ -127,24 +173,7 @@ pub fn put_entry(
               (old .entry) ++ now (own .entry);
         })) at (now (out .entry)) (now (out .exit)) r ⌝ }
 {
-    let next = put_header(
-        out,
-        at,
-        0x3F,
-        attributes,
-        stamp,
-        name.len(),
-        old.len() + own.len(),
-        vendor,
-    );
-    let next = output::put_bytes(out, next, name);
-    let next = output::put_bytes(out, next, old);
-    let next = output::put_bytes(out, next, own);
-    put_padding(
-        out,
-        next,
-        Layout::HEADER + name.len() + old.len() + own.len(),
-    )
+    put_entry_in(0x3F, out, at, attributes, stamp, name, vendor, old, own)
 }
 
 // The entry of a value that is carried over: its stamp is kept.
