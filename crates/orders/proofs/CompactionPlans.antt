@@ -11,18 +11,18 @@ use lib.Dec.{leb}
 use Rattle.model.specs.Lists.{part}
 use Rattle.model.specs.Image.{block}
 use Rattle.model.specs.Work.{recordSpace, records, usedRecords}
-use Rattle.model.specs.Stores.{erase, erases}
+use Rattle.model.specs.Stores.{clear, erases}
 use Rattle.model.specs.Compact.{nextRecord, fillSpare, finish}
 use Rattle.plan.specs.declared.Step.{Step}
 use Rattle.plan.specs.declared.Step.the-variants.{Nothing, Erase}
 use Rattle.plan.specs.Plan.{storesOfStep, expand}
 use Rattle.orders.specs.Compactions.{clearStep, compactPlan, resumePlan}
 
-clear-is : (c : List ℕ) (b used : ℕ) → storesOfStep c (clearStep b used) ≡ cond (leb 64 used) (erase b ∷ []) []
+clear-is : (c : List ℕ) (b used : ℕ) → storesOfStep c (clearStep b used) ≡ cond (leb 64 used) (clear b ∷ []) []
 unfolding storesOfStep clearStep erases
 clear-is c b used = go (leb 64 used)
   where
-    go : (t : Bool) → storesOfStep c (cond t (Erase b 1) Nothing) ≡ cond t (erase b ∷ []) []
+    go : (t : Bool) → storesOfStep c (cond t (Erase b 1) Nothing) ≡ cond t (clear b ∷ []) []
     go true = refl
     go false = refl
 

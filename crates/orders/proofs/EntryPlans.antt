@@ -6,7 +6,7 @@ use mathlib.Core.Path.{_≡_, refl, sym, ap, ap₂, _∙_}
 use mathlib.Core.Bool.{true}
 use mathlib.Core.List.{List, [], _∷_, _++_, append-assoc, append-nil}
 use mathlib.Core.Option.{Option, none, some}
-use lib.ListN.{length, take, drop, replicate, length-append, length-replicate}
+use lib.ListN.{length, getD, take, drop, replicate, length-append, length-replicate}
 use lib.Seq.{take-at, drop-at}
 use lib.Dec.{eqb}
 use borrow.Author.Tests.{eqb-true}
@@ -121,9 +121,10 @@ module _ (c : List ℕ) (places : Places) (k : Key) (es : List walk.Entry) (is-a
   unfolding standing
   standing-is = ap₂ elseFound is-added is-replacing ∙ sym (found-else (added k es) (replacing k es))
 
--- what the content holds of a value: its entry's header, name and data
+-- what the content holds of a value: its entry's header with FF in the place of its state, name and data
 pub record Holds (c : List ℕ) (v : Value) : Type 0 where
   pub front : part 0 2 c ≡ headerFront
+  pub blank : getD c 2 0 ≡ 0xFF
   pub rest : part 3 57 c ≡ headerRest v
   pub name : part 60 (length (v .name)) c ≡ v .name
   pub bytes : part (60 + length (v .name)) (length (v .bytes)) c ≡ v .bytes
@@ -152,34 +153,35 @@ pub tail-on : (c : List ℕ) (places : Places) (v : Value) (es : List walk.Entry
 unfolding expand storesOfStep tailPlan tailOn
 tail-on c places v es p q at = rw (retire-is c places (keyOf v) es p q, append-nil)
 
--- an entry's bytes at the front of the content hold its value, whatever its state
+-- an entry's bytes at the front of the content hold its value, with a state of FF
 rest-long : (v : Value) → length (v .stamp) ≡ 16 → length (v .vendor) ≡ 16 → length (headerRest v) ≡ 57
 unfolding headerRestIn extraBytes
 rest-long v s g = simp (length-append, length-replicate) (omega arith)
 
-pub entry-holds : (state : ℕ) (v : Value) (behind : List ℕ) → length (v .stamp) ≡ 16 → length (v .vendor) ≡ 16 → Holds (entryBytes state v ++ behind) v
+pub entry-holds : (v : Value) (behind : List ℕ) → length (v .stamp) ≡ 16 → length (v .vendor) ≡ 16 → Holds (entryBytes 0xFF v ++ behind) v
 unfolding entryBytesIn
-entry-holds state v behind s g =
+entry-holds v behind s g =
     let f : List ℕ = headerFront in
     let r : List ℕ = headerRest v in
     let z : List ℕ = replicate (entrySize v - plainSize v) 0xFF ++ behind in
     let two : length f ≡ 2 = unfold headerFront in refl in
     let long : length r ≡ 57 = rest-long v s g in
-    let e : f ++ (state ∷ []) ++ r ++ v .name ++ v .bytes ++ replicate (entrySize v - plainSize v) 0xFF ++ behind ≡ f ++ (state ∷ (r ++ (v .name ++ (v .bytes ++ z)))) = simp append-assoc in
-    let e₃ : f ++ (state ∷ (r ++ (v .name ++ (v .bytes ++ z)))) ≡ (f ++ (state ∷ [])) ++ (r ++ (v .name ++ (v .bytes ++ z))) = simp append-assoc in
-    let e₆ : f ++ (state ∷ (r ++ (v .name ++ (v .bytes ++ z)))) ≡ (f ++ (state ∷ r)) ++ (v .name ++ (v .bytes ++ z)) = simp append-assoc in
-    let e₇ : f ++ (state ∷ (r ++ (v .name ++ (v .bytes ++ z)))) ≡ (f ++ (state ∷ (r ++ v .name))) ++ (v .bytes ++ z) = simp append-assoc in
+    let e : f ++ (0xFF ∷ []) ++ r ++ v .name ++ v .bytes ++ replicate (entrySize v - plainSize v) 0xFF ++ behind ≡ f ++ (0xFF ∷ (r ++ (v .name ++ (v .bytes ++ z)))) = simp append-assoc in
+    let e₃ : f ++ (0xFF ∷ (r ++ (v .name ++ (v .bytes ++ z)))) ≡ (f ++ (0xFF ∷ [])) ++ (r ++ (v .name ++ (v .bytes ++ z))) = simp append-assoc in
+    let e₆ : f ++ (0xFF ∷ (r ++ (v .name ++ (v .bytes ++ z)))) ≡ (f ++ (0xFF ∷ r)) ++ (v .name ++ (v .bytes ++ z)) = simp append-assoc in
+    let e₇ : f ++ (0xFF ∷ (r ++ (v .name ++ (v .bytes ++ z)))) ≡ (f ++ (0xFF ∷ (r ++ v .name))) ++ (v .bytes ++ z) = simp append-assoc in
     record {
-      front = ap (part 0 2) e ∙ take-at f (state ∷ (r ++ (v .name ++ (v .bytes ++ z)))) 2 two;
+      front = ap (part 0 2) e ∙ take-at f (0xFF ∷ (r ++ (v .name ++ (v .bytes ++ z)))) 2 two;
+      blank = ap (λ (l : List ℕ). getD l 2 0) e ∙ (unfold headerFront in refl);
       rest =
-          ap (part 3 57) (e ∙ e₃) ∙ ap (take 57) (drop-at (f ++ (state ∷ [])) (r ++ (v .name ++ (v .bytes ++ z))) 3 (length-append f (state ∷ []) ∙ omega arith))
+          ap (part 3 57) (e ∙ e₃) ∙ ap (take 57) (drop-at (f ++ (0xFF ∷ [])) (r ++ (v .name ++ (v .bytes ++ z))) 3 (length-append f (0xFF ∷ []) ∙ omega arith))
           ∙ take-at r (v .name ++ (v .bytes ++ z)) 57 long;
       name =
           ap (part 60 (length (v .name))) (e ∙ e₆)
-          ∙ ap (take (length (v .name))) (drop-at (f ++ (state ∷ r)) (v .name ++ (v .bytes ++ z)) 60 (length-append f (state ∷ r) ∙ omega arith))
+          ∙ ap (take (length (v .name))) (drop-at (f ++ (0xFF ∷ r)) (v .name ++ (v .bytes ++ z)) 60 (length-append f (0xFF ∷ r) ∙ omega arith))
           ∙ take-at (v .name) (v .bytes ++ z) (length (v .name)) refl;
       bytes =
           ap (part (60 + length (v .name)) (length (v .bytes))) (e ∙ e₇)
-          ∙ ap (take (length (v .bytes))) (drop-at (f ++ (state ∷ (r ++ v .name))) (v .bytes ++ z) (60 + length (v .name)) (length-append f (state ∷ (r ++ v .name)) ∙ (let n = length-append r (v .name) in omega arith)))
+          ∙ ap (take (length (v .bytes))) (drop-at (f ++ (0xFF ∷ (r ++ v .name))) (v .bytes ++ z) (60 + length (v .name)) (length-append f (0xFF ∷ (r ++ v .name)) ∙ (let n = length-append r (v .name) in omega arith)))
           ∙ take-at (v .bytes) z (length (v .bytes)) refl;
     }

@@ -16,6 +16,7 @@ use Rattle.model.specs.Layout.{stateAt}
 use Rattle.model.specs.Entry.{Value, keyOf}
 use Rattle.model.specs.Walk as walk
 use Rattle.model.specs.Region.{entries, tailAt, isEntry, added, replacing}
+use Rattle.model.specs.Stores.{Write, stores}
 use Rattle.model.specs.Set.{tailTo, tailOn, deleteTo}
 use Rattle.model.specs.Book.{ClearsOne, isState}
 use Rattle.model.proofs.Tests.{or-left, or-right}
@@ -26,45 +27,45 @@ use Rattle.values.specs.declared.Found.the-variants.{At, Nothing}
 use Rattle.values.specs.declared.Places.{Places}
 use Rattle.plan.specs.declared.Step.{Step}
 use Rattle.plan.specs.declared.Step.the-variants as step
-use Rattle.plan.specs.Plan.{Fits, Ready, MarkAt}
+use Rattle.plan.specs.Plan.{Fits, Blank, Ready, MarkAt}
 use Rattle.plan.proofs.Bits.{bits-clear}
 use Rattle.orders.specs.Entries.{onFound, Below, markFound, leftoverStep, removeStep, retireStep, deletePlan, tailPlan}
 use Rattle.orders.proofs.EntryPlans.{delete-is, Holds, tail-is}
 
--- an operation that lies within, at a place of a state
-abbrev Good : ℕ → ℕ → (ℕ → Bool) → Step → Type 0
-Good held long marks s = Fits held long s × MarkAt marks s
+-- an operation that lies within and is no header, at a place of a state
+abbrev Good : List ℕ → ℕ → (ℕ → Bool) → Step → Type 0
+Good c long marks s = Fits (length c) long s × MarkAt marks s × Blank c s
 
 -- where a state was found
 abbrev StateAt : (ℕ → Bool) → Found → Type 0
 StateAt marks (At at e) = marks (at + stateAt) ≡ true
 StateAt marks Nothing = Unit {0}
 
-module _ (held long : ℕ) (marks : ℕ → Bool) where
-  mark-good : (x : Found) (v : ℕ) → Below long x → StateAt marks x → Good held long marks (markFound x v)
+module _ (c : List ℕ) (long : ℕ) (marks : ℕ → Bool) where
+  mark-good : (x : Found) (v : ℕ) → Below long x → StateAt marks x → Good c long marks (markFound x v)
   unfolding markFound
-  mark-good (At at e) v h m = (omega arith, m)
-  mark-good Nothing v h m = (tt, tt)
+  mark-good (At at e) v h m = (omega arith, m, tt)
+  mark-good Nothing v h m = (tt, tt, tt)
 
   module _ (x y : Found) (hx : Below long x) (hy : Below long y) (mx : StateAt marks x) (my : StateAt marks y) where
-    leftover-good : Good held long marks (onFound {A = Step} x (λ at e. markFound y 0x3C) step.Nothing)
+    leftover-good : Good c long marks (onFound {A = Step} x (λ at e. markFound y 0x3C) step.Nothing)
     leftover-good = go x
       where
-        go : (x : Found) → Good held long marks (onFound {A = Step} x (λ at e. markFound y 0x3C) step.Nothing)
+        go : (x : Found) → Good c long marks (onFound {A = Step} x (λ at e. markFound y 0x3C) step.Nothing)
         go (At at e) = mark-good y 0x3C hy my
-        go Nothing = (tt, tt)
+        go Nothing = (tt, tt, tt)
 
-    remove-good : Good held long marks (onFound {A = Step} x (λ at e. markFound x 0x3D) (markFound y 0x3C))
+    remove-good : Good c long marks (onFound {A = Step} x (λ at e. markFound x 0x3D) (markFound y 0x3C))
     remove-good = go x refl
       where
-        go : (z : Found) → x ≡ z → Good held long marks (onFound {A = Step} z (λ at e. markFound x 0x3D) (markFound y 0x3C))
+        go : (z : Found) → x ≡ z → Good c long marks (onFound {A = Step} z (λ at e. markFound x 0x3D) (markFound y 0x3C))
         go (At at e) p = mark-good x 0x3D hx mx
         go Nothing p = mark-good y 0x3C hy my
 
-    retire-good : Good held long marks (markFound (elseFound x y) 0x3C)
+    retire-good : Good c long marks (markFound (elseFound x y) 0x3C)
     retire-good = go x hx mx
       where
-        go : (x : Found) → Below long x → StateAt marks x → Good held long marks (markFound (elseFound x y) 0x3C)
+        go : (x : Found) → Below long x → StateAt marks x → Good c long marks (markFound (elseFound x y) 0x3C)
         go (At at e) h m = mark-good (At at e) 0x3C h m
         go Nothing h m = mark-good y 0x3C hy my
 
@@ -96,19 +97,20 @@ module _ (c img : List ℕ) (places : Places) (k : Key) (is-added : places .adde
   state-replacing = rw is-replacing (entry-state img 0x3E k (replacing k (entries (region img))) refl)
 
   -- *a delete is ready*
-  pub delete-ready : ClearsOne (isState img) (deleteTo k (entries (region img))) img → Ready c (deletePlan places) img
+  pub delete-ready : ((w : ℕ) → ClearsOne (isState img) (stores w (deleteTo k (entries (region img)))) img) → Ready c (deletePlan places) img
   unfolding deletePlan leftoverStep removeStep
   delete-ready one =
       let m : ℕ → Bool = isState img in
       let x = places .added in
       let y = places .replacing in
-      let a = leftover-good (length c) (length img) m x y below-added below-replacing state-added state-replacing in
-      let b = remove-good (length c) (length img) m x y below-added below-replacing state-added state-replacing in
+      let a = leftover-good c (length img) m x y below-added below-replacing state-added state-replacing in
+      let b = remove-good c (length img) m x y below-added below-replacing state-added state-replacing in
       record {
         fit = (a .0, (b .0, (tt, (tt, (tt, (tt, (tt, (tt, (tt, (tt, (tt, (tt, tt))))))))))));
-        bits =
-            bits-clear m c (deletePlan places) img (a .1, (b .1, (tt, (tt, (tt, (tt, (tt, (tt, (tt, (tt, (tt, (tt, tt))))))))))))
-            (subst (λ (ss : List _). ClearsOne m ss img) (sym (delete-is c places k (entries (region img)) is-added is-replacing)) one);
+        blank = (a .2, (b .2, (tt, (tt, (tt, (tt, (tt, (tt, (tt, (tt, (tt, (tt, tt))))))))))));
+        bits = λ w.
+            bits-clear m w c (deletePlan places) img (a .1, (b .1, (tt, (tt, (tt, (tt, (tt, (tt, (tt, (tt, (tt, (tt, tt))))))))))))
+            (subst (λ (xs : List Write). ClearsOne m (stores w xs) img) (sym (delete-is c places k (entries (region img)) is-added is-replacing)) (one w));
       }
 
 -- *a tail write is ready*
@@ -116,7 +118,7 @@ pub tail-ready : (c img : List ℕ) (places : Places) (v : Value) → places .ad
     → places .replacing ≡ foundOf (replacing (keyOf v) (entries (region img)))
     → Below (length img) (places .added) → Below (length img) (places .replacing)
     → tailAt (region img) + 60 + length (v .name) + length (v .bytes) ≤ length img → 60 + length (v .name) + length (v .bytes) ≤ length c → Holds c v
-    → ClearsOne (isState img) (tailTo (tailAt (region img)) v (entries (region img)) ++ tailOn v (entries (region img))) img
+    → ((w : ℕ) → ClearsOne (isState img) (stores w (tailTo (tailAt (region img)) v (entries (region img)) ++ tailOn v (entries (region img)))) img)
     → Ready c (tailPlan places (tailAt (region img)) (length (v .name)) (length (v .bytes))) img
 unfolding tailPlan leftoverStep retireStep
 tail-ready c img places v p q hx hy fits held h one =
@@ -128,13 +130,14 @@ tail-ready c img places v p q hx hy fits held h one =
     let d = length (v .bytes) in
     let sx = state-added c img places (keyOf v) p q hx hy in
     let sy = state-replacing c img places (keyOf v) p q hx hy in
-    let a = leftover-good (length c) (length img) m x y hx hy sx sy in
-    let b = mark-good (length c) (length img) m x 0x3E hx sx in
-    let z = retire-good (length c) (length img) m x y hx hy sx sy in
+    let a = leftover-good c (length img) m x y hx hy sx sy in
+    let b = mark-good c (length img) m x 0x3E hx sx in
+    let z = retire-good c (length img) m x y hx hy sx sy in
     let t = tail-state img in
     record {
       fit = (a .0, (b .0, ((omega arith, omega arith), (omega arith, ((omega arith, omega arith), ((omega arith, omega arith), (omega arith, (z .0, (tt, (tt, (tt, (tt, tt))))))))))));
-      bits =
-          bits-clear m c (tailPlan places at n d) img (a .1, (b .1, (tt, (t, (tt, (tt, (t, (z .1, (tt, (tt, (tt, (tt, tt))))))))))))
-          (subst (λ (ss : List _). ClearsOne m ss img) (sym (tail-is c places v (entries (region img)) p q h at)) one);
+      blank = (a .2, (b .2, (h .blank, (tt, (tt, (tt, (tt, (z .2, (tt, (tt, (tt, (tt, tt))))))))))));
+      bits = λ w.
+          bits-clear m w c (tailPlan places at n d) img (a .1, (b .1, (tt, (t, (tt, (tt, (t, (z .1, (tt, (tt, (tt, (tt, tt))))))))))))
+          (subst (λ (xs : List Write). ClearsOne m (stores w xs) img) (sym (tail-is c places v (entries (region img)) p q h at)) (one w));
     }

@@ -11,7 +11,7 @@ use Rattle.model.specs.Lists.{allFF, part}
 use Rattle.model.specs.Image.{block}
 use Rattle.model.specs.Region.{entries, values, tail, valuesIn}
 use Rattle.model.specs.Work.{records, usedRecords, idle, pending}
-use Rattle.model.specs.Stores.{Store, erase, erases, blank, applyAll}
+use Rattle.model.specs.Stores.{Write, clear, erases, stores, storesOne, blank, applyAll}
 use Rattle.model.specs.Compact.{nextRecord, fillSpare, finish, encode, compactTo, compactOn}
 use Rattle.model.specs.StartUp.{resume, tidySpare, tidyWork, tidyTail, startUpStores}
 use Rattle.plan.specs.declared.Step.{Step}
@@ -28,7 +28,7 @@ module _ {b : ℕ} {r w s : List ℕ} (p : Parts b r w s) where
   unfolding tidySpare
   spare-stage = rw (parts-spare p, parts-blocks p)
 
-  work-stage : tidyWork (r ++ (w ++ s)) ≡ cond (idle w) [] (erase b ∷ [])
+  work-stage : tidyWork (r ++ (w ++ s)) ≡ cond (idle w) [] (clear b ∷ [])
   unfolding tidyWork
   work-stage = rw (parts-work p, parts-blocks p)
 
@@ -38,18 +38,18 @@ module _ {b : ℕ} {r w s : List ℕ} (p : Parts b r w s) where
   tail-stage = rw (parts-region p, parts-blocks p, parts-work p, parts-size p)
 
   -- what the first two leave
-  spare-left : (t : Bool) → applyAll (cond t [] (erases (b + 1) b)) (r ++ (w ++ s)) ≡ r ++ (w ++ cond t s (replicate (block * b) 0xFF))
-  unfolding applyAll
+  spare-left : (t : Bool) → applyAll (stores 1 (cond t [] (erases (b + 1) b))) (r ++ (w ++ s)) ≡ r ++ (w ++ cond t s (replicate (block * b) 0xFF))
+  unfolding applyAll stores
   spare-left true = refl
   spare-left false =
       let l : length (r ++ w) ≡ block * (b + 1) = length-append r w ∙ omega (arith, p .region-long, p .work-long) in
-      ap (λ (x : List ℕ). applyAll (erases (b + 1) b) x) (sym (append-assoc r w s) ∙ ap (λ (x : List ℕ). (r ++ w) ++ x) (sym (append-nil s)))
-      ∙ erases-segment (b + 1) b (r ++ w) s [] l (p .spare-long)
+      ap (λ (x : List ℕ). applyAll (stores 1 (erases (b + 1) b)) x) (sym (append-assoc r w s) ∙ ap (λ (x : List ℕ). (r ++ w) ++ x) (sym (append-nil s)))
+      ∙ erases-segment 1 (b + 1) b (r ++ w) s [] l (p .spare-long)
       ∙ ap (λ (x : List ℕ). (r ++ w) ++ x) (append-nil (replicate (block * b) 0xFF))
       ∙ append-assoc r w (replicate (block * b) 0xFF)
 
-  work-left : (t : Bool) → applyAll (cond t [] (erase b ∷ [])) (r ++ (w ++ s)) ≡ r ++ (cond t w blank ++ s)
-  unfolding applyAll
+  work-left : (t : Bool) → applyAll (stores 1 (cond t [] (clear b ∷ []))) (r ++ (w ++ s)) ≡ r ++ (cond t w blank ++ s)
+  unfolding applyAll stores storesOne
   work-left true = refl
   work-left false = erase-segment b r w s (p .region-long) (p .work-long)
 
@@ -79,10 +79,10 @@ module _ {b : ℕ} {r w s : List ℕ} (p : Parts b r w s) where
 pub tidy-is : {b : ℕ} {r w s : List ℕ} → Parts b r w s → pending (r ++ (w ++ s)) ≡ false
     → startUpStores (r ++ (w ++ s))
     ≡ cond (allFF s) [] (erases (b + 1) b)
-    ++ (cond (idle w) [] (erase b ∷ [])
+    ++ (cond (idle w) [] (clear b ∷ [])
     ++ cond (allFF (tail r)) []
     (fillSpare b (tidied w) (encode (block * b) (values (entries r))) ++ finish b (nextRecord (tidied w)) (encode (block * b) (values (entries r)))))
-unfolding startUpStores resume applyAll
+unfolding startUpStores resume applyAll stores
 tidy-is {b} {r} {w} {s} p h =
     let s₁ : List ℕ = cond (allFF s) s (replicate (block * b) 0xFF) in
     let q = spare-parts p (allFF s) in
@@ -96,7 +96,7 @@ unfolding storesOfStep spareStep
 spare-step c b true = refl
 spare-step c b false = refl
 
-work-step : (c : List ℕ) (b : ℕ) (t : Bool) → storesOfStep c (workStep b t) ≡ cond t [] (erase b ∷ [])
+work-step : (c : List ℕ) (b : ℕ) (t : Bool) → storesOfStep c (workStep b t) ≡ cond t [] (clear b ∷ [])
 unfolding storesOfStep workStep erases
 work-step c b true = refl
 work-step c b false = refl
@@ -108,7 +108,7 @@ pub startUp-is : {b : ℕ} {r w s : List ℕ} → Parts b r w s → pending (r +
 startUp-is {b} {r} {w} {s} p h dirty c e =
     compact-is c (spareStep b (allFF s)) (workStep b (idle w)) b (tidied w) (encode (block * b) (values (entries r))) e
     ∙ rw (spare-step c b (allFF s), work-step c b (idle w))
-    (sym (tidy-is p h ∙ ap (λ (t : Bool). cond (allFF s) [] (erases (b + 1) b) ++ (cond (idle w) [] (erase b ∷ []) ++ cond t [] (fillSpare b (tidied w) (encode (block * b) (values (entries r))) ++ finish b (nextRecord (tidied w)) (encode (block * b) (values (entries r)))))) dirty))
+    (sym (tidy-is p h ∙ ap (λ (t : Bool). cond (allFF s) [] (erases (b + 1) b) ++ (cond (idle w) [] (clear b ∷ []) ++ cond t [] (fillSpare b (tidied w) (encode (block * b) (values (entries r))) ++ finish b (nextRecord (tidied w)) (encode (block * b) (values (entries r)))))) dirty))
 
 rest-stores : (c : List ℕ) (x y : Step) → expand c (restPlan x y) ≡ storesOfStep c x ++ storesOfStep c y
 unfolding expand storesOfStep restPlan
@@ -132,5 +132,5 @@ pub rest-is : {b : ℕ} {r w s : List ℕ} → Parts b r w s → pending (r ++ (
 rest-is {b} {r} {w} {s} p h blank c =
     rest-stores c (spareStep b (allFF s)) (workStep b (idle w)) ∙ rw (spare-step c b (allFF s), work-step c b (idle w))
     (sym (tidy-is p h
-    ∙ ap (λ (t : Bool). cond (allFF s) [] (erases (b + 1) b) ++ (cond (idle w) [] (erase b ∷ []) ++ cond t [] (fillSpare b (tidied w) (encode (block * b) (values (entries r))) ++ finish b (nextRecord (tidied w)) (encode (block * b) (values (entries r)))))) blank
-    ∙ ap (λ (l : List Store). cond (allFF s) [] (erases (b + 1) b) ++ l) (append-nil (cond (idle w) [] (erase b ∷ [])))))
+    ∙ ap (λ (t : Bool). cond (allFF s) [] (erases (b + 1) b) ++ (cond (idle w) [] (clear b ∷ []) ++ cond t [] (fillSpare b (tidied w) (encode (block * b) (values (entries r))) ++ finish b (nextRecord (tidied w)) (encode (block * b) (values (entries r)))))) blank
+    ∙ ap (λ (l : List Write). cond (allFF s) [] (erases (b + 1) b) ++ l) (append-nil (cond (idle w) [] (clear b ∷ [])))))
