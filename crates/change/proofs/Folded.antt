@@ -143,6 +143,6 @@ module _ {img : List ℕ} {b : ℕ} {at : ℕ} {places : Places} {v : Value} (a 
               decides = decides is f;
               ready = λ states records.
                   accepted-ready c img ops′ 5 f is
-                  (compact-ready c img Nothing Nothing b (work img) wanted composed size (omega arith) held tt tt tt tt
-                  (subst (λ (ss : List Store). ClearsOne (isRecord img) ss img) (ap storesOf is-plan) records));
+                  (compact-ready c img Nothing Nothing b (work img) wanted composed size (omega arith) held (tt, tt, tt) (tt, tt, tt)
+                  (λ n. subst (λ (ss : List Store). ClearsOne (isRecord img) ss img) (ap (storesOf n) is-plan) (records n)));
             }

@@ -65,22 +65,22 @@ module _ {img : List ℕ} {b at : ℕ} {places : Places} {v : Value} (a : Asked 
         let t = tail-room in
         (x .0, x .1, omega (arith, a .ready .tail-at, a .ready .long, a .ready .few))
 
-    module _ (vendor : length (v .vendor) ≡ 16) {l c : List ℕ} {n : ℕ} (w : Wrote (entryBytes 0x3F v) 0 l c n) (room : length l ≡ 28672) where
-      entry-fits : length (entryBytes 0x3F v) ≤ length l
+    module _ (vendor : length (v .vendor) ≡ 16) {l c : List ℕ} {n : ℕ} (w : Wrote (entryBytes 0xFF v) 0 l c n) (room : length l ≡ 28672) where
+      entry-fits : length (entryBytes 0xFF v) ≤ length l
       entry-fits =
-          let s = entry-short 0x3F v (omega (arith, a .valid vendor .stamp)) (omega arith) in
+          let s = entry-short 0xFF v (omega (arith, a .valid vendor .stamp)) (omega arith) in
           let t = tail-room in
           omega (arith, a .ready .long, a .ready .few)
 
       holds : Holds c v
       holds =
-          subst (λ (x : List ℕ). Holds x v) (sym (w .buffer ∙ sets-eq (entryBytes 0x3F v) l 0 (let h = entry-fits in omega arith)))
-          (entry-holds 0x3F v (drop (0 + length (entryBytes 0x3F v)) l) (a .valid vendor .stamp) vendor)
+          subst (λ (x : List ℕ). Holds x v) (sym (w .buffer ∙ sets-eq (entryBytes 0xFF v) l 0 (let h = entry-fits in omega arith)))
+          (entry-holds v (drop (0 + length (entryBytes 0xFF v)) l) (a .valid vendor .stamp) vendor)
 
       held : 60 + length (v .name) + length (v .bytes) ≤ length c
       held =
           let t = tail-room in
-          omega (arith, a .ready .long, a .ready .few, ap length (w .buffer) ∙ length-sets l 0 (entryBytes 0x3F v))
+          omega (arith, a .ready .long, a .ready .few, ap length (w .buffer) ∙ length-sets l 0 (entryBytes 0xFF v))
 
       is-plan : putPlan img v ≡ make (tailTo (tailAt (region img)) v (entries (region img))) (tailOn v (entries (region img)))
       unfolding putPlan
@@ -116,5 +116,5 @@ module _ {img : List ℕ} {b at : ℕ} {places : Places} {v : Value} (a : Asked 
             ready = λ states records.
                 accepted-ready c img ops′ 6 f is
                 (tail-ready c img places v (a .added) (a .replacing) (x .0) (x .1) (omega (arith, a .ready .long, long .1)) held holds
-                (subst (λ (ss : List Store). ClearsOne (isState img) ss img) (ap storesOf is-plan) (states fit)));
+                (λ n. subst (λ (ss : List Store). ClearsOne (isState img) ss img) (ap (storesOf n) is-plan) (states fit n)));
           }

@@ -64,10 +64,10 @@ pub record Asked (img : List ℕ) (b tail : ℕ) (places : Places) (v : Value) :
   pub room : spaceOf (step (put v) (valuesOf img)) ≤ regionSize img
 
 -- a put was planned over an image, with this content: it is what the definitions plan, its deciding operation is told rightly, and it is what the executor
--- asks, if every change of state and record clears one bit
+-- asks, if every change of state and record clears one bit, whatever w is
 pub record PutPlanned (img : List ℕ) (v : Value) (content : List ℕ) (p : Planned) : Type 0 where
   pub same : plannedAs content p ≡ putPlan img v
   pub decides : decidesRight (putPlan img v) p ≡ true
-  pub ready : (fitsTail (region img) v ≡ true → ClearsOne (isState img) (storesOf (putPlan img v)) img)
-      → ClearsOne (isRecord img) (storesOf (putPlan img v)) img
+  pub ready : (fitsTail (region img) v ≡ true → (w : ℕ) → ClearsOne (isState img) (storesOf w (putPlan img v)) img)
+      → ((w : ℕ) → ClearsOne (isRecord img) (storesOf w (putPlan img v)) img)
       → Ready content (p .plan) img

@@ -131,7 +131,7 @@ fn fold(
     )
 }
 
-// "In the tail": the entry is composed at the content's front.
+// "In the tail": the entry is composed at the content's front, with FF in the place of its state.
 fn in_tail(
     image: &[u8],
     standing: Standing,
@@ -151,7 +151,7 @@ fn in_tail(
         (valued (now (name .entry)) (now (vendor .entry)) attributes (now (stamp .entry)) (now (old .entry) ++ now (own .entry))) (now (content .exit)) r ⌝ }
 {
     let places = standing.places;
-    compose::put_entry(content, 0, attributes, stamp, name, vendor, old, own);
+    compose::put_entry_in(0xFF, content, 0, attributes, stamp, name, vendor, old, own);
     plan::accept(
         orders::entries::tail_write(places, standing.tail, name.len(), old.len() + own.len()),
         6,
