@@ -68,5 +68,6 @@ module _ (img : List ℕ) (b : ℕ) (e : b ≡ blocksOf img) (low : 1 ≤ b) whe
       undecided-plans before c img (formatPlan img) (wipePlan b) (formatStores img) e o (stores c front) accepted-as-make
       (record {
         fit = (omega arith, ((omega arith, omega arith), (tt, (tt, (tt, (tt, (tt, (tt, (tt, (tt, (tt, (tt, tt))))))))))));
-        bits = (tt, (tt, (tt, (tt, (tt, (tt, (tt, (tt, (tt, (tt, (tt, (tt, tt))))))))))));
+        blank = (tt, (tt, (tt, (tt, (tt, (tt, (tt, (tt, (tt, (tt, (tt, (tt, tt))))))))))));
+        bits = λ w. (tt, (tt, (tt, (tt, (tt, (tt, (tt, (tt, (tt, (tt, (tt, (tt, tt))))))))))));
       })

@@ -26,7 +26,7 @@ use Rattle.recovery.specs.Interface.{Returned}
 use Rattle.model.specs.Set.{refuse, make}
 use Rattle.model.specs.declared.Session.{Session}
 use Rattle.model.specs.declared.Context.{Context}
-use Rattle.model.specs.Stores.{reach}
+use Rattle.model.specs.Stores.{stores, reach}
 use Rattle.model.proofs.Failing.{ended-done}
 use Rattle.model.specs.declared.Rule.{Rule}
 use Rattle.model.specs.declared.Rule.the-variants.{Absent, Buffer}
@@ -46,7 +46,7 @@ use Rattle.engine.proofs.Opened.{Opens, Refuses}
 -- no stores: done with 0, whatever the context is
 pub no-stores : (x : Context) (broken : Option Rule) (img : List ℕ)
     → outcome x (onSome broken refuse (make [] [])) img ≡ onSome broken (λ rule. refused (ruleNumber rule)) (done 0)
-unfolding outcome reach
+unfolding outcome reach stores
 no-stores x none img = ended-done (x .limit) 0 0 (omega arith) (omega arith)
 no-stores x (some rule) img = refl
 

@@ -17,7 +17,7 @@ use Rattle.model.specs.Image.{block, blocks, rightLength, region, work, spare}
 use Rattle.model.specs.Region.{sound, tail, entries, values}
 use Rattle.model.specs.Work.{idle, pending, readyForStartUp, usedRecords}
 use Rattle.model.specs.Rules.{startUpBroken}
-use Rattle.model.specs.Stores.{Store, Bytes}
+use Rattle.model.specs.Stores.{Store, Write, stores, Bytes}
 use Rattle.model.specs.Set.{refuse, make}
 use Rattle.model.specs.Compact.{encode, finish, fillSpare, nextRecord}
 use Rattle.model.specs.StartUp.{startUpStores, startUpPlan}
@@ -104,15 +104,15 @@ plan-makes : (img : List ℕ) (b : ℕ) (t : Bool) → Accepted img b t → star
 unfolding startUpPlan
 plan-makes img b t f = rw (f .unbroken)
 
-plan-stores : (img : List ℕ) (b : ℕ) (t : Bool) → Accepted img b t → storesOf (startUpPlan img) ≡ startUpStores img
+plan-stores : (img : List ℕ) (b : ℕ) (t : Bool) → Accepted img b t → (n : ℕ) → storesOf n (startUpPlan img) ≡ stores n (startUpStores img)
 unfolding storesOf
-plan-stores img b t f = rw (plan-makes img b t f)
+plan-stores img b t f n = rw (plan-makes img b t f)
 
 -- records of a start-up clear one bit each
-records-clear : (img : List ℕ) (b : ℕ) (t : Bool) → Accepted img b t → Bytes img → (ss : List Store) → startUpStores img ≡ ss → ClearsOne (isRecord img) ss img
+records-clear : (img : List ℕ) (b : ℕ) (t : Bool) → Accepted img b t → Bytes img → (xs : List Write) → startUpStores img ≡ xs → (n : ℕ) → ClearsOne (isRecord img) (stores n xs) img
 unfolding planOf
-records-clear img b t f bytes ss e =
-    subst (λ (l : List Store). ClearsOne (isRecord img) l img) (plan-stores img b t f ∙ e) (marks-clear-one-bit img bytes (startUp (record { custom = 0; reserve = 0 })) tt .0)
+records-clear img b t f bytes xs e n =
+    subst (λ (l : List Store). ClearsOne (isRecord img) l img) (plan-stores img b t f n ∙ ap (stores n) e) (marks-clear-one-bit n img bytes (startUp (record { custom = 0; reserve = 0 })) tt .0)
 
 part-long : (at n : ℕ) (img : List ℕ) → at + n ≤ length img → length (part at n img) ≡ n
 part-long at n img h = length-take-le n (drop at img) (rw (length-drop at img) (omega arith))
@@ -226,11 +226,11 @@ module _ (img : List ℕ) (b : ℕ) (f : Accepted img b false) where
       let is : expand c (compactPlan x y b (usedRecords w)) ≡ startUpStores img = startUp-is own waits t c e ∙ ap startUpStores (sym whole) in
       let l = image-long in
       let z = sized img b false f in
-      let gx = spare-good (length c) (length img) b (isRecord img) (allFF (spare img)) (omega arith) in
-      let gy = work-good (length c) (length img) b (isRecord img) (idle (work img)) (omega arith) in
+      let gx = spare-good c (length img) b (isRecord img) (allFF (spare img)) (omega arith) in
+      let gy = work-good c (length img) b (isRecord img) (idle (work img)) (omega arith) in
       let few : block * b ≤ length c = unfold block in omega (arith, z .1, room) in
       undecided-plans before c img (startUpPlan img) (compactPlan x y b (usedRecords w)) (startUpStores img) a o is (plan-makes img b false f)
-      (compact-ready c img x y b w content e (its-size img b (z .0) (z .1) (z .2)) l few (gx .0) (gy .0) (gx .1) (gy .1)
+      (compact-ready c img x y b w content e (its-size img b (z .0) (z .1) (z .2)) l few gx gy
       (records-clear img b false f bytes (storesOfStep c x ++ (storesOfStep c y ++ (fillSpare b w content ++ finish b (nextRecord w) content)))
       (sym is ∙ compact-is c x y b w content e)))
 
