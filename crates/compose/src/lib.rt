@@ -102,7 +102,7 @@ pub fn put_padding(out: &mut [u8], at: usize, size: usize) -> usize
     output::put_bytes(out, at, &blank[..n])
 }
 
-// An entry in a state, whole: header, name, data (those kept, then those given), padding.
+// An entry in the state given, whole: header, name, data (those kept, then those given), padding.
 pub fn put_entry_in(
     state: u8,
     out: &mut [u8],
@@ -148,7 +148,7 @@ pub fn put_entry_in(
     )
 }
 
-// An entry in state 3F, as it stands once all its stores are made.
+// "values as 3F entries": one of a region that a compaction leaves.
 pub fn put_entry(
     out: &mut [u8],
     at: usize,

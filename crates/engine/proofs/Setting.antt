@@ -206,13 +206,13 @@ module _ (s : Session) (name vendor : List ℕ) (a : ℕ) (bytes : List ℕ) (pr
   unfolding planOf inPlace
   put-plans h bytes-img args before {c} {p} d =
       let v = valueToPut img name vendor a bytes in
-      let marks = λ (w : ℕ). marks-clear-one-bit w img bytes-img (set s q) args in
       record {
         same = d .same ∙ sym (put-plan h);
         decides = ap (λ (x : Plan). decidesRight x p) (put-plan h) ∙ d .decides;
         kept = put-kept before c h;
         ready =
             d .ready
-            (λ fits w. subst (λ (ss : List Store). ClearsOne (isState img) ss img) (ap (storesOf w) (put-plan h)) (marks w .1 (ap (inPlace img) (asked-change h) ∙ fits)))
-            (λ w. subst (λ (ss : List Store). ClearsOne (isRecord img) ss img) (ap (storesOf w) (put-plan h)) (marks w .0));
+            (λ fits w. subst (λ (ss : List Store). ClearsOne (isState img) ss img) (ap (storesOf w) (put-plan h))
+            (marks-clear-one-bit w img bytes-img (set s q) args .1 (ap (inPlace img) (asked-change h) ∙ fits)))
+            (λ w. subst (λ (ss : List Store). ClearsOne (isRecord img) ss img) (ap (storesOf w) (put-plan h)) (marks-clear-one-bit w img bytes-img (set s q) args .0));
       }

@@ -1,4 +1,4 @@
--- The plans' stores are those of the definitions.
+-- The plans write what the definitions have written.
 -- Assumes nothing.
 use Prim.Native.Nat.{ℕ, _+_, _*_}
 use mathlib.Core.Path.{_≡_, refl}

@@ -1,4 +1,5 @@
--- A compaction's plan lies within content and image, and its marks are at places of records: what the executor asks follows from what is shown of the list of stores.
+-- A compaction's plan lies within content and image, has no header, and its marks are at places of records: what the executor asks follows from what is shown of the
+-- list of stores, for every w.
 -- Assumes nothing.
 use Prim.Native.Nat.{ℕ, _+_, _*_, _≤_, _<_}
 use native.Mathlib.Omega.{arith}

@@ -1,4 +1,4 @@
--- The plans' stores are those of the definitions: by the cases of what was found.
+-- The plans write what the definitions have written: by the cases of what was found.
 -- Assumes nothing.
 use Prim.Native.Nat.{ℕ, _+_, _-_}
 use native.Mathlib.Omega.{arith}

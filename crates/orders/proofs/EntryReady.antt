@@ -1,4 +1,5 @@
--- The plans lie within content and image, and their marks are at places of states: what the executor asks of them follows from what is shown of the lists of stores.
+-- The plans lie within content and image, the one header has FF in the place of its state, and their marks are at places of states: what the executor asks of them
+-- follows from what is shown of the lists of stores, for every w.
 -- Assumes nothing.
 use Prim.Native.Nat.{ℕ, _+_, _≤_}
 use native.Mathlib.Omega.{arith}

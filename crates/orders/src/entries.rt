@@ -85,7 +85,7 @@ pub fn delete(places: Places) -> Plan
 }
 
 // "In the tail ..: a leftover 3E beside a 3F becomes 3C; the 3F becomes 3E; header bytes in rising order without state; state 7F; name; data; state 3F; the old
-// entry 3C." The content holds the entry from its front on.
+// entry 3C." The content holds the entry from its front on, with FF in the place of its state.
 pub fn tail_write(places: Places, at: usize, name: usize, size: usize) -> Plan
     requires { ⌜ Below (2 ^ 62) (places .added) × Below (2 ^ 62) (places .replacing) × (at + name + size < 2 ^ 62) ⌝ }
     ensures { λ r. ⌜ r ≡ tailPlan places at name size ⌝ }

@@ -109,10 +109,12 @@ unfolding storesOf
 plan-stores img b t f n = rw (plan-makes img b t f)
 
 -- records of a start-up clear one bit each
-records-clear : (img : List ℕ) (b : ℕ) (t : Bool) → Accepted img b t → Bytes img → (xs : List Write) → startUpStores img ≡ xs → (n : ℕ) → ClearsOne (isRecord img) (stores n xs) img
+records-clear : (img : List ℕ) (b : ℕ) (t : Bool) → Accepted img b t → Bytes img → (xs : List Write) → startUpStores img ≡ xs
+    → (n : ℕ) → ClearsOne (isRecord img) (stores n xs) img
 unfolding planOf
 records-clear img b t f bytes xs e n =
-    subst (λ (l : List Store). ClearsOne (isRecord img) l img) (plan-stores img b t f n ∙ ap (stores n) e) (marks-clear-one-bit n img bytes (startUp (record { custom = 0; reserve = 0 })) tt .0)
+    subst (λ (l : List Store). ClearsOne (isRecord img) l img) (plan-stores img b t f n ∙ ap (stores n) e)
+    (marks-clear-one-bit n img bytes (startUp (record { custom = 0; reserve = 0 })) tt .0)
 
 part-long : (at n : ℕ) (img : List ℕ) → at + n ≤ length img → length (part at n img) ≡ n
 part-long at n img h = length-take-le n (drop at img) (rw (length-drop at img) (omega arith))
