@@ -77,7 +77,7 @@ macro_rules! laid_out {
 }
 
 const _: () = assert!(size_of::<usize>() == 8 && size_of::<*const u8>() == 8);
-laid_out!(Context 80 limit 0 count 8 dead 12);
+laid_out!(Context 80 limit 0 count 8 dead 12 width 76);
 laid_out!(Setup 8 custom 0 reserve 4);
 laid_out!(Session 2384 phase 0 setup 4 count 12 sizes 16 locks 80);
 laid_out!(RawAnswer 16 kind 0 rule 4 stores 8);

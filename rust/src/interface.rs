@@ -70,29 +70,35 @@ pub enum Answer {
 /// Places for dead addresses.
 pub const DEAD: usize = 16;
 
-/// What every call and start-up takes: the number n of stores after which it is stopped, and 02 (h)'s dead addresses, offsets in the image. There are `count`
-/// of them; above 16 it counts as 16.
+/// What every call and start-up takes: the number n of stores after which it is stopped; 02 (h)'s dead addresses, offsets in the image, of which there are
+/// `count`, above 16 counting as 16; and 02 (i)'s width w, where other numbers than 1, 2, 4, 8 and 16 count as 1.
 #[derive(Clone, Copy, PartialEq, Eq, Debug)]
 #[repr(C)]
 pub struct Context {
     pub limit: u64,
     pub count: u32,
     pub dead: [u32; DEAD],
+    pub width: u32,
 }
 
 impl Context {
     pub const NO_LIMIT: Context = Context::with(u64::MAX);
 
-    /// Stopped after n stores, on a chip where nothing is dead.
+    /// Stopped after n stores, on a chip that stores bytes, of which none is dead.
     pub const fn with(limit: u64) -> Context {
-        Context { limit, count: 0, dead: [0; DEAD] }
+        Context { limit, count: 0, dead: [0; DEAD], width: 1 }
     }
 
     /// The same on a chip with dead bytes: those addresses that have a place, and how many were given.
     pub fn worn(limit: u64, dead: &[u32]) -> Context {
-        let mut context = Context { limit, count: dead.len() as u32, dead: [0; DEAD] };
+        let mut context = Context { count: dead.len() as u32, ..Context::with(limit) };
         context.dead.iter_mut().zip(dead).for_each(|(place, address)| *place = *address);
         context
+    }
+
+    /// The same on a chip that programs pages.
+    pub const fn paged(self, width: u32) -> Context {
+        Context { width, ..self }
     }
 }
 

@@ -27,17 +27,27 @@ const GARBAGE: [Content; 2] = [[0xA5; size_of::<Content>()], [0; size_of::<Conte
 /// How often each call has given each answer.
 type Tally = BTreeMap<(&'static str, String), usize>;
 
-/// A current image and session, which every call leaves as both implementations left them, and the dead addresses that go with a call.
+/// A current image and session, which every call leaves as both implementations left them, and the dead addresses and the width that go with a call.
 struct Pair<'t> {
     image: Vec<u8>,
     session: Session,
     dead: Vec<u32>,
+    width: u32,
     tally: &'t mut Tally,
 }
 
 impl<'t> Pair<'t> {
     fn new(image: Vec<u8>, session: Session, tally: &'t mut Tally) -> Pair<'t> {
-        Pair { image, session, dead: vec![], tally }
+        Pair { image, session, dead: vec![], width: 1, tally }
+    }
+
+    fn context(&self, limit: u64) -> Context {
+        Context::worn(limit, &self.dead).paged(self.width)
+    }
+
+    /// What the width counts as.
+    fn w(&self) -> usize {
+        paper::width(&self.context(0))
     }
 
     fn count(&mut self, call: &'static str, answer: Answer) {
@@ -67,7 +77,7 @@ impl<'t> Pair<'t> {
 
     fn read(&mut self, what: &'static str, ours: Read, theirs: Read, name: &Name, limit: u64, buffer: &[u8]) -> (Reply, Vec<u8>) {
         let (mut first, mut second) = (buffer.to_vec(), buffer.to_vec());
-        let context = Context::worn(limit, &self.dead);
+        let context = self.context(limit);
         let reply = ours(context, &self.session, &self.image, name.key(), &mut first);
         let other = theirs(context, &self.session, &self.image, name.key(), &mut second);
         assert_eq!(reply, other, "{what} of {name:X?} with a buffer of {}", buffer.len());
@@ -78,12 +88,12 @@ impl<'t> Pair<'t> {
 
     /// A call that may store, with a content full of other bytes than it needs. Where nothing limits it, its plan is looked at too.
     fn store(&mut self, what: &'static str, call: &Call, limit: u64) -> Answer {
-        let (before, context) = (self.image.clone(), Context::worn(limit, &self.dead));
+        let (before, context) = (self.image.clone(), self.context(limit));
         let (ours, session) = call.by(&PAPER, context, &self.session, &mut self.image);
         for garbage in GARBAGE {
             let (mut content, mut other) = (garbage, before.clone());
             let (theirs, their_session) = call.by_engine(context, &self.session, &mut other, &mut content);
-            assert_eq!(ours, theirs, "{what} up to {limit} with {:?} dead in phase {}: {call:?}", self.dead, self.session.phase);
+            assert_eq!(ours, theirs, "{what} with {context:?} in phase {}: {call:?}", self.session.phase);
             same_session(&session, &their_session);
             same_bytes(&format!("image after {what}"), &self.image, &other);
             assert!(!matches!(ours, Answer::Refused(rule) if rule != Rule::Worn) || content == garbage, "the content of a refused {what}");
@@ -97,14 +107,15 @@ impl<'t> Pair<'t> {
         ours
     }
 
-    /// The engine's plan of a call on the image before it: rule, stores and deciding store are the paper's, and carried out on a part with the same dead bytes
-    /// they leave the image that the call left. A refused call keeps the content.
+    /// The engine's plan of a call on the image before it: rule, stores and deciding store are the paper's, and carried out on a part of the same width and
+    /// dead bytes they leave the image that the call left. A refused call keeps the content.
     fn plan(&mut self, what: &'static str, call: &Call, before: &[u8], garbage: Content) {
         let mut content = garbage;
-        let plan = match (call.plan(&self.session, before, &mut content), call.stores(&self.session, before)) {
+        let w = self.w();
+        let plan = match (call.plan(&self.session, before, &mut content), call.stores(w, &self.session, before)) {
             (Ok(plan), Ok(list)) => {
-                assert_eq!((plan.count(), plan.deciding_store()), (list.len(), list.deciding()), "stores and the deciding one of {what}: {call:?}");
-                assert!(plan.stores(&content).eq(list.iter()), "the stores of {what}: {call:?}");
+                assert_eq!((plan.count(w), plan.deciding_store(w)), (list.len(), list.deciding()), "stores and the deciding one of {what}: {call:?}");
+                assert!(plan.stores(w, &content).eq(list.iter()), "the stores of {what}: {call:?}");
                 plan
             }
             (Err(theirs), Err(ours)) => {
@@ -115,17 +126,18 @@ impl<'t> Pair<'t> {
             (theirs, ours) => panic!("{what} is planned {theirs:?}, and has {:?} stores: {call:?}", ours.map(|list| list.len())),
         };
         let mut part = before.to_vec();
-        let made = carry_out(&plan, &content, u64::MAX, paper::dead(&Context::worn(u64::MAX, &self.dead)), &mut part);
+        let made = carry_out(&plan, &content, &self.context(u64::MAX), &mut part);
         same_bytes("image after the plan", &self.image, &part);
         let deeds = if made.failed { "fails" } else { deeds(&plan) };
         *self.tally.entry(("plan", format!("{what} that {deeds}"))).or_default() += 1;
     }
 
-    /// Other dead addresses from here on, with an eye to the next call: none, most often.
-    fn wear(&mut self, r: &mut Random, next: &Call) {
+    /// Another chip from here on, with an eye to the next call: any width, and dead addresses, none most often.
+    fn other_chip(&mut self, r: &mut Random, next: &Call) {
+        self.width = generate::width(r);
         self.dead.clear();
         if r.once_in(3) {
-            let list = next.stores(&self.session, &self.image).ok();
+            let list = next.stores(self.w(), &self.session, &self.image).ok();
             self.dead = generate::dead(r, list.as_ref(), self.image.len());
         }
     }
@@ -156,7 +168,7 @@ impl<'t> Pair<'t> {
         self.session = ours;
     }
 
-    /// The set's answer and image for every n of a short list, and for those around its turning points of a long one; then with some bytes dead.
+    /// The set's answer and image for every n of a short list, and for those around its turning points of a long one; then with other widths and some bytes dead.
     fn set_with_stops(&mut self, r: &mut Random, asked: &Asked) {
         self.store_with_stops(r, "set", &Call::Set(asked.clone()));
         self.set(asked, u64::MAX);
@@ -167,22 +179,26 @@ impl<'t> Pair<'t> {
         self.start_up(u64::MAX, Setup { custom: 1, reserve: 100 });
     }
 
-    /// Leaves the image as before, and no byte dead.
+    /// Leaves the image as before, and a chip that stores bytes, none of them dead.
     fn store_with_stops(&mut self, r: &mut Random, what: &'static str, call: &Call) {
         let (before, session) = (self.image.clone(), self.session);
-        let Ok(list) = call.stores(&session, &before) else { return };
         let tried = |pair: &mut Self, limit| {
             pair.image.copy_from_slice(&before);
             pair.session = session;
             pair.store(what, call, limit);
         };
-        limits(r, &list).into_iter().for_each(|limit| tried(self, limit));
-        for _ in 0..4 {
-            self.dead = generate::dead(r, Some(&list), before.len());
-            let made = list.make_worn(u64::MAX, paper::dead(&Context::worn(u64::MAX, &self.dead)), &mut before.clone()).stores as u64;
-            [made.saturating_sub(1), made, made + 1, u64::MAX].into_iter().for_each(|limit| tried(self, limit));
+        for width in [1, r.pick(&[2, 4, 8, 16])] {
+            self.width = width;
+            let Ok(list) = call.stores(self.w(), &session, &before) else { break };
+            limits(r, &list).into_iter().for_each(|limit| tried(self, limit));
+            for _ in 0..3 {
+                self.dead = generate::dead(r, Some(&list), before.len());
+                let made = list.make_worn(u64::MAX, paper::dead(&self.context(0)), &mut before.clone()).stores as u64;
+                [made.saturating_sub(1), made, made + 1, u64::MAX].into_iter().for_each(|limit| tried(self, limit));
+            }
+            self.dead.clear();
         }
-        self.dead.clear();
+        self.width = 1;
         self.image.copy_from_slice(&before);
         self.session = session;
     }
@@ -197,7 +213,7 @@ fn deeds(plan: &Plan) -> &'static str {
         (true, true) => "programs and erases",
         (true, false) => "programs",
         (false, true) => "erases",
-        (false, false) if plan.count() > 0 => "marks",
+        (false, false) if plan.count(1) > 0 => "marks",
         (false, false) => "does nothing",
     }
 }
@@ -274,19 +290,19 @@ fn random_call(pair: &mut Pair, r: &mut Random) {
         3..=5 => random_next(pair, r),
         6 => {
             let setup = Setup { custom: r.pick(&[0, 1, 2, u32::MAX]), reserve: r.pick(&[0, 1, 4096, 4097, u32::MAX]) };
-            pair.wear(r, &Call::StartUp(setup));
+            pair.other_chip(r, &Call::StartUp(setup));
             pair.start_up(limit(r), setup);
         }
         7 => pair.session = generate::session(r),
         8 if r.once_in(4) => {
-            pair.wear(r, &Call::Format);
+            pair.other_chip(r, &Call::Format);
             pair.format(limit(r));
         }
         9 => pair.lock(&generate::name(r)),
         10 => pair.phase(r.pick(&[0, 1, 2, 3, u32::MAX])),
         _ => {
             let asked = generate::asked_on(r, &pair.image);
-            pair.wear(r, &Call::Set(asked.clone()));
+            pair.other_chip(r, &Call::Set(asked.clone()));
             pair.set(&asked, limit(r));
         }
     }
@@ -481,6 +497,12 @@ fn lengths() {
             for n in (0..=44).chain([u64::MAX]) {
                 pair.image.fill(0);
                 pair.format(n);
+            }
+            for width in [2, 3, 4, 8, 16] {
+                pair.width = width;
+                pair.image.fill(0);
+                pair.format(r.below(32) as u64);
+                pair.format(u64::MAX);
             }
             pair.check();
         }

@@ -21,7 +21,7 @@ use varstore::interface::{Answer, Context, Key, Reply, Rule, Setup};
 use varstore::paper::image::Parts;
 use varstore::paper::layout::Authenticated;
 use varstore::paper::request::{DBX, PK};
-use varstore::paper::Stores;
+use varstore::paper::{Store, Stores};
 use varstore::plan::Operation;
 
 /// The call is cut everywhere, each time followed by a start-up. `count` is the number of its stores.
@@ -42,7 +42,7 @@ fn cut_after(run: &Run, call: &Call, count: usize, numbers: fn(&Stores, &mut Ran
                 cut.cut(call, Cut { after, begun: None }, r);
                 cut.clone().recover();
                 let Some(store) = list.get(after) else { continue };
-                for left in begun(store, &cut.image, count <= 300 || r.once_in(64)) {
+                for left in begun(store, &cut.image, count <= 300 || r.once_in(64), r) {
                     let mut torn = cut.clone();
                     torn.begin(store, left, r);
                     torn.cuts = vec![Cut { after, begun: Some(left) }];
@@ -230,7 +230,7 @@ fn plan_of_a_compaction_of_seven_blocks() {
         let erase = |first| Operation::Erase { first, count: 7 };
         assert_eq!(made, [mark(0xFE), copy(length + BLOCK), mark(0xFC), erase(0), copy(0), mark(0xF8), erase(8)]);
         assert_eq!(plan.deciding.map(|number| plan.operations[number]), Some(mark(0xFC)));
-        assert_eq!((plan.stores(content).count(), plan.deciding_store()), (57361, Some(28673)));
+        assert_eq!((plan.stores(1, content).count(), plan.deciding_store(1)), (57361, Some(28673)));
     });
 }
 
@@ -322,7 +322,7 @@ fn random_cut(run: &Run, call: &Call, r: &mut Random) -> Cut {
     let after = r.pick(&turns);
     let mut image = run.image.clone();
     list.make(after as u64, &mut image);
-    let left = list.get(after).map_or(vec![], |store| begun(store, &image, true));
+    let left = list.get(after).map_or(vec![], |store| begun(store, &image, true, r));
     Cut { after, begun: if left.is_empty() || r.once_in(2) { None } else { Some(r.pick(&left)) } }
 }
 
@@ -349,26 +349,27 @@ fn cases() -> Vec<(Run, Call)> {
     cases
 }
 
-/// Other dead addresses from the next call on: none, most often.
-fn wear(run: &mut Run, next: &Call, r: &mut Random) {
+/// Another chip from the next call on: any width, and dead addresses, none most often.
+fn other_chip(run: &mut Run, next: &Call, r: &mut Random) {
+    run.width = generate::width(r);
     run.dead.clear();
     if r.once_in(3) {
         run.dead = generate::dead(r, run.stores(next).ok().as_ref(), run.image.len());
     }
 }
 
-/// A cut call, then so many cut start-ups, then one that is done; with dead bytes in some.
+/// A cut call, then so many cut start-ups, then one that is done; with a width of its own in each, and dead bytes in some.
 fn cut_start_ups(deep: usize, seconds: u64) {
     let cases = cases();
     let count = rounds(seconds, 20, |r| {
         for (run, call) in &cases {
             let mut run = Run { way: r.pick(&Way::BOTH), ..run.clone() };
+            other_chip(&mut run, call, r);
             let cut = random_cut(&run, call, r);
-            wear(&mut run, call, r);
             run.cut(call, cut, r);
             for _ in 0..deep {
+                other_chip(&mut run, &START_UP, r);
                 let cut = random_cut(&run, &START_UP, r);
-                wear(&mut run, &START_UP, r);
                 run.cut(&START_UP, cut, r);
             }
             run.recover_worn();
@@ -479,14 +480,16 @@ type Tally = BTreeMap<&'static str, usize>;
 /// One call of a run: whole, or cut.
 fn random_step(run: &mut Run, r: &mut Random, tally: &mut Tally) {
     let call = match r.below(8) {
-        0 => return *tally.entry(kind("get", get(run, &some_name(run, r)))).or_default() += 1,
-        1 => return *tally.entry(kind("next-name", next_name(run, &some_name(run, r)))).or_default() += 1,
+        0 => return *tally.entry(kind("get", get(run, &some_name(run, r)), false)).or_default() += 1,
+        1 => return *tally.entry(kind("next-name", next_name(run, &some_name(run, r)), false)).or_default() += 1,
         2 | 3 => some_start_up(r),
         _ => some_set(run, r),
     };
     let what = if matches!(call, Call::Set(_)) { "set" } else { "start-up" };
-    let has_stores = run.stores(&call).is_ok_and(|list| !list.is_empty());
-    wear(run, &call, r);
+    other_chip(run, &call, r);
+    let stores: Vec<Store> = run.stores(&call).map_or(vec![], |list| list.iter().collect());
+    let has_stores = !stores.is_empty();
+    let [programs, erases] = [true, false].map(|programs| stores.iter().any(|store| matches!(store, Store::Program(..)) == programs));
     if r.once_in(if has_stores { 2 } else { 10 }) {
         let cut = random_cut(run, &call, r);
         let before = run.book.clone();
@@ -498,7 +501,7 @@ fn random_step(run: &mut Run, r: &mut Random, tally: &mut Tally) {
         return;
     }
     let answer = run.make(&call, u64::MAX);
-    *tally.entry(kind(what, answer)).or_default() += 1;
+    *tally.entry(kind(what, answer, programs && erases)).or_default() += 1;
     match answer {
         Answer::Done(_) if what == "start-up" => run.check_book(),
         Answer::Refused(Rule::Worn) => run.cuts.clear(),
@@ -506,17 +509,18 @@ fn random_step(run: &mut Run, r: &mut Random, tally: &mut Tally) {
     }
 }
 
-fn kind(what: &'static str, answer: Answer) -> &'static str {
+/// `both`: it programs and erases.
+fn kind(what: &'static str, answer: Answer, both: bool) -> &'static str {
     match (what, answer) {
         ("set", Answer::Refused(Rule::Worn)) => "set failed",
         ("set", Answer::Done(0)) => "set done without stores",
-        ("set", Answer::Done(count)) if count > 4096 => "set done by compaction",
+        ("set", Answer::Done(_)) if both => "set done by compaction",
         ("set", Answer::Done(_)) => "set done",
         ("set", Answer::Refused(Rule::Unready)) => "set refused before a start-up",
         ("set", _) => "set refused",
         ("start-up", Answer::Refused(Rule::Worn)) => "start-up failed",
         ("start-up", Answer::Done(0)) => "start-up without stores",
-        ("start-up", Answer::Done(count)) if count > 4096 => "start-up that compacts or resumes",
+        ("start-up", Answer::Done(_)) if both => "start-up that compacts or resumes",
         ("start-up", _) => "start-up that erases",
         ("get", Answer::Done(_)) => "get done",
         ("get", _) => "get refused",

@@ -4,7 +4,7 @@
 //!     image len rle · poke off rle · save slot · load slot · session phase custom reserve count sizes locks
 //!     set name guid attrs data presence verdict n      get/next name guid buflen fill n (buffer of buflen bytes, all fill)
 //!     startup custom reserve n · format n · lock name guid · phase to · varlist
-//!     set, startup and format also dead (02 (h): addresses joined by `,`, which may be more than 16; `-` none)
+//!     set, startup and format also dead (02 (h): addresses joined by `,`, which may be more than 16; `-` none) and w (02 (i))
 //!     move src to (02 (d): from the image in slot src into the current one; to is `new` or `plain`)
 //!
 //! A line that a request of document 02 has changed says `why`: the sentence, with `_` for a space; also where only the image is another than it was.
@@ -33,7 +33,7 @@ struct Line<'a> {
 
 /// What a line may give; every field that is not an argument is checked.
 const ARGUMENTS: &str =
-    "why op len rle off slot phase custom reserve count sizes locks name guid attrs data presence verdict dead n buflen fill to src";
+    "why op len rle off slot phase custom reserve count sizes locks name guid attrs data presence verdict dead w n buflen fill to src";
 const EXPECTED: &str =
     "answer rule stores list deciding made size attrs_out buf_sha256 text sha256 crc32 s_phase s_custom s_reserve s_count s_sizes s_locks";
 
@@ -67,7 +67,8 @@ impl<'a> Line<'a> {
     fn context(&self) -> Context {
         let dead = self.fields.get("dead").filter(|&&text| text != "-");
         let dead: Vec<u32> = dead.map_or(vec![], |text| text.split(',').map(|address| address.parse().expect("an address")).collect());
-        Context::worn(self.number("n").into(), &dead)
+        let width = self.fields.get("w").map_or(1, |_| self.number("w"));
+        Context::worn(self.number("n").into(), &dead).paged(width)
     }
 
     /// Checks a field if the line gives it.
@@ -163,14 +164,16 @@ impl Player {
     /// The paper's list, or the engine's plan, made on a copy of the image.
     fn list(&self, line: &Line, call: &Call) -> Result<List, Rule> {
         let (context, mut image) = (line.context(), self.image.clone());
-        let (n, dead) = (context.limit, paper::dead(&context));
+        let w = paper::width(&context);
         if self.calls.who == PAPER.who {
-            let list = call.stores(&self.session, &self.image)?;
-            return Ok(List { length: list.len(), deciding: list.deciding(), made: list.make_worn(n, dead, &mut image) });
+            let list = call.stores(w, &self.session, &self.image)?;
+            let made = list.make_worn(context.limit, paper::dead(&context), &mut image);
+            return Ok(List { length: list.len(), deciding: list.deciding(), made });
         }
         lent(|content| {
             let plan = call.plan(&self.session, &self.image, content)?;
-            Ok(List { length: plan.count(), deciding: plan.deciding_store(), made: carry_out(&plan, content, n, dead, &mut image) })
+            let made = carry_out(&plan, content, &context, &mut image);
+            Ok(List { length: plan.count(w), deciding: plan.deciding_store(w), made })
         })
     }
 
@@ -315,6 +318,12 @@ fn stations_with_the_plain_layout() {
 #[test]
 fn flash_bytes_that_have_died() {
     run_file("h.txt", 465, 0);
+}
+
+/// 02 (i): stores of a page.
+#[test]
+fn chips_that_program_a_page() {
+    run_file("i.txt", 512, 0);
 }
 
 #[test]

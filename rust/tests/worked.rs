@@ -482,14 +482,14 @@ fn deciding_stores() {
     on_rate(|mut station| {
         let deciding = |station: &Station, key, attributes, data| {
             let request = Request { key, attributes, data, presence: 0, verdict: 0 };
-            let list = paper::set_stores(&station.session, &station.image, &request).expect("accepted");
+            let list = paper::set_stores(1, &station.session, &station.image, &request).expect("accepted");
             (list.len(), list.deciding(), list.deciding().and_then(|index| list.get(index)))
         };
-        assert_eq!(deciding(&station, RATE, 0x07, NEW), (77, Some(75), Some(paper::Store::Byte(106, 0x3F))));
-        assert_eq!(deciding(&station, RATE, 0, &[]), (1, Some(0), Some(paper::Store::Byte(STATE, 0x3D))));
+        assert_eq!(deciding(&station, RATE, 0x07, NEW), (77, Some(75), Some(paper::Store::byte(106, 0x3F))));
+        assert_eq!(deciding(&station, RATE, 0, &[]), (1, Some(0), Some(paper::Store::byte(STATE, 0x3D))));
         assert_eq!(deciding(&station, RATE, 0x07, OLD), (0, None, None));
         station.set(A, 0x07, &[1; 2048]);
-        assert_eq!(deciding(&station, A, 0x07, &[3; 2048]), (8197, Some(4097), Some(paper::Store::Byte(WORK, 0xFC))));
+        assert_eq!(deciding(&station, A, 0x07, &[3; 2048]), (8197, Some(4097), Some(paper::Store::byte(WORK, 0xFC))));
     });
 }
 
@@ -535,9 +535,9 @@ fn stores_of_a_header() {
     operations[2] = Operation::Header { at: 1000, from: 7 };
     operations[4] = Operation::Mark { at: 1002, value: 0x7F };
     let plan = Plan { deciding: Some(4), operations };
-    let header = (0..60).filter(|place| *place != 2).map(|place| paper::Store::Byte(1000 + place, 7 + place as u8));
-    assert!(plan.stores(&content).eq(header.chain([paper::Store::Byte(1002, 0x7F)])));
-    assert_eq!((plan.count(), plan.deciding_store()), (60, Some(59)));
+    let header = (0..60).filter(|place| *place != 2).map(|place| paper::Store::byte(1000 + place, 7 + place as u8));
+    assert!(plan.stores(1, &content).eq(header.chain([paper::Store::byte(1002, 0x7F)])));
+    assert_eq!((plan.count(1), plan.deciding_store(1)), (60, Some(59)));
 }
 
 /// "Stopped exactly if its list of stores is longer than n: the image is then as after the first n"; a byte store only clears bits.
@@ -547,15 +547,16 @@ fn every_stop_of_a_compaction() {
         station.set(A, 0x07, &[1; 2048]);
         station.set(B, 0x07, &[2; 1892]);
         let request = Request { key: A, attributes: 0x07, data: &[3; 2048], presence: 0, verdict: 0 };
-        let list = paper::set_stores(&station.session, &station.image, &request).expect("accepted");
+        let list = paper::set_stores(1, &station.session, &station.image, &request).expect("accepted");
         let mut after = station.image.clone();
         for (n, store) in list.iter().enumerate() {
             assert_eq!(list.get(n), Some(store));
             let mut stopped = station.clone();
             assert_eq!(stopped.set_until(n as u64, A, 0x07, &[3; 2048]), Answer::Stopped);
             assert!(stopped.image == after, "image after the first {n} stores");
-            if let paper::Store::Byte(at, v) = store {
-                assert_eq!(after[at] & v, v, "store {n} raises no bit");
+            if let paper::Store::Program(at, page) = store {
+                let v = page.bytes()[0];
+                assert_eq!((page.bytes().len(), after[at] & v), (1, v), "store {n} raises no bit");
             }
             store.make(&mut after);
         }

@@ -103,7 +103,7 @@ fn formats() {
     for (calls, blocks) in BOTH.into_iter().flat_map(|calls| [(calls, 1), (calls, 2)]) {
         let before = crowded(blocks).image;
         let erases = 2 * blocks + 1;
-        let list = paper::format_stores(&before).expect("an image");
+        let list = paper::format_stores(1, &before).expect("an image");
         for dead in (0..40).chain([BLOCK - 1, BLOCK, 2 * BLOCK, before.len() - 1, before.len()]) {
             for n in (0..erases + 30).map(|n| n as u64).chain([u64::MAX]) {
                 let mut image = before.clone();
@@ -296,11 +296,11 @@ fn a_host_that_reads_back() {
         once(|r| {
             let list = run.stores(&call).expect("an accepted call");
             for number in places(&list, 97, r) {
-                let Some(Store::Byte(dying, _)) = list.get(number) else { continue };
+                let Some(Store::Program(dying, _)) = list.get(number) else { continue };
                 let mut part = run.image.clone();
                 let (plan, made) = lent(|content| {
                     let plan = call.plan(&run.session, &run.image, content).expect("an accepted call");
-                    (plan, carry_out(&plan, content, u64::MAX, &[dying as u32], &mut part))
+                    (plan, carry_out(&plan, content, &Context::worn(u64::MAX, &[dying as u32]), &mut part))
                 });
                 let (image, failing) = one_by_one(&list, &run.image, usize::MAX, &[dying as u32]);
                 assert_eq!(made, Made { stores: failing.unwrap_or(list.len()), failed: failing.is_some() });
@@ -310,7 +310,7 @@ fn a_host_that_reads_back() {
                 assert_eq!(answer == WORN, made.failed, "{dying} dying");
                 assert!(told == part, "the image with {dying} dying");
                 let mut book = run.book.clone();
-                if let (Call::Set(asked), true) = (&call, plan.deciding_store().is_some_and(|deciding| deciding < made.stores)) {
+                if let (Call::Set(asked), true) = (&call, plan.deciding_store(1).is_some_and(|deciding| deciding < made.stores)) {
                     book.set(&asked.request());
                 }
                 Run { way: Way::Planned, image: part, book, dead: vec![dying as u32], ..run.clone() }.recover_worn();

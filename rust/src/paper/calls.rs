@@ -96,12 +96,21 @@ pub fn dead(context: &Context) -> &[u32] {
     &context.dead[..(context.count as usize).min(DEAD)]
 }
 
-/// Sets, appends to or deletes a value. Rules 1 to 13, and 23.
-pub fn set(context: Context, session: &Session, image: &mut [u8], request: &Request) -> Answer {
-    made(set_stores(session, image, request), context, image)
+/// 02 (i): "w .. is 1, 2, 4, 8 or 16, any other counts as 1".
+pub fn width(context: &Context) -> usize {
+    match context.width {
+        w @ (1 | 2 | 4 | 8 | 16) => w as usize,
+        _ => 1,
+    }
 }
 
-pub fn set_stores(session: &Session, image: &[u8], request: &Request) -> Result<Stores, Rule> {
+/// Sets, appends to or deletes a value. Rules 1 to 13, and 23.
+pub fn set(context: Context, session: &Session, image: &mut [u8], request: &Request) -> Answer {
+    made(set_stores(width(&context), session, image, request), context, image)
+}
+
+/// The list of stores of w bytes.
+pub fn set_stores(w: usize, session: &Session, image: &[u8], request: &Request) -> Result<Stores, Rule> {
     let ready = ready::<Authenticated>(image)?;
     let (region, key) = (ready.parts.region, request.key);
     of_the_call(session, request)?;
@@ -111,37 +120,37 @@ pub fn set_stores(session: &Session, image: &[u8], request: &Request) -> Result<
     let change = change(request, payload, value);
     of_the_change(session, region, key, value.as_ref(), &change)?;
     Ok(match change {
-        Change::Nothing => Stores::default(),
-        Change::Delete => deletion(&standing),
+        Change::Nothing => Stores::new(w),
+        Change::Delete => deletion(w, &standing),
         Change::Put(contents) if ready.tail + contents.entry_size::<Authenticated>(key) <= region.len() => {
-            in_tail(&standing, ready.tail, key, &contents)
+            in_tail(w, &standing, ready.tail, key, &contents)
         }
-        Change::Put(contents) => compaction(&ready.parts, ready.records, (key, &contents)),
+        Change::Put(contents) => compaction(w, &ready.parts, ready.records, (key, &contents)),
     })
 }
 
 /// Formatting meets 1, and 23.
 pub fn format(context: Context, image: &mut [u8]) -> Answer {
-    made(format_stores(image), context, image)
+    made(format_stores(width(&context), image), context, image)
 }
 
-pub fn format_stores(image: &[u8]) -> Result<Stores, Rule> {
-    Parts::of(image).map(|parts| formatting(&parts)).ok_or(Rule::Length)
+pub fn format_stores(w: usize, image: &[u8]) -> Result<Stores, Rule> {
+    Parts::of(image).map(|parts| formatting(w, &parts)).ok_or(Rule::Length)
 }
 
 /// Finishes what a power cut has left, and makes a fresh session. Rules 1 and 2, and 23.
 pub fn start_up(context: Context, image: &mut [u8], setup: Setup) -> Started {
-    let answer = made(start_up_stores(image), context, image);
+    let answer = made(start_up_stores(width(&context), image), context, image);
     Started { answer, session: session_new(setup) }
 }
 
-pub fn start_up_stores(image: &[u8]) -> Result<Stores, Rule> {
+pub fn start_up_stores(w: usize, image: &[u8]) -> Result<Stores, Rule> {
     let parts = Parts::of(image).ok_or(Rule::Length)?;
     if let Some(record) = work::pending(&parts) {
-        return Ok(resumption(&parts, record));
+        return Ok(resumption(w, &parts, record));
     }
     let tail = region::sound::<Authenticated>(parts.region).ok_or(Rule::Unready)?;
     let records = work::read(parts.work).filter(|records| !records.ends_in_spare_complete);
     let wanting = Wanting { erase_spare: !blank(parts.spare), erase_work: records.is_none(), compact: !blank(&parts.region[tail..]) };
-    Ok(clearing(&parts, records.map_or(0, |records| records.used), wanting))
+    Ok(clearing(w, &parts, records.map_or(0, |records| records.used), wanting))
 }

@@ -14,8 +14,8 @@ pub mod stores;
 pub mod varlist;
 pub mod work;
 
-pub use calls::{check, dead, format, format_stores, get, next_name, set, set_stores, start_up, start_up_stores};
+pub use calls::{check, dead, format, format_stores, get, next_name, set, set_stores, start_up, start_up_stores, width};
 pub use moves::{from_plain, to_plain};
 pub use session::{lock, phase, session_new};
-pub use stores::{Made, Store, Stores};
+pub use stores::{Made, Page, Store, Stores};
 pub use varlist::varlist;

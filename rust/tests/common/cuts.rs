@@ -11,7 +11,7 @@ use varstore::interface::{Answer, Context, Rule, Session, Setup};
 use varstore::paper::layout::Authenticated;
 use varstore::paper::region::header;
 use varstore::paper::work::{BEGUN, SPARE_COMPLETE, UNUSED};
-use varstore::paper::{self, Made, Store, Stores};
+use varstore::paper::{self, Made, Page, Store, Stores};
 
 pub const START_UP: Call = Call::StartUp(Setup::PLAIN);
 
@@ -102,25 +102,67 @@ fn records(unused: usize, used: usize) -> Vec<u8> {
     work
 }
 
-/// What a begun store has left.
+/// What a begun store has left: the bytes that it was to program, or its block.
 #[derive(Clone, Copy, PartialEq, Eq, Debug)]
 pub enum Begun {
-    Byte(u8),
+    Page(Page),
     Block(Garbage),
 }
 
-/// What a store may leave that is begun on an image. A byte store leaves uncleared one or more of the bits it had to clear: `every` such choice,
-/// or all of those bits, each of them alone, and all but each. It leaves nothing new where no bit has to clear.
-pub fn begun(store: Store, image: &[u8], every: bool) -> Vec<Begun> {
-    let (at, v) = match store {
+/// What a store may leave that is begun on an image. "each byte of that page may have any of its wanted bits uncleared, and one or more of the store's are": `every`
+/// such choice where the bits are few, else some of them. It leaves nothing new where no bit has to clear.
+pub fn begun(store: Store, image: &[u8], every: bool, r: &mut Random) -> Vec<Begun> {
+    let (at, page) = match store {
         Store::Erase(_) => return Garbage::ALL.map(Begun::Block).to_vec(),
-        Store::Byte(at, v) => (at, v),
+        Store::Program(at, page) => (at, page),
     };
-    let to_clear = image[at] & !v;
+    let old = &image[at..][..page.bytes().len()];
+    let to_clear: Vec<u8> = old.iter().zip(page.bytes()).map(|(byte, v)| byte & !v).collect();
+    let left = |uncleared: Vec<u8>| {
+        let bytes: Vec<u8> = old.iter().zip(page.bytes()).zip(&uncleared).map(|((byte, v), bits)| byte & v | bits).collect();
+        Begun::Page(Page::of(&bytes))
+    };
+    let choices = if to_clear.len() == 1 { of_a_byte(to_clear[0], every) } else { of_a_page(&to_clear, every, r) };
+    choices.into_iter().map(left).collect()
+}
+
+/// Of the bits that a byte store had to clear, those left: every choice, or all of them, each of them alone, and all but each.
+fn of_a_byte(to_clear: u8, every: bool) -> Vec<Vec<u8>> {
     let bits = to_clear.count_ones();
     let chosen = |uncleared: &u8| uncleared & !to_clear == 0 && (every || [1, bits - 1, bits].contains(&uncleared.count_ones()));
-    let cleared = image[at] & v;
-    (1..=u8::MAX).filter(chosen).map(|uncleared| Begun::Byte(cleared | uncleared)).collect()
+    (1..=u8::MAX).filter(chosen).map(|uncleared| vec![uncleared]).collect()
+}
+
+/// The same of a page. Every choice of up to eight bits; of more, each byte's alone and all but each byte's, the bytes up to each and from each on, all, one bit,
+/// and random ones; or a few of these.
+fn of_a_page(to_clear: &[u8], every: bool, r: &mut Random) -> Vec<Vec<u8>> {
+    let bits: Vec<(usize, u8)> =
+        (0..to_clear.len()).flat_map(|k| (0..8).map(move |bit| (k, 1 << bit))).filter(|&(k, bit)| to_clear[k] & bit != 0).collect();
+    let of_bits = |chosen: &mut dyn FnMut(usize) -> bool| {
+        let mut uncleared = vec![0; to_clear.len()];
+        bits.iter().enumerate().filter(|&(number, _)| chosen(number)).for_each(|(_, &(k, bit))| uncleared[k] |= bit);
+        uncleared
+    };
+    let of_bytes = |chosen: &dyn Fn(usize) -> bool| -> Vec<u8> { (0..).zip(to_clear).map(|(k, &byte)| if chosen(k) { byte } else { 0 }).collect() };
+    let mut choices = match bits.len() {
+        count @ 0..=8 if every || count <= 4 => (1..1usize << count).map(|choice| of_bits(&mut |number| choice >> number & 1 != 0)).collect(),
+        count => {
+            let one = r.below(count);
+            let mut some = vec![
+                of_bits(&mut |number| number == one),
+                of_bits(&mut |_| r.once_in(2)),
+                of_bits(&mut |_| r.once_in(2)),
+                of_bits(&mut |_| r.once_in(4)),
+            ];
+            let places: Vec<usize> = if every { (0..to_clear.len()).collect() } else { vec![r.below(to_clear.len())] };
+            for place in places {
+                some.extend([of_bytes(&|k| k == place), of_bytes(&|k| k != place), of_bytes(&|k| k < place), of_bytes(&|k| k >= place)]);
+            }
+            some
+        }
+    };
+    choices.retain(|uncleared| uncleared.iter().any(|&byte| byte != 0));
+    choices
 }
 
 /// The first `after` stores are complete; the next may be begun.
@@ -140,6 +182,8 @@ pub struct Run {
     pub former: Vec<u8>,
     /// The dead addresses that go with each call; of more than 16 the first ones count.
     pub dead: Vec<u32>,
+    /// The width that goes with each call.
+    pub width: u32,
     /// The cuts since the last done start-up.
     pub cuts: Vec<Cut>,
 }
@@ -148,17 +192,22 @@ impl Run {
     /// Begins on an image as a done start-up left it.
     pub fn new(image: Vec<u8>, former: Vec<u8>) -> Run {
         let session = (ENGINE.session_new)(Setup::PLAIN);
-        Run { way: Way::Called, book: Book::of(&image), image, session, former, dead: vec![], cuts: vec![] }
+        Run { way: Way::Called, book: Book::of(&image), image, session, former, dead: vec![], width: 1, cuts: vec![] }
     }
 
     /// The call's list of stores on the image that stands.
     pub fn stores(&self, call: &Call) -> Result<Stores, Rule> {
-        call.stores(&self.session, &self.image)
+        call.stores(self.w(), &self.session, &self.image)
     }
 
     /// What goes with a call beside its own arguments.
     pub fn context(&self, n: u64) -> Context {
-        Context::worn(n, &self.dead)
+        Context::worn(n, &self.dead).paged(self.width)
+    }
+
+    /// What its width counts as.
+    pub fn w(&self) -> usize {
+        paper::width(&self.context(0))
     }
 
     /// Makes the call up to n stores: answer and image are the paper's, and the book is fed.
@@ -176,7 +225,7 @@ impl Run {
             Way::Called => (self.call(call, n), is_among(list.ok().and_then(|list| list.deciding()), made)),
             Way::Planned => self.carry_out(call, n),
         };
-        assert_eq!(answer, expected, "up to {n} stores of {call:?} with {:?} dead after {:?}", self.dead, self.cuts);
+        assert_eq!(answer, expected, "up to {n} stores of {call:?} with {:?} dead, w {}, after {:?}", self.dead, self.width, self.cuts);
         same_bytes("image", &after, &self.image);
         if let (Call::Set(asked), true) = (call, decided || matches!(answer, Answer::Done(_))) {
             self.book.set(&asked.request());
@@ -199,20 +248,23 @@ impl Run {
         let context = self.context(n);
         let planned = lent(|content| {
             let plan = call.plan(&self.session, &self.image, content)?;
-            let made = carry_out(&plan, content, n, paper::dead(&context), &mut self.image);
+            let made = carry_out(&plan, content, &context, &mut self.image);
             Ok((plan, made))
         });
         self.session = call.planned_session(&self.session);
         match planned {
             Err(rule) => (Answer::Refused(rule), false),
-            Ok((plan, made)) => (answer_of(plan.count(), made, n), is_among(plan.deciding_store(), made.stores)),
+            Ok((plan, made)) => {
+                let (count, deciding) = (plan.count(self.w()), plan.deciding_store(self.w()));
+                (answer_of(count, made, n), is_among(deciding, made.stores))
+            }
         }
     }
 
     /// Puts what the begun store has left.
     pub fn begin(&mut self, store: Store, begun: Begun, r: &mut Random) {
         match (store, begun) {
-            (Store::Byte(at, _), Begun::Byte(left)) => self.image[at] = left,
+            (Store::Program(at, _), Begun::Page(left)) => self.image[at..][..left.bytes().len()].copy_from_slice(left.bytes()),
             (Store::Erase(block), Begun::Block(garbage)) => {
                 let left = garbage.bytes(self, block, r);
                 self.image[block * BLOCK..][..BLOCK].copy_from_slice(&left);
@@ -233,12 +285,9 @@ impl Run {
         self.cuts.push(cut);
     }
 
-    /// Whether a store would fail on the image that stands: its address is dead, and a bit would have to fall.
+    /// Whether a store would fail on the image that stands.
     pub fn fails(&self, store: Store) -> bool {
-        match store {
-            Store::Erase(_) => false,
-            Store::Byte(at, v) => self.image[at] & !v != 0 && paper::dead(&self.context(0)).contains(&(at as u32)),
-        }
+        store.fails(paper::dead(&self.context(0)), &self.image)
     }
 
     /// A start-up with the dead bytes: it is done or fails; then one without.
@@ -294,7 +343,7 @@ fn is_among(deciding: Option<usize>, made: usize) -> bool {
 pub fn places(list: &Stores, stride: usize, r: &mut Random) -> Vec<usize> {
     let stores: Vec<Store> = list.iter().collect();
     let follows = |k: usize| match (stores.get(k.wrapping_sub(1)), stores.get(k)) {
-        (Some(Store::Byte(before, _)), Some(Store::Byte(at, _))) => before + 1 == *at,
+        (Some(Store::Program(before, page)), Some(Store::Program(at, _))) => before + page.bytes().len() == *at,
         _ => false,
     };
     let first = r.below(stride);

@@ -11,12 +11,13 @@ use varstore::paper::{Store, Stores};
 pub const WORN: Answer = Answer::Refused(Rule::Worn);
 
 /// The image after the first `count` stores of a list, or after those before the first that fails, and its index: "it fails at a dead address where a bit would
-/// have to fall, and changes nothing there".
+/// have to fall, and changes nothing there"; "A dead byte with a bit to fall fails its whole store, which then changes nothing".
 pub fn one_by_one(list: &Stores, image: &[u8], count: usize, dead: &[u32]) -> (Vec<u8>, Option<usize>) {
     let mut after = image.to_vec();
     for (index, store) in list.iter().take(count).enumerate() {
-        if let Store::Byte(at, v) = store {
-            if dead.contains(&(at as u32)) && after[at] & !v != 0 {
+        if let Store::Program(at, page) = store {
+            let falls = |(a, v): (usize, &u8)| dead.contains(&(a as u32)) && after[a] & !v != 0;
+            if (at..).zip(page.bytes()).any(falls) {
                 return (after, Some(index));
             }
         }
@@ -35,7 +36,7 @@ fn fail(run: &Run, call: &Call, list: &Stores, dead: u32, n: u64) -> [Run; 2] {
         None => Answer::Done(list.len() as u64),
     };
     let mut ours = run.image.clone();
-    let (answer, _) = call.by(&PAPER, Context::worn(n, &[dead]), &run.session, &mut ours);
+    let (answer, _) = call.by(&PAPER, Context::worn(n, &[dead]).paged(run.width), &run.session, &mut ours);
     assert!(answer == expected && ours == image, "paper: {answer:?}, not {expected:?}, or the image, with {dead} dead up to {n} stores of {call:?}");
     Way::BOTH.map(|way| {
         let mut run = Run { way, dead: vec![dead], ..run.clone() };
@@ -52,7 +53,8 @@ pub fn fail_at(run: &Run, call: &Call, count: usize, numbers: fn(&Stores, &mut R
         assert_eq!(list.len(), count);
         let (mut failed, mut started) = (0, 0);
         for number in numbers(&list, r) {
-            let Some(Store::Byte(at, _)) = list.get(number) else { continue };
+            let Some(Store::Program(at, page)) = list.get(number) else { continue };
+            let at = at + r.below(page.bytes().len());
             let (_, failing) = one_by_one(&list, &run.image, count, &[at as u32]);
             let failing = failing.unwrap_or(number) as u64;
             for n in [failing.saturating_sub(1), failing, failing + 1] {

@@ -243,6 +243,11 @@ pub fn dead(r: &mut Random, list: Option<&Stores>, length: usize) -> Vec<u32> {
     (0..count).map(address).map(|address| address as u32).collect()
 }
 
+/// A width; sometimes one that counts as 1.
+pub fn width(r: &mut Random) -> u32 {
+    r.pick(&[1, 1, 2, 4, 8, 16, 16, 0, 3, 5, 17, 32, 0x100, 0x1_0010, u32::MAX])
+}
+
 /// Where a list stores: near its ends and around its deciding store more often than elsewhere.
 fn stored_address(r: &mut Random, list: &Stores) -> usize {
     let last = list.len() - 1;
@@ -254,7 +259,7 @@ fn stored_address(r: &mut Random, list: &Stores) -> usize {
         _ => r.below(last + 1),
     };
     match list.get(index.min(last)).expect("a store of the list") {
-        Store::Byte(at, _) => at,
+        Store::Program(at, page) => at + r.below(page.bytes().len()),
         Store::Erase(block) => block * BLOCK + r.below(BLOCK),
     }
 }

@@ -1,11 +1,13 @@
 //! The calls that may store: by the paper, by the engine, and as the engine plans them.
 
+use std::ops::Range;
+
 use super::generate::Asked;
 use varstore::calls::Calls;
 use varstore::engine;
 use varstore::interface::{Answer, Context, Rule, Session, Setup};
 use varstore::paper::{self, Made, Store, Stores};
-use varstore::plan::{Content, Plan};
+use varstore::plan::{Content, Operation, Plan};
 
 #[derive(Clone, Debug)]
 pub enum Call {
@@ -15,12 +17,12 @@ pub enum Call {
 }
 
 impl Call {
-    /// The paper's list of stores.
-    pub fn stores(&self, session: &Session, image: &[u8]) -> Result<Stores, Rule> {
+    /// The paper's list of stores of w bytes.
+    pub fn stores(&self, w: usize, session: &Session, image: &[u8]) -> Result<Stores, Rule> {
         match self {
-            Call::Set(asked) => paper::set_stores(session, image, &asked.request()),
-            Call::StartUp(_) => paper::start_up_stores(image),
-            Call::Format => paper::format_stores(image),
+            Call::Set(asked) => paper::set_stores(w, session, image, &asked.request()),
+            Call::StartUp(_) => paper::start_up_stores(w, image),
+            Call::Format => paper::format_stores(w, image),
         }
     }
 
@@ -66,25 +68,57 @@ impl Call {
     }
 }
 
-/// A host carries out the first n stores of a plan on its part, and reads each byte back: where it is not what was stored, the host goes no further. No store asks
-/// a cleared bit to rise.
-pub fn carry_out(plan: &Plan, content: &Content, n: u64, dead: &[u32], part: &mut [u8]) -> Made {
-    let first = usize::try_from(n).unwrap_or(usize::MAX);
-    let failing = plan.stores(content).take(first).position(|store| !stored(store, dead, part));
-    Made { stores: failing.unwrap_or(plan.count().min(first)), failed: failing.is_some() }
-}
-
-/// One store on a part, which only clears bits and erases blocks; a dead byte keeps its bits. Whether it reads back as it was to be.
-fn stored(store: Store, dead: &[u32], part: &mut [u8]) -> bool {
-    match store {
-        Store::Erase(_) => store.make(part),
-        Store::Byte(at, value) => {
-            assert!(value & !part[at] == 0, "at {at} {:02X} would become {value:02X}", part[at]);
-            if dead.contains(&(at as u32)) {
-                return part[at] == value;
-            }
-            store.make(part);
+/// A host carries out the first n stores of a plan on its part, page by page, and reads each back: where it is not what was stored, the host goes no further. No
+/// store asks a cleared bit to rise.
+pub fn carry_out(plan: &Plan, content: &Content, context: &Context, part: &mut [u8]) -> Made {
+    let (w, dead) = (paper::width(context), paper::dead(context));
+    let first = usize::try_from(context.limit).unwrap_or(usize::MAX);
+    let mut made = Made { stores: 0, failed: false };
+    for operation in plan.operations {
+        let count = operation.stores(w).min(first - made.stores);
+        let failing = match front(operation, count, w) {
+            Some((at, values)) if dead.is_empty() => at_once(at, &content[values], part),
+            _ => (0..count).position(|index| !stored(operation.store(w, index, content), dead, part)),
+        };
+        made.stores += failing.unwrap_or(count);
+        made.failed = failing.is_some();
+        if made.failed {
+            break;
         }
     }
+    made
+}
+
+/// What the first stores of a program hold together, where they are all or single bytes: an offset of the part, and the content's bytes.
+fn front(operation: Operation, count: usize, w: usize) -> Option<(usize, Range<usize>)> {
+    match operation {
+        Operation::Program { at, from, len } if count == operation.stores(w) => Some((at, from..from + len)),
+        Operation::Program { at, from, .. } if w == 1 => Some((at, from..from + count)),
+        _ => None,
+    }
+}
+
+/// Stores of which none can fail, made at once: there are many.
+fn at_once(at: usize, values: &[u8], part: &mut [u8]) -> Option<usize> {
+    let bytes = &mut part[at..][..values.len()];
+    let rises = bytes.iter().zip(values).fold(0, |rises, (byte, value)| rises | value & !byte);
+    assert!(rises == 0, "a bit would rise in {} bytes at {at}", values.len());
+    bytes.copy_from_slice(values);
+    None
+}
+
+/// One store on a part, which only clears bits and erases blocks. Where a dead byte would have to clear one, the whole store changes nothing. Whether it reads
+/// back as it was to be.
+fn stored(store: Store, dead: &[u32], part: &mut [u8]) -> bool {
+    if let Store::Program(at, page) = store {
+        let bytes = &part[at..][..page.bytes().len()];
+        let rises = bytes.iter().zip(page.bytes()).any(|(byte, value)| value & !byte != 0);
+        assert!(!rises, "at {at} {bytes:02X?} would become {page:02X?}");
+        let changed = |address: u32| (address as usize).checked_sub(at).is_some_and(|k| bytes.get(k) != page.bytes().get(k));
+        if dead.iter().any(|&address| changed(address)) {
+            return false;
+        }
+    }
+    store.make(part);
     true
 }
