@@ -17,6 +17,7 @@
 //   E  bytes of the target shown: offset u32, size u16
 //   T  the target taken as the image: its length, and its bytes
 //   W  dead bytes  count u8, sixteen addresses u32: given with every call from there on, as none are before
+//   I  page        the bytes of a page, u32: given with every call from there on, as 0 (which counts as 1) is before
 // Numbers are little-endian; a field past the script's end counts as zeros or empty. Before the first format the image has no bytes, and before the first move
 // the target has none.
 ghost use Prim.Native.Nat.{_<_, _^_};
@@ -31,25 +32,35 @@ use model::Named;
 use model::Session;
 use model::Setup;
 
-// What is carried from a step to the next: the session, and the last step's context for its dead bytes.
+// What is carried from a step to the next: the session, and the last step's context for its dead bytes and its page.
 struct Carried {
     session: Session,
     context: Context,
 }
 
-// What a call takes beside its own arguments: the step's limit, and the dead bytes that were given before, where the step gives no others.
+// The bytes of a page at a step: those given before, where the step gives no others.
+fn width(step: &[u8], before: u32) -> u32 {
+    if fields::byte(step, 0) == b'I' {
+        return fields::long(step, 5) as u32;
+    }
+    before
+}
+
+// What a call takes beside its own arguments: the step's limit, and dead bytes and page as given before, where the step gives no others.
 fn context(step: &[u8], before: Context) -> Context {
     let n = fields::long(step, 1);
     let mut limit = n as u64;
     if n == 0xFFFFFFFF {
         limit = 0xFFFFFFFFFFFFFFFF;
     }
+    let width = width(step, before.width);
     if fields::byte(step, 0) == b'W' {
         let given = fields::addresses(step, 6);
         return Context {
             limit,
             count: fields::byte(step, 5) as u32,
             dead: given,
+            width,
         };
     }
     let dead = before.dead;
@@ -57,6 +68,7 @@ fn context(step: &[u8], before: Context) -> Context {
         limit,
         count: before.count,
         dead,
+        width,
     }
 }
 
@@ -234,6 +246,12 @@ fn print_dead(c: Context) {
     print::end();
 }
 
+// The bytes of a page as they are given, also where they count as 1.
+fn print_page(c: Context) {
+    print::number(b"page ", c.width as u64);
+    print::end();
+}
+
 // A step that leaves the session as it is.
 fn call(c: Context, step: &[u8], image: &mut [u8], target: &mut [u8], s: Session) {
     match fields::byte(step, 0) {
@@ -248,6 +266,7 @@ fn call(c: Context, step: &[u8], image: &mut [u8], target: &mut [u8], s: Session
         b'E' => show(step, target),
         b'T' => take_target(image, target),
         b'W' => print_dead(c),
+        b'I' => print_page(c),
         _ => print::word(b"no such step\n"),
     }
 }
@@ -291,6 +310,7 @@ fn step_size(step: &[u8]) -> usize
         b'M' => 10,
         b'E' => 11,
         b'W' => 70,
+        b'I' => 9,
         _ => 5,
     }
 }
@@ -328,7 +348,7 @@ fn image_size(step: &[u8], size: usize, room: usize, buffer: &[u8]) -> usize
     fields::least(asked_size(step, size, room), buffer)
 }
 
-// Before the first step: a fresh session, and no dead bytes.
+// Before the first step: a fresh session, no dead bytes, and stores of bytes.
 fn nothing() -> Carried {
     let session = Session::fresh(Setup {
         custom: 0,
@@ -338,6 +358,7 @@ fn nothing() -> Carried {
         limit: 0,
         count: 0,
         dead: [0; 16],
+        width: 0,
     };
     Carried { session, context }
 }
