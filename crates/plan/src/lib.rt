@@ -87,7 +87,7 @@ pub fn refuse(rule: Rule) -> Planned
 
 // One operation in numbers, as a host reads it: kind 0 none; 1 a mark: the byte at `at` becomes `from` (len 1); 2 an erase: `len` blocks from block `at` on;
 // 3 a program: `len` bytes of the content from `from` on, stored from `at` on; 4 a header: 60 bytes (len 60) of the content from `from` on, stored from `at`
-// on, all but the third, which is the state.
+// on: byte by byte all but the third, which is the state; in pages all of them, the third being FF.
 #[repr(C)]
 pub struct HostOp {
     pub kind: u64,
