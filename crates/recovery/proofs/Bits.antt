@@ -21,14 +21,15 @@ use Rattle.model.specs.Region.{entries, tailAt, valuesOf}
 use Rattle.model.specs.Work.{recordSpace}
 use Rattle.model.specs.Request.{Request}
 use Rattle.model.specs.Change.{put, changeIn}
-use Rattle.model.specs.Rules.{firstBroken, rule1, setBroken, getBroken, nextBroken, startUpBroken, formatBroken}
+use Rattle.model.specs.Rules.{firstBroken, rule1, setBroken, formatBroken}
 use Rattle.model.specs.Stores.{stores, Bytes}
 use Rattle.model.specs.Set.{Plan, refuse, make, changePlan, setPlan}
-use Rattle.model.specs.StartUp.{startUpStores, formatStores, startUpPlan, formatPlan}
-use Rattle.model.specs.Answers.{storesOf, getPlan, nextPlan}
+use Rattle.model.specs.StartUp.{formatStores, formatPlan}
+use Rattle.model.specs.Answers.{storesOf}
 use Rattle.model.specs.Book.{Call, set, get, next, startUp, planOf, Sized, isRecord, isState, inPlace, StatesClearOneBit, NoBitRises, MarksClearOneBit}
 use Rattle.model.proofs.Parts.{parts-size, parts-region}
 use Rattle.model.proofs.Requests.{set-length, set-ready, put-is-valid, put-fits, startUp-length, startUp-ready}
+use Rattle.recovery.proofs.EveryCall.{callBroken, acceptedPlan, plan-of}
 use Rattle.recovery.proofs.StartingUp.{Ready, ready-of}
 use Rattle.recovery.proofs.ByteLists.{bytes-left, put-bytes, image-values}
 use Rattle.recovery.proofs.Clearing.{Along, along-clears, along-one}
@@ -87,13 +88,16 @@ module _ (marks : ℕ → Bool) (w : ℕ) (s : Session) (q : Request) (img : Lis
 -- ---- every call, with the marks of records
 
 call-along : (w : ℕ) (img : List ℕ) → Bytes img → (c : Call) → Sized c → Along (isRecord img) (storesOf w (planOf c img)) img
-unfolding planOf storesOf stores getPlan nextPlan startUpPlan
-call-along w img bytes (set s q) sized = set-along (isRecord img) w s q img bytes sized (λ i j h l n. records-bare img .below j l) (λ h. records-bare img)
-call-along w img bytes (get s k buffer) sized = unless-refused (isRecord img) w img (getBroken s k buffer img) (make [] []) (λ e. tt)
-call-along w img bytes (next s k buffer) sized = unless-refused (isRecord img) w img (nextBroken s k buffer img) (make [] []) (λ e. tt)
-call-along w img bytes (startUp setup) sized =
-    unless-refused (isRecord img) w img (startUpBroken img) (make [] (startUpStores img))
-    (λ e. startUp-along (isRecord img) img (startUp-length img e) (startUp-ready img e) bytes (records-bare img) w)
+unfolding storesOf stores
+call-along w img bytes c sized =
+    subst (λ (p : Plan). Along (isRecord img) (storesOf w p) img) (sym (plan-of c img))
+    (unless-refused (isRecord img) w img (callBroken c img) (acceptedPlan c img) (own c sized))
+  where
+    own : (c : Call) → Sized c → callBroken c img ≡ none → Along (isRecord img) (storesOf w (acceptedPlan c img)) img
+    own (set s q) sized e = accepted-along (isRecord img) w s q img bytes sized (λ i j h l n. records-bare img .below j l) (λ h. records-bare img) e
+    own (get s k buffer) sized e = tt
+    own (next s k buffer) sized e = tt
+    own (startUp setup) sized e = startUp-along (isRecord img) img (startUp-length img e) (startUp-ready img e) bytes (records-bare img) w
 
 -- ---- the two claims
 

@@ -11,16 +11,14 @@ use mathlib.Core.Option.{Option, none, some}
 use lib.ListN.{length, take, drop, length-append, take-append-drop}
 use lib.Dec.{eqb, leb, ltb}
 use borrow.Author.Tests.{le-leb}
-use Rattle.model.specs.declared.Session.{Session}
 use Rattle.model.specs.declared.Rule.{Rule}
 use Rattle.model.specs.declared.Rule.the-variants as rule
 use Rattle.model.specs.Lists.{isEmpty}
 use Rattle.model.specs.Entry.{Value}
 use Rattle.model.specs.Region.{valuesOf}
-use Rattle.model.specs.Request.{Request}
-use Rattle.model.specs.Rules.{setBroken, startUpBroken}
+use Rattle.model.specs.Rules.{startUpBroken}
 use Rattle.model.specs.Stores.{Store, Write, stores, applyAll, after, Cut}
-use Rattle.model.specs.Set.{Plan, refuse, make, setPlan}
+use Rattle.model.specs.Set.{Plan, refuse, make}
 use Rattle.model.specs.StartUp.{startUpPlan, startUpStores}
 use Rattle.model.specs.Answers.{ruleNumber, storesOf, decided}
 use Rattle.model.specs.Book.{Call, set, get, next, startUp, planOf, Sized, entered, bookAfter}
@@ -31,9 +29,10 @@ use Rattle.plan.specs.Planned.{upTo}
 use Rattle.plan.specs.Told.{storesOfNumbers, expandNumbers, noOperations, refusalOf, Told}
 use Rattle.recovery.specs.Host.{PlannedFor, carriedOut, decidingDone, Hosting, none-yet, carried-out, power-failed, HostBegun, by-start-up, by-move, HostKeepsTheBook}
 use Rattle.recovery.proofs.Invariant.{Holding}
+use Rattle.recovery.proofs.EveryCall.{callBroken, plan-refused}
 use Rattle.recovery.proofs.Interface.{move-begins}
 use Rattle.recovery.proofs.StartingUp.{Ready, ready-holds}
-use Rattle.recovery.proofs.Theorem.{set-kept, set-refused, book-cond, call-cut, startUp-plan, startUp-refused, startUp-leaves, startUp-holds, holding-accepted, begins-ready}
+use Rattle.recovery.proofs.Theorem.{call-kept, book-cond, call-cut, startUp-plan, startUp-refused, startUp-leaves, startUp-holds, holding-accepted, begins-ready}
 
 -- ---- the stores that were told
 
@@ -103,11 +102,7 @@ told-accepted plan content p t z r e =
 -- a call of a run whose plan has no deciding store leaves the book
 none-decides : (K : List Value) (part : List ℕ) (c : Call) → Sized c → Holding K part → (to on : List Write) → planOf c part ≡ make to on → isEmpty to ≡ true
     → entered c K ≡ K
-unfolding planOf entered
-none-decides K part (get s key buffer) sized holds to on e h = refl
-none-decides K part (next s key buffer) sized holds to on e h = refl
-none-decides K part (startUp setup) sized holds to on e h = refl
-none-decides K part (set s q) sized holds to on e h = go (setBroken s q part) refl
+none-decides K part c sized holds to on e h = go (callBroken c part) refl
   where
     same-to : (to to′ on on′ : List Write) → make to on ≡ make to′ on′ → to ≡ to′
     same-to to to′ on on′ e = cc
@@ -115,11 +110,11 @@ none-decides K part (set s q) sized holds to on e h = go (setBroken s q part) re
     not-both : (r : Rule) → refuse r ≡ make to on → ⊥
     not-both r e = let z : _≡_ {A = ℕ} 0 1 = cc in omega arith
 
-    go : (o : Option Rule) → setBroken s q part ≡ o → entered (set s q) K ≡ K
+    go : (o : Option Rule) → callBroken c part ≡ o → entered c K ≡ K
     go none f =
-        let kept = set-kept s q part K f (sized .2) holds in
+        let kept = call-kept c part K sized f holds in
         kept .decides (ap isEmpty (same-to (kept .to) to (kept .on) on (sym (kept .plan) ∙ e)) ∙ h)
-    go (some r) f = absurd (not-both r (sym (set-refused s q part r f) ∙ e))
+    go (some r) f = absurd (not-both r (sym (plan-refused c part r f) ∙ e))
 
 -- in the plan's own numbers, or by the definitions: the book is the same
 module _ (w : ℕ) (K : List Value) (part : List ℕ) (c : Call) (sized : Sized c) (holds : Holding K part) (content : List ℕ) (p : HostPlan) (t : Told (planOf c part) content p) where

@@ -8,22 +8,20 @@ use lib.Seq.{take-nil}
 use Rattle.model.specs.declared.Layout.{Layout}
 use Rattle.model.specs.declared.Answer.{Answer}
 use Rattle.model.specs.declared.Answer.the-variants.{Done}
-use Rattle.model.specs.declared.Session.{Session}
 use Rattle.model.specs.declared.Context.{Context}
 use Rattle.model.specs.declared.Rule.{Rule}
 use mathlib.Core.Option.{Option, none, some}
 use Rattle.model.specs.Layout.{authenticated}
 use Rattle.model.specs.Lists.{onSome}
-use Rattle.model.specs.Name.{Key}
 use Rattle.model.specs.Entry.{Value}
 use Rattle.model.specs.Region.{valuesOf}
-use Rattle.model.specs.Rules.{getBroken, nextBroken}
 use Rattle.model.specs.Stores.{stores, after, applyAll}
-use Rattle.model.specs.Set.{refuse, make}
-use Rattle.model.specs.Answers.{Outcome, done, refused, ruleNumber, answerOf, outcome, imageAfter, madeOf, pageOf, storesOf, decided, getPlan, nextPlan}
+use Rattle.model.specs.Set.{Plan, refuse, make}
+use Rattle.model.specs.Answers.{Outcome, done, refused, ruleNumber, answerOf, outcome, imageAfter, madeOf, pageOf, storesOf, decided}
 use Rattle.model.specs.Move.{moveBroken, moveAnswer}
 use Rattle.model.specs.Book.{Call, set, get, next, startUp, planOf, counts, bookAfter, Run, begin, ran, cut, Begins, started, moved-in}
 use Rattle.recovery.specs.Interface.{Returned, MoveReturned, Begun, by-start-up, by-move, Calls, none-yet, returned, power-failed, InterfaceKeepsTheBook}
+use Rattle.recovery.proofs.EveryCall.{callBroken, acceptedPlan, plan-of}
 use Rattle.recovery.proofs.Theorem.{demand3}
 
 -- get and next-name make no stores
@@ -32,13 +30,9 @@ unfolding imageAfter storesOf stores after applyAll
 none-made x (some rule) img = rw take-nil
 none-made x none img = rw take-nil
 
-get-image : (x : Context) (s : Session) (k : Key) (buffer img : List ℕ) → imageAfter x (getPlan s k buffer img) img ≡ img
-unfolding getPlan
-get-image x s k buffer img = none-made x (getBroken s k buffer img) img
-
-next-image : (x : Context) (s : Session) (k : Key) (buffer img : List ℕ) → imageAfter x (nextPlan s k buffer img) img ≡ img
-unfolding nextPlan
-next-image x s k buffer img = none-made x (nextBroken s k buffer img) img
+reading-image : (x : Context) (c : Call) (img : List ℕ) → acceptedPlan c img ≡ make [] [] → imageAfter x (planOf c img) img ≡ img
+reading-image x c img e =
+    ap (λ (p : Plan). imageAfter x p img) (plan-of c img ∙ ap (λ (p : Plan). onSome (callBroken c img) refuse p) e) ∙ none-made x (callBroken c img) img
 
 -- a call that returned did what its plan says
 record Step (c : Call) (x : Context) (img img′ : List ℕ) (a : Answer) : Type 0 where
@@ -48,8 +42,8 @@ record Step (c : Call) (x : Context) (img img′ : List ℕ) (a : Answer) : Type
 step-of : (c : Call) (x : Context) (img img′ : List ℕ) (a : Answer) → Returned c x img img′ a → Step c x img img′ a
 unfolding planOf
 step-of (set s r) x img img′ a m = record { told = m .0; left = m .1 }
-step-of (get s k buffer) x img img′ a m = record { told = m .0; left = m .1 ∙ sym (get-image x s k buffer img) }
-step-of (next s k buffer) x img img′ a m = record { told = m .0; left = m .1 ∙ sym (next-image x s k buffer img) }
+step-of (get s k buffer) x img img′ a m = record { told = m .0; left = m .1 ∙ sym (reading-image x (get s k buffer) img refl) }
+step-of (next s k buffer) x img img′ a m = record { told = m .0; left = m .1 ∙ sym (reading-image x (next s k buffer) img refl) }
 step-of (startUp setup) x img img′ a m = record { told = m .0; left = m .1 }
 
 -- so the calls are a run

@@ -13,6 +13,8 @@ pub mod Marks
 pub mod TailWrite
 -- A set that breaks no rule, however cut
 pub mod Sets
+-- Every call alike: refused, or what is its own
+pub mod EveryCall
 -- Runs: the invariant with the book, and Demand 3
 pub mod Theorem
 -- The claims beside Demand 3

@@ -1,5 +1,5 @@
--- Demand 3. Every call of a run keeps the invariant with the book: a set by what it keeps up to and from its deciding store, a start-up because it keeps the values, a get and a
--- next-name because they store nothing. A done start-up leaves the image ready, and then its values are the book.
+-- Demand 3. Every call of a run keeps the invariant with the book: refused it stores nothing, and otherwise by what it keeps up to and from its deciding store (`CallKept`), where a
+-- start-up keeps the values and a get and a next-name store nothing. A done start-up leaves the image ready, and then its values are the book.
 -- Assumes nothing.
 use Prim.Native.Nat.{ℕ, _+_, _*_, _-_, _≤_, _<_, min}
 use native.Mathlib.Omega.{arith}
@@ -23,25 +23,26 @@ use Rattle.model.specs.Image.{block, blocks, rightLength, regionSize, region, w
 use Rattle.model.specs.Entry.{Value, keyOf}
 use Rattle.model.specs.Walk.{Entry, stateOf, entryValue}
 use Rattle.model.specs.Region.{entries, tailAt, tail, values, valuesOf, sound, clean, find, added, standing}
-use Rattle.model.specs.Work.{wellFormed, endsInFC, idle, pending, readyForStartUp, readyIn}
+use Rattle.model.specs.Work.{wellFormed, endsInFC, idle, pending, readyForCall, readyForStartUp, readyIn}
 use Rattle.model.specs.Request.{Request}
 use Rattle.model.specs.Change.{Change, nothing, remove, put, changeIn, step, without, spaceOf}
-use Rattle.model.specs.Rules.{setBroken, getBroken, nextBroken, startUpBroken}
+use Rattle.model.specs.Rules.{setBroken, startUpBroken}
 use Rattle.model.specs.Stores.{Store, Write, write, clear, stores, run, mark, applyAll, after, reach, Cut}
 use Rattle.model.specs.Compact.{encode, allUsed, nextRecord, compactTo, compactOn, fillSpare}
-use Rattle.model.specs.Set.{Plan, refuse, make, markState, leftover, entryStores, deleteTo, tailTo, tailOn, fitsTail, putPlan, changePlan, setPlan}
+use Rattle.model.specs.Set.{Plan, refuse, make, markState, leftover, entryStores, deleteTo, tailTo, tailOn, fitsTail, putPlan, changePlan}
 use Rattle.model.specs.StartUp.{startUpStores, startUpPlan}
-use Rattle.model.specs.Answers.{ruleNumber, done, stopped, refused, outcome, ended, deadOf, pageOf, madeOf, imageAfter, storesOf, decided, getPlan, nextPlan}
+use Rattle.model.specs.Answers.{ruleNumber, done, stopped, refused, outcome, ended, deadOf, pageOf, madeOf, imageAfter, storesOf, decided}
 use Rattle.model.specs.Book.{Call, set, get, next, startUp, planOf, Sized, entered, counts, bookAfter, Run, begin, ran, cut, StartedUp, MovedInto, Begins, started, moved-in, Agrees, AgreesAll, Demand3}
 use Rattle.model.proofs.Tests.{or-left, or-right, true-and}
 use Rattle.model.proofs.Stores.{after-all, stores-append}
 use Rattle.model.proofs.Chunks.{Chunked, region-chunked}
 use Rattle.model.proofs.Values.{find-standing}
-use Rattle.recovery.proofs.Cuts.{Safe, cut-at}
+use Rattle.recovery.proofs.Cuts.{Safe, cut-at, Goes, goes-nowhere}
+use Rattle.recovery.proofs.EveryCall.{callBroken, plan-accepted, plan-refused}
 use Rattle.model.proofs.Parts.{Parts, parts-region, parts-work, parts-spare, parts-size, parts-right}
 use Rattle.model.specs.Beside.{Valid}
 use Rattle.model.proofs.Encode.{sound-valid, sound-distinct, put-valid, put-distinct}
-use Rattle.model.proofs.Requests.{set-length, set-ready, put-is-valid, put-fits, remove-present, startUp-length, startUp-ready, startUp-accepted}
+use Rattle.model.proofs.Requests.{set-length, set-ready, put-is-valid, put-fits, remove-present, get-ready, next-ready, startUp-length, startUp-ready, startUp-accepted}
 use Rattle.recovery.proofs.Invariant.{Holding, in-spare, in-region}
 use Rattle.recovery.proofs.Compaction.{clean-sound}
 use Rattle.model.specs.Move.{moved, imageMoved}
@@ -50,14 +51,14 @@ use Rattle.recovery.proofs.StartingUp.{Ready, ready-of, ready-holds, st
 use Rattle.recovery.proofs.Marks.{State}
 use Rattle.recovery.proofs.Sets.{Kept, its-state, nothing-kept, delete-kept, tail-kept, compact-kept}
 
--- ---- a set that breaks no rule
+-- ---- a call that breaks no rule: it keeps K up to its deciding store, and the book with the call entered from there on
 
-pub record SetKept (s : Session) (r : Request) (img : List ℕ) (K : List Value) : Type 0 where
+pub record CallKept (c : Call) (img : List ℕ) (K : List Value) : Type 0 where
   pub to : List Write
   pub on : List Write
-  pub plan : setPlan s r img ≡ make to on
-  pub kept : Kept K (step (changeIn r K) K) to on img
-  pub decides : isEmpty to ≡ true → step (changeIn r K) K ≡ K
+  pub plan : planOf c img ≡ make to on
+  pub kept : Kept K (entered c K) to on img
+  pub decides : isEmpty to ≡ true → entered c K ≡ K
 
 last-there : {A : Type 0} (l : List A) (a : A) → isEmpty (l ++ (a ∷ [])) ≡ false
 last-there [] a = refl
@@ -188,8 +189,8 @@ module _ (s : Session) (q : Request) (img : List ℕ) (K : List Value) (accepted
   set-values : valuesOf img ≡ K
   set-values = ready-values img K set-ready-image holds
 
-  pub set-kept : SetKept s q img K
-  unfolding setPlan
+  pub set-kept : CallKept (set s q) img K
+  unfolding entered
   set-kept = go (changeIn q (valuesOf img)) refl
     where
       i : Ready img
@@ -205,14 +206,14 @@ module _ (s : Session) (q : Request) (img : List ℕ) (K : List Value) (accepted
       held : values (entries (i .r)) ≡ K
       held = sym same ∙ set-values
 
-      from : (c : Change) → changeIn q (valuesOf img) ≡ c → PlanKept p (i .rested) (i .free) (i .cleaned) c → SetKept s q img K
+      from : (c : Change) → changeIn q (valuesOf img) ≡ c → PlanKept p (i .rested) (i .free) (i .cleaned) c → CallKept (set s q) img K
       from c e k =
           let asked : c ≡ changeIn q K = sym e ∙ ap (changeIn q) set-values in
           record {
             to = k .to;
             on = k .on;
             plan =
-                ap (λ (o : Option Rule). onSome o refuse (changePlan img (changeIn q (valuesOf img)))) accepted
+                plan-accepted (set s q) img accepted
                 ∙ ap (changePlan img) e
                 ∙ ap (λ (x : List ℕ). changePlan x c) (i .whole)
                 ∙ k .plan;
@@ -220,7 +221,7 @@ module _ (s : Session) (q : Request) (img : List ℕ) (K : List Value) (accepted
             decides = λ h. ap (λ (x : Change). step x K) (sym asked) ∙ ap (step c) (sym held) ∙ k .decides h ∙ held;
           }
 
-      go : (c : Change) → changeIn q (valuesOf img) ≡ c → SetKept s q img K
+      go : (c : Change) → changeIn q (valuesOf img) ≡ c → CallKept (set s q) img K
       go nothing e = from nothing e (nothing-plan p (i .rested) (i .free) (i .cleaned))
       go (remove k) e =
           from (remove k) e (remove-plan p (i .rested) (i .free) (i .cleaned) k (ap (λ (vs : List Value). isSome (find k vs)) (sym same) ∙ remove-present s q img accepted k e))
@@ -231,23 +232,37 @@ module _ (s : Session) (q : Request) (img : List ℕ) (K : List Value) (accepted
           (subst (λ (vs : List Value). spaceOf (step (put v) vs) ≤ regionSize img) same fits) in
           from (put v) e (put-plan p (i .rested) (i .free) (i .cleaned) v (put-is-valid s q img accepted v e long) room)
 
--- ---- what does not depend on w
+-- ---- every call that breaks no rule
 
--- a call with no stores leaves the image
-cut-none : (k : ℕ) (img img′ : List ℕ) → Cut [] k img img′ → img′ ≡ img
-unfolding after applyAll
-cut-none k img img′ (inl e) = e ∙ rw take-nil
-cut-none k img img′ (inr u) = absurd u
+-- one that decides nothing and enters nothing, as start-up, get and next-name: what it stores keeps K
+leaving-kept : (c : Call) (img : List ℕ) (K : List Value) (on : List Write) (end : List ℕ) → planOf c img ≡ make [] on → entered c K ≡ K
+    → Goes (Holding K) on img end → Ready end → valuesOf end ≡ K → CallKept c img K
+leaving-kept c img K on end plan same goes ready held = record {
+  to = [];
+  on = on;
+  plan = plan;
+  kept = subst (λ (vs : List Value). Kept K vs [] on img) (sym same)
+      (record { middle = img; end = end; to-goes = goes-nowhere (Holding K) img; on-goes = goes; ready = ready; held = held });
+  decides = λ e. same;
+}
 
-pub book-cond : (c : Call) (t : Bool) (K : List Value) → bookAfter c t K ≡ cond t (entered c K) K
-unfolding bookAfter
-book-cond c true K = refl
-book-cond c false K = refl
+-- one without stores, which needs a ready image
+reading-kept : (c : Call) (img : List ℕ) (K : List Value) → planOf c img ≡ make [] [] → entered c K ≡ K → (rightLength img ≡ true) × (readyForCall img ≡ true)
+    → Holding K img → CallKept c img K
+reading-kept c img K plan same right holds =
+    let ready = ready-of img (right .0) (right .1) in
+    leaving-kept c img K [] img plan same (goes-nowhere (Holding K) img) ready (ready-values img K ready holds)
 
--- only a set changes the book
-book-same : (c : Call) (t : Bool) (K : List Value) → entered c K ≡ K → bookAfter c t K ≡ K
-book-same c true K e = book-cond c true K ∙ e
-book-same c false K e = book-cond c false K
+pub call-kept : (c : Call) (img : List ℕ) (K : List Value) → Sized c → callBroken c img ≡ none → Holding K img → CallKept c img K
+unfolding entered
+call-kept (set s q) img K sized e holds = set-kept s q img K e (sized .2) holds
+call-kept (get s key buffer) img K sized e holds =
+    reading-kept (get s key buffer) img K (plan-accepted (get s key buffer) img e) refl (get-ready s key buffer img e) holds
+call-kept (next s key buffer) img K sized e holds =
+    reading-kept (next s key buffer) img K (plan-accepted (next s key buffer) img e) refl (next-ready s key buffer img e) holds
+call-kept (startUp setup) img K sized e holds =
+    let up = startUp-holding K img holds in
+    leaving-kept (startUp setup) img K (startUpStores img) (up .end) (plan-accepted (startUp setup) img e) refl (up .goes) (up .ready) (up .held)
 
 -- in a run a start-up is never refused
 pub holding-accepted : (K : List Value) (img : List ℕ) → Holding K img → startUpBroken img ≡ none
@@ -269,20 +284,18 @@ pub startUp-refused : (img : List ℕ) (rule : Rule) → startUpBroken img ≡ s
 unfolding startUpPlan
 startUp-refused img rule h = rw h
 
--- a refused set, and a call that stores nothing
-pub set-refused : (s : Session) (q : Request) (img : List ℕ) (rule : Rule) → setBroken s q img ≡ some rule → setPlan s q img ≡ refuse rule
-unfolding setPlan
-set-refused s q img rule e = rw e
-
-unchanged : (K : List Value) (img img′ : List ℕ) (ss : List Store) (k : ℕ) → ss ≡ [] → Holding K img → Cut ss k img img′ → Holding K img′
-unchanged K img img′ ss k e holds left = subst (Holding K) (sym (cut-none k img img′ (subst (λ (x : List Store). Cut x k img img′) e left))) holds
-
--- a list of stores with no deciding one
-cut-on : (K : List Value) (img img′ : List ℕ) (ss : List Store) (k : ℕ) → Safe (Holding K) ss img → Holding K (applyAll ss img) → Cut ss k img img′ → Holding K img′
-unfolding applyAll
-cut-on K img img′ ss k safe end left = cut-at (Holding K) (Holding K) [] ss k img img′ tt safe end left .1 (omega arith)
-
 -- ---- any call, cut after k stores
+
+-- a list of no stores leaves the image
+cut-none : (k : ℕ) (img img′ : List ℕ) → Cut [] k img img′ → img′ ≡ img
+unfolding after applyAll
+cut-none k img img′ (inl e) = e ∙ rw take-nil
+cut-none k img img′ (inr u) = absurd u
+
+pub book-cond : (c : Call) (t : Bool) (K : List Value) → bookAfter c t K ≡ cond t (entered c K) K
+unfolding bookAfter
+book-cond c true K = refl
+book-cond c false K = refl
 
 module _ (w : ℕ) where
   module _ (img img′ : List ℕ) (K K′ : List Value) (to on : List Write) (kept : Kept K K′ to on img) (k : ℕ) (left : Cut (stores w (to ++ on)) k img img′) where
@@ -308,60 +321,26 @@ module _ (w : ℕ) where
         go false e true f = rw (e, f) (kept-cut .1 (leb-true (length (stores w to)) k f))
         go false e false f = rw (e, f) (kept-cut .0 (leb-false (length (stores w to)) k f))
 
-  no-stores : (o : Option Rule) → storesOf w (onSome o refuse (make [] [])) ≡ []
-  unfolding storesOf stores
-  no-stores none = refl
-  no-stores (some rule) = refl
-
-  get-stores : (s : Session) (key : Key) (buffer img : List ℕ) → storesOf w (getPlan s key buffer img) ≡ []
-  unfolding getPlan
-  get-stores s key buffer img = no-stores (getBroken s key buffer img)
-
-  next-stores : (s : Session) (key : Key) (buffer img : List ℕ) → storesOf w (nextPlan s key buffer img) ≡ []
-  unfolding nextPlan
-  next-stores s key buffer img = no-stores (nextBroken s key buffer img)
-
-  -- a start-up, however cut
-  startUp-cut : (K : List Value) (img img′ : List ℕ) → Holding K img → (k : ℕ) → Cut (storesOf w (startUpPlan img)) k img img′ → Holding K img′
-  unfolding storesOf
-  startUp-cut K img img′ holds k left =
-      let up = startUp-holding K img holds in
-      let cut : Cut (stores w (startUpStores img)) k img img′ = subst (λ (p : Plan). Cut (storesOf w p) k img img′) (startUp-plan img (holding-accepted K img holds)) left in
-      let end : Holding K (applyAll (stores w (startUpStores img)) img) =
-      subst (Holding K) (sym (up .goes .left w)) (subst (λ (vs : List Value). Holding vs (up .end)) (up .held) (ready-holds (up .end) (up .ready))) in
-      cut-on K img img′ (stores w (startUpStores img)) k (up .goes .safe w) end cut
-
-  refused-decides : (k : ℕ) (rule : Rule) → decided w k (refuse rule) ≡ false
-  unfolding decided
-  refused-decides k rule = refl
-
-  -- a cut call
+  -- by its plan: a refusal, or what keeps K
   pub call-cut : (K : List Value) (img img′ : List ℕ) (c : Call) → Sized c → Holding K img → (k : ℕ) → Cut (storesOf w (planOf c img)) k img img′
       → Holding (bookAfter c (decided w k (planOf c img)) K) img′
-  unfolding planOf entered storesOf
-  call-cut K img img′ (set s q) sized holds k left = go (setBroken s q img) refl
+  unfolding storesOf decided
+  call-cut K img img′ c sized holds k left = go (callBroken c img) refl
     where
-      go : (o : Option Rule) → setBroken s q img ≡ o → Holding (bookAfter (set s q) (decided w k (setPlan s q img)) K) img′
-      go none e =
-          let kept = set-kept s q img K e (sized .2) holds in
-          let plan = kept .plan in
-          let cut : Cut (stores w (kept .to ++ kept .on)) k img img′ = subst (λ (p : Plan). Cut (storesOf w p) k img img′) plan left in
-          subst (λ (p : Plan). Holding (bookAfter (set s q) (decided w k p) K) img′) (sym plan)
-          (subst (λ (vs : List Value). Holding vs img′) (sym (book-cond (set s q) (decided w k (make (kept .to) (kept .on))) K))
-          (kept-decided img img′ K (step (changeIn q K) K) (kept .to) (kept .on) (kept .kept) k cut (kept .decides)))
-      go (some rule) e =
-          let plan = set-refused s q img rule e in
-          subst (λ (p : Plan). Holding (bookAfter (set s q) (decided w k p) K) img′) (sym plan)
-          (subst (λ (vs : List Value). Holding vs img′) (sym (ap (λ (t : Bool). bookAfter (set s q) t K) (refused-decides k rule) ∙ book-cond (set s q) false K)) (unchanged K img img′ (storesOf w (setPlan s q img)) k (ap (storesOf w) plan) holds left))
-  call-cut K img img′ (get s key buffer) sized holds k left =
-      subst (λ (vs : List Value). Holding vs img′) (sym (book-same (get s key buffer) (decided w k (getPlan s key buffer img)) K refl))
-      (unchanged K img img′ (storesOf w (getPlan s key buffer img)) k (get-stores s key buffer img) holds left)
-  call-cut K img img′ (next s key buffer) sized holds k left =
-      subst (λ (vs : List Value). Holding vs img′) (sym (book-same (next s key buffer) (decided w k (nextPlan s key buffer img)) K refl))
-      (unchanged K img img′ (storesOf w (nextPlan s key buffer img)) k (next-stores s key buffer img) holds left)
-  call-cut K img img′ (startUp setup) sized holds k left =
-      subst (λ (vs : List Value). Holding vs img′) (sym (book-same (startUp setup) (decided w k (startUpPlan img)) K refl))
-      (startUp-cut K img img′ holds k left)
+      Left : Plan → Type 0
+      Left p = Cut (storesOf w p) k img img′ → Holding (bookAfter c (decided w k p) K) img′
+
+      refused-left : (rule : Rule) → Left (refuse rule)
+      refused-left rule made = subst (λ (vs : List Value). Holding vs img′) (sym (book-cond c false K)) (subst (Holding K) (sym (cut-none k img img′ made)) holds)
+
+      made-left : (kept : CallKept c img K) → Left (make (kept .to) (kept .on))
+      made-left kept made =
+          subst (λ (vs : List Value). Holding vs img′) (sym (book-cond c (decided w k (make (kept .to) (kept .on))) K))
+          (kept-decided img img′ K (entered c K) (kept .to) (kept .on) (kept .kept) k made (kept .decides))
+
+      go : (o : Option Rule) → callBroken c img ≡ o → Holding (bookAfter c (decided w k (planOf c img)) K) img′
+      go (some rule) e = subst Left (sym (plan-refused c img rule e)) (refused-left rule) left
+      go none e = let kept = call-kept c img K sized e holds in subst Left (sym (kept .plan)) (made-left kept) left
 
 -- ---- a start-up that is done
 
@@ -431,25 +410,20 @@ made-accepted : (x : Context) (c : Call) (img : List ℕ) (K : List Value) (to o
 unfolding outcome madeOf storesOf
 made-accepted x c img K to on decides = made-counted (pageOf x) (x .limit) (reach (deadOf x) (stores (pageOf x) (to ++ on)) img) c K to on decides
 
--- a done set with no deciding store changes nothing
+-- a done call with no deciding store changes nothing
 counted : (K : List Value) (img : List ℕ) (c : Call) → Sized c → Holding K img → (x : Context)
     → bookAfter c (decided (pageOf x) (madeOf x (planOf c img) img) (planOf c img)) K
     ≡ bookAfter c (counts (outcome x (planOf c img) img) (decided (pageOf x) (madeOf x (planOf c img) img) (planOf c img))) K
-unfolding planOf entered
-counted K img (get s key buffer) sized holds x = book-same (get s key buffer) _ K refl ∙ sym (book-same (get s key buffer) _ K refl)
-counted K img (next s key buffer) sized holds x = book-same (next s key buffer) _ K refl ∙ sym (book-same (next s key buffer) _ K refl)
-counted K img (startUp setup) sized holds x = book-same (startUp setup) _ K refl ∙ sym (book-same (startUp setup) _ K refl)
-counted K img (set s q) sized holds x = go (setBroken s q img) refl
+counted K img c sized holds x = go (callBroken c img) refl
   where
     Counted : Plan → Type 0
-    Counted p =
-        bookAfter (set s q) (decided (pageOf x) (madeOf x p img) p) K ≡ bookAfter (set s q) (counts (outcome x p img) (decided (pageOf x) (madeOf x p img) p)) K
+    Counted p = bookAfter c (decided (pageOf x) (madeOf x p img) p) K ≡ bookAfter c (counts (outcome x p img) (decided (pageOf x) (madeOf x p img) p)) K
 
-    go : (o : Option Rule) → setBroken s q img ≡ o → Counted (setPlan s q img)
+    go : (o : Option Rule) → callBroken c img ≡ o → Counted (planOf c img)
+    go (some rule) e = subst Counted (sym (plan-refused c img rule e)) (refused-same c x rule img K)
     go none e =
-        let kept = set-kept s q img K e (sized .2) holds in
-        subst Counted (sym (kept .plan)) (made-accepted x (set s q) img K (kept .to) (kept .on) (kept .decides))
-    go (some rule) e = subst Counted (sym (set-refused s q img rule e)) (refused-same (set s q) x rule img K)
+        let kept = call-kept c img K sized e holds in
+        subst Counted (sym (kept .plan)) (made-accepted x c img K (kept .to) (kept .on) (kept .decides))
 
 -- ---- the run
 
