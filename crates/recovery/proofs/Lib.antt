@@ -17,6 +17,8 @@ pub mod Sets
 pub mod EveryCall
 -- Runs: the invariant with the book, and Demand 3
 pub mod Theorem
+-- A call that is done, and what a set leaves
+pub mod Done
 -- The claims beside Demand 3
 pub mod Claims
 -- Lists of bytes: what is written for a value, and what an image of bytes holds

@@ -342,7 +342,7 @@ module _ (w : ℕ) where
       go (some rule) e = subst Left (sym (plan-refused c img rule e)) (refused-left rule) left
       go none e = let kept = call-kept c img K sized e holds in subst Left (sym (kept .plan)) (made-left kept) left
 
--- ---- a start-up that is done
+-- ---- a call that is done
 
 refused-not : (rule count : ℕ) → refused rule ≡ done count → ⊥
 refused-not rule count e = let z : _≡_ {A = ℕ} 0 1 = cc in omega arith
@@ -350,7 +350,6 @@ refused-not rule count e = let z : _≡_ {A = ℕ} 0 1 = cc in omega arith
 stopped-not : (count : ℕ) → stopped ≡ done count → ⊥
 stopped-not count e = let z : _≡_ {A = ℕ} 0 1 = cc in omega arith
 
--- done: all stores were made
 ended-done : (n reached len count : ℕ) → ended n reached len ≡ done count → len ≤ min n reached
 ended-done n reached len count h = go (leb len (min n reached)) refl (ltb reached n) h
   where
@@ -359,21 +358,30 @@ ended-done n reached len count h = go (leb len (min n reached)) refl (ltb reache
     go false e true f = absurd (refused-not 23 count f)
     go false e false f = absurd (stopped-not count f)
 
--- it was accepted, and made all its stores
+-- no rule was broken, and all stores were made
+pub done-accepted : (x : Context) (count : ℕ) (o : Option Rule) (p : Plan) (img : List ℕ) → outcome x (onSome o refuse p) img ≡ done count → o ≡ none
+unfolding outcome
+done-accepted x count none p img h = refl
+done-accepted x count (some rule) p img h = absurd (refused-not (ruleNumber rule) count h)
+
+pub all-made : (x : Context) (count : ℕ) (p : Plan) (img : List ℕ) → outcome x p img ≡ done count → imageAfter x p img ≡ applyAll (storesOf (pageOf x) p) img
+unfolding outcome imageAfter madeOf storesOf
+all-made x count (refuse rule) img h = absurd (refused-not (ruleNumber rule) count h)
+all-made x count (make to on) img h =
+    let ss : List Store = stores (pageOf x) (to ++ on) in
+    let reached = reach (deadOf x) ss img in
+    after-all (min (x .limit) reached) ss img (ended-done (x .limit) reached (length ss) count h)
+
+-- a start-up
 pub record Finished (x : Context) (img : List ℕ) : Type 0 where
   pub accepted : startUpBroken img ≡ none
   pub left : imageAfter x (startUpPlan img) img ≡ applyAll (stores (pageOf x) (startUpStores img)) img
 
 pub finished : (x : Context) (count : ℕ) (img : List ℕ) → outcome x (startUpPlan img) img ≡ done count → Finished x img
-unfolding startUpPlan outcome imageAfter madeOf storesOf
-finished x count img h = go (startUpBroken img) refl h
-  where
-    go : (o : Option Rule) → startUpBroken img ≡ o → outcome x (onSome o refuse (make [] (startUpStores img))) img ≡ done count → Finished x img
-    go (some rule) e f = absurd (refused-not (ruleNumber rule) count f)
-    go none e f =
-        let ss : List Store = stores (pageOf x) (startUpStores img) in
-        let few = ended-done (x .limit) (reach (deadOf x) ss img) (length ss) count f in
-        record { accepted = e; left = rw e (after-all (min (x .limit) (reach (deadOf x) ss img)) ss img few) }
+unfolding startUpPlan storesOf
+finished x count img h =
+    let accepted = done-accepted x count (startUpBroken img) (make [] (startUpStores img)) img h in
+    record { accepted = accepted; left = all-made x count (startUpPlan img) img h ∙ ap (λ (p : Plan). applyAll (storesOf (pageOf x) p) img) (startUp-plan img accepted) }
 
 -- ---- a call that ran is one cut after the stores that it made
 
