@@ -1,7 +1,7 @@
 -- Marks of entries' states, in an image whose region stands at the front. Each clears one bit, so that a cut leaves the region with the old state; and each keeps the
 -- region sound, by what stands for its name.
 -- Assumes nothing.
-use Prim.Native.Nat.{ℕ, _+_, _-_}
+use Prim.Native.Nat.{ℕ, _+_, _-_, _≤_}
 use native.Mathlib.Nat.{zero-add}
 use native.Mathlib.Omega.{arith}
 use mathlib.Core.Path.{_≡_, refl, sym, ap, _∙_, subst}
@@ -27,19 +27,20 @@ use Rattle.model.proofs.Chunks.{entriesOf, Made, made-entries, made-sound, soun
 use Rattle.model.proofs.Values.{Found, found, leftover-marked, replacing-marked, added-deleted, replacing-deleted, leftover-gone, added-gone, find-standing}
 use Rattle.recovery.proofs.Cuts.{Goes, goes-nowhere, goes-append, goes-mark, OneBit, bit-3E, bit-3D, bit-3C}
 
--- ---- a sound region, given by its entries and its tail
+-- ---- a sound region, given by its entries and its tail, which has at least so many bytes
 
-pub record State (size : ℕ) (r t : List ℕ) (es : List Entry) : Type 0 where
+pub record State (size floor : ℕ) (r t : List ℕ) (es : List Entry) : Type 0 where
   pub chunks : List (List ℕ)
   pub made : Made authenticated r chunks t
   pub listed : entriesOf authenticated regionHeaderSize chunks ≡ es
   pub judged : soundEntries size es ≡ true
   pub long : length r ≡ size
+  pub room : floor ≤ length t
 
-pub state-sound : {size : ℕ} {r t : List ℕ} {es : List Entry} → State size r t es → sound r ≡ true
-state-sound {size} {r} {t} {es} st = made-sound authenticated (st .made) (rw (st .listed, st .long) (st .judged))
+pub state-sound : {size floor : ℕ} {r t : List ℕ} {es : List Entry} → State size floor r t es → sound r ≡ true
+state-sound {size} {floor} {r} {t} {es} st = made-sound authenticated (st .made) (rw (st .listed, st .long) (st .judged))
 
-pub state-entries : {size : ℕ} {r t : List ℕ} {es : List Entry} → State size r t es → entries r ≡ es
+pub state-entries : {size floor : ℕ} {r t : List ℕ} {es : List Entry} → State size floor r t es → entries r ≡ es
 state-entries st = made-entries authenticated (st .made) ∙ st .listed
 
 -- ---- places in a list
@@ -84,13 +85,13 @@ first-some f (b ∷ l) a h = go (f b) h (first-some f l a)
 
 -- ---- one mark, from a state to another, where P holds of every such region with the values K in front of the rest
 
-module _ (P : List ℕ → Type 0) (K : List Value) (size : ℕ) (rest : List ℕ)
-    (holds : (r t : List ℕ) (es : List Entry) → State size r t es → values es ≡ K → P (r ++ rest)) where
-  pub mark-goes : {r t : List ℕ} {es : List Entry} → State size r t es → values es ≡ K → (e : Entry) (q : Place es e) (old new : ℕ) → stateOf e ≡ old
+module _ (P : List ℕ → Type 0) (K : List Value) (size floor : ℕ) (rest : List ℕ)
+    (holds : (r t : List ℕ) (es : List Entry) → State size floor r t es → values es ≡ K → P (r ++ rest)) where
+  pub mark-goes : {r t : List ℕ} {es : List Entry} → State size floor r t es → values es ≡ K → (e : Entry) (q : Place es e) (old new : ℕ) → stateOf e ≡ old
       → old ≢ 0xFF → new ≢ 0xFF → OneBit old new
       → soundEntries size (q .before ++ (restated new e ∷ q .behind)) ≡ true
       → Goes P (markState (e .at) new) (r ++ rest) (set r (e .at + stateAt) new ++ rest)
-      × State size (set r (e .at + stateAt) new) t (q .before ++ (restated new e ∷ q .behind))
+      × State size floor (set r (e .at + stateAt) new) t (q .before ++ (restated new e ∷ q .behind))
   mark-goes {r} {t} {es} st k e q old new h n m one judged =
       let place = st .listed ∙ q .place in
       let byte = state-byte authenticated (st .made) (q .before) (q .behind) e place in
@@ -103,6 +104,7 @@ module _ (P : List ℕ → Type 0) (K : List Value) (size : ℕ) (rest : List �
           listed = marked .entries;
           judged = judged;
           long = length-set r (e .at + stateAt) new ∙ st .long;
+          room = st .room;
         },
       )
 
@@ -157,18 +159,18 @@ stands k es = go (added k es) (replacing k es) refl refl
 -- ---- the leftover's mark
 
 -- a 3E entry of a name beside a 3F entry: after its mark the same values stand, no 3E entry does, and the 3F entry has a place
-module _ (P : List ℕ → Type 0) (K : List Value) (size : ℕ) (rest : List ℕ)
-    (holds : (r t : List ℕ) (es : List Entry) → State size r t es → values es ≡ K → P (r ++ rest)) where
+module _ (P : List ℕ → Type 0) (K : List Value) (size floor : ℕ) (rest : List ℕ)
+    (holds : (r t : List ℕ) (es : List Entry) → State size floor r t es → values es ≡ K → P (r ++ rest)) where
   pub record Cleared (k : Key) (r t : List ℕ) (f : Entry) (ss : List Write) : Type 0 where
     pub r′ : List ℕ
     pub es′ : List Entry
     pub goes : Goes P ss (r ++ rest) (r′ ++ rest)
-    pub state : State size r′ t es′
+    pub state : State size floor r′ t es′
     pub kept : values es′ ≡ K
     pub place : Place es′ f
     pub alone : any (isEntry 0x3E k) es′ ≡ false
 
-  pub clear-leftover : {r t : List ℕ} {es : List Entry} → State size r t es → values es ≡ K → (k : Key) (f : Entry) → added k es ≡ some f
+  pub clear-leftover : {r t : List ℕ} {es : List Entry} → State size floor r t es → values es ≡ K → (k : Key) (f : Entry) → added k es ≡ some f
       → Cleared k r t f (leftover k es)
   unfolding leftover
   clear-leftover {r} {t} {es} st kept k f a = go (replacing k es) refl
@@ -196,7 +198,7 @@ module _ (P : List ℕ → Type 0) (K : List Value) (size : ℕ) (rest : List �
           let judged : soundEntries size (g .before ++ (e ∷ g .behind)) ≡ true = rw (← g .place) (st .judged) in
           let stays : any (isEntry 0x3F (entryKey e)) (g .before ++ (e ∷ g .behind)) ≡ true = rw (isE .1, ← g .place) (some-added k es f a) in
           let both = leftover-marked size (g .before) (g .behind) e judged (isE .0) stays in
-          let m = mark-goes P K size rest holds st kept e spot 0x3E 0x3C (isE .0) (omega arith) (omega arith) bit-3C (both .0) in
+          let m = mark-goes P K size floor rest holds st kept e spot 0x3E 0x3C (isE .0) (omega arith) (omega arith) bit-3C (both .0) in
           let differs : e ≡ f → ⊥ = λ z. let y : _≡_ {A = ℕ} 0x3E 0x3F = sym (isE .0) ∙ ap stateOf z ∙ isF .0 in omega arith in
           record {
             r′ = set r (e .at + stateAt) 0x3C;
@@ -214,10 +216,10 @@ module _ (P : List ℕ → Type 0) (K : List Value) (size : ℕ) (rest : List �
     pub r′ : List ℕ
     pub es′ : List Entry
     pub goes : Goes P ss (r ++ rest) (r′ ++ rest)
-    pub state : State size r′ t es′
+    pub state : State size floor r′ t es′
     pub gone : values es′ ≡ without k K
 
-  pub delete-goes : {r t : List ℕ} {es : List Entry} → State size r t es → values es ≡ K → (k : Key) → isSome (find k K) ≡ true → Deleted k r t (deleteTo k es)
+  pub delete-goes : {r t : List ℕ} {es : List Entry} → State size floor r t es → values es ≡ K → (k : Key) → isSome (find k K) ≡ true → Deleted k r t (deleteTo k es)
   unfolding standing
   delete-goes {r} {t} {es} st kept k present = go (stands k es)
     where
@@ -230,7 +232,7 @@ module _ (P : List ℕ → Type 0) (K : List Value) (size : ℕ) (rest : List �
           let judged : soundEntries size (q .before ++ (f ∷ q .behind)) ≡ true = rw (← q .place) (c .state .judged) in
           let alone : any (isEntry 0x3E (entryKey f)) (q .before ++ (f ∷ q .behind)) ≡ false = rw (isF .1, ← q .place) (c .alone) in
           let both = added-deleted size (q .before) (q .behind) f judged (isF .0) alone in
-          let m = mark-goes P K size rest holds (c .state) (c .kept) f q 0x3F 0x3D (isF .0) (omega arith) (omega arith) bit-3D (both .0) in
+          let m = mark-goes P K size floor rest holds (c .state) (c .kept) f q 0x3F 0x3D (isF .0) (omega arith) (omega arith) bit-3D (both .0) in
           record {
             r′ = set (c .r′) (f .at + stateAt) 0x3D;
             es′ = q .before ++ (restated 0x3D f ∷ q .behind);
@@ -249,7 +251,7 @@ module _ (P : List ℕ → Type 0) (K : List Value) (size : ℕ) (rest : List �
           let judged : soundEntries size (g .before ++ (e ∷ g .behind)) ≡ true = rw (← g .place) (st .judged) in
           let none-added : any (isEntry 0x3F (entryKey e)) (g .before ++ (e ∷ g .behind)) ≡ false = rw (isE .1, ← g .place) (none-added k es n) in
           let both = replacing-deleted size (g .before) (g .behind) e judged (isE .0) none-added in
-          let m = mark-goes P K size rest holds st kept e spot 0x3E 0x3C (isE .0) (omega arith) (omega arith) bit-3C (both .0) in
+          let m = mark-goes P K size floor rest holds st kept e spot 0x3E 0x3C (isE .0) (omega arith) (omega arith) bit-3C (both .0) in
           record {
             r′ = set r (e .at + stateAt) 0x3C;
             es′ = g .before ++ (restated 0x3C e ∷ g .behind);
@@ -271,12 +273,12 @@ module _ (P : List ℕ → Type 0) (K : List Value) (size : ℕ) (rest : List �
     pub r′ : List ℕ
     pub es′ : List Entry
     pub goes : Goes P (leftover k es ++ onSome (added k es) (λ e. markState (e .at) 0x3E) []) (r ++ rest) (r′ ++ rest)
-    pub state : State size r′ t es′
+    pub state : State size floor r′ t es′
     pub kept : values es′ ≡ K
     pub clear : any (isEntry 0x3F k) es′ ≡ false
     pub old : Old k es es′
 
-  pub prepare : {r t : List ℕ} {es : List Entry} → State size r t es → values es ≡ K → (k : Key) → Prepared k r t es
+  pub prepare : {r t : List ℕ} {es : List Entry} → State size floor r t es → values es ≡ K → (k : Key) → Prepared k r t es
   unfolding standing leftover
   prepare {r} {t} {es} st kept k = go (stands k es)
     where
@@ -288,7 +290,7 @@ module _ (P : List ℕ → Type 0) (K : List Value) (size : ℕ) (rest : List �
           let judged : soundEntries size (q .before ++ (f ∷ q .behind)) ≡ true = rw (← q .place) (c .state .judged) in
           let alone : any (isEntry 0x3E (entryKey f)) (q .before ++ (f ∷ q .behind)) ≡ false = rw (isF .1, ← q .place) (c .alone) in
           let both = replacing-marked size (q .before) (q .behind) f judged (isF .0) alone in
-          let m = mark-goes P K size rest holds (c .state) (c .kept) f q 0x3F 0x3E (isF .0) (omega arith) (omega arith) bit-3E (both .0) in
+          let m = mark-goes P K size floor rest holds (c .state) (c .kept) f q 0x3F 0x3E (isF .0) (omega arith) (omega arith) bit-3E (both .0) in
           record {
             r′ = set (c .r′) (f .at + stateAt) 0x3E;
             es′ = q .before ++ (restated 0x3E f ∷ q .behind);

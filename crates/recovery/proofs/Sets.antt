@@ -63,45 +63,45 @@ any-last f (b ∷ l) a h = go (f b) (any-last f l a h)
     go true ih = refl
     go false ih = ih
 
-module _ (P P′ : List ℕ → Type 0) (K : List Value) (size : ℕ) (rest : List ℕ) (v : Value) (valid : Valid v)
-    (holds : (r t : List ℕ) (es : List Entry) → State size r t es → values es ≡ K → P (r ++ rest))
-    (holds′ : (r t : List ℕ) (es : List Entry) → State size r t es → values es ≡ without (keyOf v) K ++ (v ∷ []) → P′ (r ++ rest)) where
+module _ (P P′ : List ℕ → Type 0) (K : List Value) (size floor : ℕ) (rest : List ℕ) (v : Value) (valid : Valid v)
+    (holds : (r t : List ℕ) (es : List Entry) → State size floor r t es → values es ≡ K → P (r ++ rest))
+    (holds′ : (r t : List ℕ) (es : List Entry) → State size floor r t es → values es ≡ without (keyOf v) K ++ (v ∷ []) → P′ (r ++ rest)) where
   pub record Written (r t : List ℕ) (es : List Entry) (j : ℕ) : Type 0 where
     pub r₁ : List ℕ
     pub r₂ : List ℕ
     pub es₂ : List Entry
     pub to-goes : Goes P (tailTo (tailAt r) v es) (r ++ rest) (r₁ ++ rest)
     pub on-goes : Goes P′ (tailOn v es) (r₁ ++ rest) (r₂ ++ rest)
-    pub state : State size r₂ (ff j) es₂
+    pub state : State size floor r₂ (ff j) es₂
     pub stands : values es₂ ≡ without (keyOf v) K ++ (v ∷ [])
 
-  pub tail-written : {r t : List ℕ} {es : List Entry} → State size r t es → values es ≡ K → (j : ℕ) → t ≡ ff (entrySize v + j) → Written r t es j
+  pub tail-written : {r t : List ℕ} {es : List Entry} → State size floor r t es → values es ≡ K → (j : ℕ) → t ≡ ff (entrySize v + j) → floor ≤ j → Written r t es j
   unfolding tailTo tailOn
-  tail-written {r} {t} {es} st kept j blank-tail =
+  tail-written {r} {t} {es} st kept j blank-tail low =
       let k = keyOf v in
-      let p = prepare P K size rest holds st kept k in
+      let p = prepare P K size floor rest holds st kept k in
       let st′ = p .state in
-      let at = tailPlace P K size rest holds st′ in
+      let at = tailPlace P K size floor rest holds st′ in
       let place : tailAt r ≡ at = made-tailAt authenticated (st .made) ∙
-      (let a = size-split P K size rest holds st in let b = size-split P K size rest holds st′ in omega arith) in
+      (let a = size-split P K size floor rest holds st in let b = size-split P K size floor rest holds st′ in omega arith) in
       let e = entryOf authenticated at (entryBytes 0x3F v) in
       let reads = entry-reads authenticated at 0x3F v (omega arith) valid in
       let its-key : entryKey e ≡ k = ap keyOf (reads .value) in
       let tail-long : length t ≡ entrySize v + j = ap length blank-tail ∙ ff-length (entrySize v + j) in
-      let inside : e .ends ≤ size = rw (reads .ends) (let b = size-split P K size rest holds st′ in omega arith) in
+      let inside : e .ends ≤ size = rw (reads .ends) (let b = size-split P K size floor rest holds st′ in omega arith) in
       let clear : any (isEntry 0x3F (entryKey e)) (p .es′) ≡ false = rw its-key (p .clear) in
       let more = add-added size (p .es′) e (st′ .judged) (reads .state) clear (within-of size e inside) (right-value authenticated e v (reads .value)
       (reads .sized) valid) in
       let long : length (entryBytes 0x3F v ++ [] ++ ff j) ≡ length t =
       rw append-nil (length-append (entryBytes 0x3F v) (ff j) ∙ rw (length-entry authenticated 0x3F v valid, ff-length j, tail-long)) in
-      let r₁ = front-of P K size rest holds st′ ++ (entryBytes 0x3F v ++ ff j) in
+      let r₁ = front-of P K size floor rest holds st′ ++ (entryBytes 0x3F v ++ ff j) in
       let es₁ = p .es′ ++ (e ∷ []) in
-      let state₁ : State size r₁ (ff j) es₁ =
-      rw append-nil at (with-tail P K size rest holds st′ (entryBytes 0x3F v ∷ []) (ff j) long (entry-framed authenticated 0x3F v (omega arith) valid, tt)
-      (blank-stops authenticated j) (more .0)) in
+      let state₁ : State size floor r₁ (ff j) es₁ =
+      rw append-nil at (with-tail P K size floor rest holds st′ (entryBytes 0x3F v ∷ []) (ff j) long (entry-framed authenticated 0x3F v (omega arith) valid, tt)
+      (blank-stops authenticated j) (more .0) (rw (ff-length j) low)) in
       let stands₁ : values es₁ ≡ without k K ++ (v ∷ []) =
       more .1 ∙ ap (λ (x : Key). without x (values (p .es′)) ++ (entryValue e ∷ [])) its-key ∙ ap (λ (l : List Value). without k l ++ (entryValue e ∷ [])) (p .kept) ∙ ap (λ (x : Value). without k K ++ (x ∷ [])) (reads .value) in
-      let write = write-goes P K size rest holds st′ (p .kept) v valid j blank-tail in
+      let write = write-goes P K size floor rest holds st′ (p .kept) v valid j blank-tail low in
       let to : Goes P (tailTo (tailAt r) v es) (r ++ rest) (r₁ ++ rest) =
       subst (λ (ss : List Write). Goes P ss (r ++ rest) (r₁ ++ rest)) (regroup (tailAt r))
       (goes-append (p .goes) (subst (λ (n : ℕ). Goes P (entryStores n v ++ markState n 0x3F) (p .r′ ++ rest) (r₁ ++ rest)) (sym place) write)) in
@@ -114,8 +114,8 @@ module _ (P P′ : List ℕ → Type 0) (K : List Value) (size : ℕ) (rest : Li
 
       -- the old entry, if any, becomes 3C
       last : {r₁ : List ℕ} {es′ : List Entry} → Goes P (tailTo (tailAt r) v es) (r ++ rest) (r₁ ++ rest) → (e : Entry) → isEntry 0x3F (keyOf v) e ≡ true
-          → State size r₁ (ff j) (es′ ++ (e ∷ [])) → values (es′ ++ (e ∷ [])) ≡ without (keyOf v) K ++ (v ∷ [])
-          → Old P K size rest holds (keyOf v) es es′ → Written r t es j
+          → State size floor r₁ (ff j) (es′ ++ (e ∷ [])) → values (es′ ++ (e ∷ [])) ≡ without (keyOf v) K ++ (v ∷ [])
+          → Old P K size floor rest holds (keyOf v) es es′ → Written r t es j
       last {r₁} {es′} to e here state₁ stands₁ (noOld n) = record {
         r₁ = r₁;
         r₂ = r₁;
@@ -134,7 +134,7 @@ module _ (P P′ : List ℕ → Type 0) (K : List Value) (size : ℕ) (rest : Li
           let seen : any (isEntry 0x3F (entryKey o)) (b ++ (o ∷ c)) ≡ true =
           ap (λ (k : Key). any (isEntry 0x3F k) (b ++ (o ∷ c))) its-key ∙ ap (any (isEntry 0x3F (keyOf v))) (sym spread) ∙ any-last (isEntry 0x3F (keyOf v)) es′ e here in
           let both = leftover-marked size b c o judged h seen in
-          let m = mark-goes P′ (without (keyOf v) K ++ (v ∷ [])) size rest holds′ state₁ stands₁ o spot 0x3E 0x3C h (omega arith) (omega arith) bit-3C (both .0) in
+          let m = mark-goes P′ (without (keyOf v) K ++ (v ∷ [])) size floor rest holds′ state₁ stands₁ o spot 0x3E 0x3C h (omega arith) (omega arith) bit-3C (both .0) in
           record {
             r₁ = r₁;
             r₂ = set r₁ (o .at + stateAt) 0x3C;
@@ -149,18 +149,18 @@ module _ (P P′ : List ℕ → Type 0) (K : List Value) (size : ℕ) (rest : Li
 
 -- a region with a blank tail, in front of an idle work block and a blank spare
 module _ {b : ℕ} {r w s : List ℕ} (p : Parts b r w s) (rested : idle w ≡ true) (free : allFF s ≡ true) where
-  same-parts : {r′ : List ℕ} → length r′ ≡ block * b → Parts b r′ w s
+  pub same-parts : {r′ : List ℕ} → length r′ ≡ block * b → Parts b r′ w s
   same-parts l = record { low = p .low; high = p .high; region-long = l; work-long = p .work-long; spare-long = p .spare-long }
 
-  state-holds : (K : List Value) (r t : List ℕ) (es : List Entry) → State (block * b) r t es → values es ≡ K → Holding K (r ++ (w ++ s))
-  state-holds K r t es st kept = region-holds b r w s (same-parts (st .long)) (state-sound st) (ap values (state-entries st) ∙ kept) (inl rested)
+  state-holds : (floor : ℕ) (K : List Value) (r t : List ℕ) (es : List Entry) → State (block * b) floor r t es → values es ≡ K → Holding K (r ++ (w ++ s))
+  state-holds floor K r t es st kept = region-holds b r w s (same-parts (st .long)) (state-sound st) (ap values (state-entries st) ∙ kept) (inl rested)
 
-  state-clean : {r : List ℕ} (j : ℕ) {es : List Entry} → State (block * b) r (ff j) es → clean r ≡ true
+  state-clean : {floor : ℕ} {r : List ℕ} (j : ℕ) {es : List Entry} → State (block * b) floor r (ff j) es → clean r ≡ true
   unfolding cleanIn
-  state-clean {r} j st = true-and (state-sound st) (ap allFF (made-tail authenticated (st .made)) ∙ blank-allFF j)
+  state-clean {floor} {r} j st = true-and (state-sound st) (ap allFF (made-tail authenticated (st .made)) ∙ blank-allFF j)
 
-  state-ready : {r : List ℕ} (j : ℕ) {es : List Entry} → State (block * b) r (ff j) es → Ready (r ++ (w ++ s))
-  state-ready {r} j st = record {
+  state-ready : {floor : ℕ} {r : List ℕ} (j : ℕ) {es : List Entry} → State (block * b) floor r (ff j) es → Ready (r ++ (w ++ s))
+  state-ready {floor} {r} j st = record {
     b = b;
     r = r;
     w = w;
@@ -172,21 +172,22 @@ module _ {b : ℕ} {r w s : List ℕ} (p : Parts b r w s) (rested : idle w ≡ t
     rested = rested;
   }
 
-  state-values : {r t : List ℕ} {es : List Entry} → State (block * b) r t es → valuesOf (r ++ (w ++ s)) ≡ values es
+  state-values : {floor : ℕ} {r t : List ℕ} {es : List Entry} → State (block * b) floor r t es → valuesOf (r ++ (w ++ s)) ≡ values es
   unfolding valuesIn
   state-values st = ap (λ (l : List ℕ). values (entries l)) (parts-region (same-parts (st .long))) ∙ ap values (state-entries st)
 
 -- the state of a clean region
-chunked-state : (size : ℕ) (r : List ℕ) → length r ≡ size → Chunked authenticated r → State size r (tail r) (entries r)
-chunked-state size r l c = record {
+chunked-state : (size floor : ℕ) (r : List ℕ) → length r ≡ size → Chunked authenticated r → floor ≤ length (tail r) → State size floor r (tail r) (entries r)
+chunked-state size floor r l c low = record {
   chunks = c .chunks;
   made = subst (λ (x : List ℕ). (Made authenticated) r (c .chunks) x) (sym (made-tail authenticated (c .made))) (c .made);
   listed = sym (made-entries authenticated (c .made));
   judged = subst (λ (n : ℕ). soundEntries n (entries r) ≡ true) l (ap (soundEntries (length r)) (made-entries authenticated (c .made)) ∙ c .judged);
   long = l;
+  room = low;
 }
 
-clean-blank : (r : List ℕ) → clean r ≡ true → tail r ≡ ff (length (tail r))
+pub clean-blank : (r : List ℕ) → clean r ≡ true → tail r ≡ ff (length (tail r))
 unfolding cleanIn
 clean-blank r h = allFF-blank (tail r) (and-split (sound r) (allFF (tail r)) h .1)
 
@@ -194,8 +195,12 @@ module _ {b : ℕ} {r w s : List ℕ} (p : Parts b r w s) (rested : idle w ≡ t
   abbrev pub K₀ : List Value
   K₀ = values (entries r)
 
-  pub its-state : State (block * b) r (tail r) (entries r)
-  its-state = chunked-state (block * b) r (p .region-long) (region-chunked authenticated b (p .region-long) (clean-sound r cleaned))
+  -- with at least so much of the tail; Demand 3 asks for none
+  pub its-state-above : (floor : ℕ) → floor ≤ length (tail r) → State (block * b) floor r (tail r) (entries r)
+  its-state-above floor low = chunked-state (block * b) floor r (p .region-long) (region-chunked authenticated b (p .region-long) (clean-sound r cleaned)) low
+
+  pub its-state : State (block * b) 0 r (tail r) (entries r)
+  its-state = its-state-above 0 (omega arith)
 
   -- no change
   pub nothing-kept : Kept K₀ K₀ [] [] (r ++ (w ++ s))
@@ -213,9 +218,9 @@ module _ {b : ℕ} {r w s : List ℕ} (p : Parts b r w s) (rested : idle w ≡ t
   -- a delete
   pub delete-kept : (k : Key) → isSome (find k K₀) ≡ true → Kept K₀ (without k K₀) (deleteTo k (entries r)) [] (r ++ (w ++ s))
   delete-kept k present =
-      let d = delete-goes (Holding K₀) K₀ (block * b) (w ++ s) (state-holds p rested free K₀) its-state refl k present in
+      let d = delete-goes (Holding K₀) K₀ (block * b) 0 (w ++ s) (state-holds p rested free 0 K₀) its-state refl k present in
       let n = length (tail r) in
-      let st = subst (λ (t : List ℕ). State (block * b) (d .r′) t (d .es′)) (clean-blank r cleaned) (d .state) in
+      let st = subst (λ (t : List ℕ). State (block * b) 0 (d .r′) t (d .es′)) (clean-blank r cleaned) (d .state) in
       record {
         middle = d .r′ ++ (w ++ s);
         end = d .r′ ++ (w ++ s);
@@ -236,8 +241,8 @@ module _ {b : ℕ} {r w s : List ℕ} (p : Parts b r w s) (rested : idle w ≡ t
       (sym (made-tailAt authenticated (its-state .made))) in
       let enough : length (tail r) ≡ entrySize v + j = omega arith in
       let K′ = without (keyOf v) K₀ ++ (v ∷ []) in
-      let t = tail-written (Holding K₀) (Holding K′) K₀ (block * b) (w ++ s) v valid (state-holds p rested free K₀) (state-holds p rested free K′) its-state refl j
-      (clean-blank r cleaned ∙ ap ff enough) in
+      let t = tail-written (Holding K₀) (Holding K′) K₀ (block * b) 0 (w ++ s) v valid (state-holds p rested free 0 K₀) (state-holds p rested free 0 K′) its-state refl j
+      (clean-blank r cleaned ∙ ap ff enough) (omega arith) in
       record {
         middle = t .r₁ ++ (w ++ s);
         end = t .r₂ ++ (w ++ s);

@@ -1,5 +1,6 @@
 -- The writing of an entry in a blank tail, however cut before its 3F, leaves the entries as they were, or one more that is neither 3F nor 3E; with the 3F its value stands.
 -- Before the start id is whole no entry begins there; with it and state FF the entry counts as a header; with state 7F it counts as its sizes say, and they are right.
+-- However it is cut, as much of the tail is left as lies behind the entry, so `floor` bytes are where the entry leaves them.
 -- Assumes nothing.
 use Prim.Native.Nat.{ℕ, suc, _+_, _*_, _-_, _≤_}
 use native.Mathlib.Nat.{add-zero}
@@ -45,9 +46,9 @@ no-start x y q n = go (leb headerSize (length (x ∷ y ∷ q)))
     go true = rw (ne-eqb (x + 256 * y) startId n)
     go false = refl
 
-module _ (P : List ℕ → Type 0) (K : List Value) (size : ℕ) (rest : List ℕ)
-    (holds : (r t : List ℕ) (es : List Entry) → State size r t es → values es ≡ K → P (r ++ rest))
-    {r t : List ℕ} {es : List Entry} (st : State size r t es) where
+module _ (P : List ℕ → Type 0) (K : List Value) (size floor : ℕ) (rest : List ℕ)
+    (holds : (r t : List ℕ) (es : List Entry) → State size floor r t es → values es ≡ K → P (r ++ rest))
+    {r t : List ℕ} {es : List Entry} (st : State size floor r t es) where
   -- the region in front of its tail
   abbrev pub front-of : List ℕ
   front-of = regionHeader size ++ join (st .chunks)
@@ -70,8 +71,9 @@ module _ (P : List ℕ → Type 0) (K : List Value) (size : ℕ) (rest : List �
   -- the region with another tail of that length, made of chunks and a rest
   pub with-tail : (ds : List (List ℕ)) (t′ : List ℕ) → length (join ds ++ t′) ≡ length t → AllFramed authenticated ds → readHeader t′ ≡ none
       → soundEntries size (es ++ (entriesOf authenticated) tailPlace ds) ≡ true
-      → State size (front-of ++ (join ds ++ t′)) t′ (es ++ (entriesOf authenticated) tailPlace ds)
-  with-tail ds t′ l f stops judged =
+      → floor ≤ length t′
+      → State size floor (front-of ++ (join ds ++ t′)) t′ (es ++ (entriesOf authenticated) tailPlace ds)
+  with-tail ds t′ l f stops judged enough =
       let long : length (front-of ++ (join ds ++ t′)) ≡ size = length-append front-of (join ds ++ t′) ∙ rw (front-length, l) (sym size-split) in
       record {
         chunks = st .chunks ++ ds;
@@ -88,6 +90,7 @@ module _ (P : List ℕ → Type 0) (K : List Value) (size : ℕ) (rest : List �
             (st .listed);
         judged = judged;
         long = long;
+        room = enough;
       }
 
   module _ (kept : values es ≡ K) where
@@ -95,16 +98,16 @@ module _ (P : List ℕ → Type 0) (K : List Value) (size : ℕ) (rest : List �
     none-holds : (t′ : List ℕ) → length t′ ≡ length t → readHeader t′ ≡ none → P (front-of ++ (t′ ++ rest))
     none-holds t′ l stops =
         rw (← append-assoc front-of t′ rest)
-        (holds (front-of ++ t′) t′ (es ++ []) (with-tail [] t′ l tt stops (rw append-nil (st .judged))) (ap values (append-nil es) ∙ kept))
+        (holds (front-of ++ t′) t′ (es ++ []) (with-tail [] t′ l tt stops (rw append-nil (st .judged)) (let e = st .room in rw l e)) (ap values (append-nil es) ∙ kept))
 
     -- one entry there, neither 3F nor 3E, and a blank rest
-    one-holds : (c : List ℕ) (n : ℕ) → length (c ++ ff n) ≡ length t → Framed authenticated c
+    one-holds : (c : List ℕ) (n : ℕ) → length (c ++ ff n) ≡ length t → Framed authenticated c → floor ≤ n
         → live (entryOf authenticated tailPlace c) ≡ false → knownState (entryOf authenticated tailPlace c) ≡ true → within size
         (entryOf authenticated tailPlace c) ≡ true
         → P (front-of ++ ((c ++ ff n) ++ rest))
-    one-holds c n l f dead known inside =
+    one-holds c n l f enough dead known inside =
         let both = add-dead size es (entryOf authenticated tailPlace c) (st .judged) dead known inside in
-        let state = with-tail (c ∷ []) (ff n) (rw append-nil l) (f, tt) (blank-stops authenticated n) (both .0) in
+        let state = with-tail (c ∷ []) (ff n) (rw append-nil l) (f, tt) (blank-stops authenticated n) (both .0) (rw (ff-length n) enough) in
         rw (← append-assoc front-of (c ++ ff n) rest)
         (rw append-nil at (holds (front-of ++ (c ++ [] ++ ff n)) (ff n) (es ++ (entryOf authenticated tailPlace c ∷ [])) state (both .1 ∙ kept)))
 
@@ -140,7 +143,7 @@ module _ (P : List ℕ → Type 0) (K : List Value) (size : ℕ) (rest : List �
         (subst (λ (n : ℕ). Goes P (mark n new) ((front-of ++ a) ++ ((old ∷ []) ++ (x ++ rest))) ((front-of ++ a) ++ ((new ∷ []) ++ (x ++ rest)))) (add-zero at)
         (goes-mark P at (front-of ++ a) (old ∷ []) (x ++ rest) (seg-place a at place) 0 new (omega arith) old refl one (rw (← seg-eq a (old ∷ []) x) p)))
 
-    module _ (v : Value) (valid : Valid v) (j : ℕ) (blank-tail : t ≡ ff (entrySize v + j)) where
+    module _ (v : Value) (valid : Valid v) (j : ℕ) (blank-tail : t ≡ ff (entrySize v + j)) (low : floor ≤ j) where
       abbrev pad : ℕ
       pad = entrySize v - plainSize v
 
@@ -172,7 +175,7 @@ module _ (P : List ℕ → Type 0) (K : List Value) (size : ℕ) (rest : List �
           let long : length c ≡ 60 = omega arith in
           let all : length (c ++ ff k) ≡ length t = length-append c (ff k) ∙ rw (ff-length k, tail-length) (omega arith) in
           let framed : Framed authenticated c = record { long = omega arith; start = s; whole = sym long } in
-          rw body (one-holds c k all framed refl refl refl)
+          rw body (one-holds c k all framed (omega arith) refl refl refl)
 
       -- the header whole, with state 7F: the entry counts as its sizes say, whatever bytes stand behind the header
       valid-holds : (x : List ℕ) → length x ≡ length (v .name) + length (v .bytes) → P (front-of ++ ((0xAA ∷ 0x55 ∷ 0x7F ∷ (hr ++ (x ++ q))) ++ rest))
@@ -191,7 +194,7 @@ module _ (P : List ℕ → Type 0) (K : List Value) (size : ℕ) (rest : List �
           (append-assoc hr (x ++ ff pad) (ff j) ∙ ap (λ (l : List ℕ). hr ++ l) (append-assoc x (ff pad) (ff j) ∙ ap (λ (l : List ℕ). x ++ l) (ff-join pad j))) in
           let inside : tailPlace + (60 + length (v .name) + length (v .bytes)) ≤ size = rw size-split (rw tail-length (omega arith)) in
           subst (λ (l : List ℕ). P (front-of ++ (l ++ rest))) form
-          (one-holds c j all framed
+          (one-holds c j all framed low
           (ap (λ (h : Header). live (placed headerSize readHeader tailPlace h c)) fields)
           (ap (λ (h : Header). knownState (placed headerSize readHeader tailPlace h c)) fields)
           (ap (λ (h : Header). within size (placed headerSize readHeader tailPlace h c)) fields

@@ -92,7 +92,7 @@ module _ {b : ℕ} {r w s : List ℕ} (p : Parts b r w s) (rested : idle w ≡ t
   unfolding deleteTo
   delete-some k present = go (standing k (entries r)) refl
     where
-      st : State (block * b) r (tail r) (entries r)
+      st : State (block * b) 0 r (tail r) (entries r)
       st = its-state p rested free cleaned
 
       looked : find k its-list ≡ onSome (standing k (entries r)) (λ e. some (entryValue e)) none
