@@ -13,8 +13,9 @@ use Rattle.model.specs.Name.{Key, keyed}
 use Rattle.model.specs.Entry.{Value, headerFieldsIn}
 use Rattle.model.specs.Walk as walk
 use Rattle.model.specs.Region.{entries, values, valuesOf, standing, sound, find, valuesIn}
-use Rattle.model.specs.Request.{Request, timeBased, appends, withoutAppend, stampToStore}
+use Rattle.model.specs.Request.{Request, timeBased, appends, withoutAppend, stampToStore, properOf}
 use Rattle.model.specs.Change.{newData, laterOf, newStamp, newValue}
+use Rattle.model.specs.Rules.{rule8}
 use Rattle.model.proofs.Chunks.{sound-parts}
 use Rattle.model.proofs.Values.{find-standing}
 use Rattle.layout.specs.declared.Entry as numbers
@@ -26,10 +27,9 @@ use Rattle.values.specs.Found.{foundOf, elseFound}
 use Rattle.values.proofs.Stands.{standing-stands, nothing-first}
 use Rattle.compose.specs.Compose.{oldData}
 use Rattle.orders.proofs.EntryPlans.{standing-is}
-use Rattle.policy.specs.Rules.{rule8Of}
-use Rattle.policy.specs.Descriptor.{properOf, stampOf}
+use Rattle.policy.specs.Descriptor.{stampOf}
 use Rattle.policy.proofs.Descriptor.{stamp-held}
-use Rattle.policy.proofs.Plain.{rule8-plain, proper-plain, stamp-plain}
+use Rattle.policy.proofs.Descriptor.{stamp-right}
 use Rattle.change.specs.Asked.{valued, requested, valueToPut, appended, stampOver, stampKept, Asked}
 
 -- ---- the entry that stands
@@ -58,7 +58,7 @@ module _ (r : List ℕ) (k : Key) (s : sound r ≡ true) where
 
 -- ---- the value
 
-module _ (img name vendor : List ℕ) (a : ℕ) (bytes : List ℕ) (keeps : rule8Of a bytes ≡ false) where
+module _ (img name vendor : List ℕ) (a : ℕ) (bytes : List ℕ) (keeps : rule8 a bytes ≡ false) where
   abbrev r : Request
   r = requested name vendor a bytes
 
@@ -66,16 +66,16 @@ module _ (img name vendor : List ℕ) (a : ℕ) (bytes : List ℕ) (keeps : rule
   old = find (keyed name vendor) (valuesOf img)
 
   stored : stampToStore r ≡ stampOf a bytes
-  stored = stamp-plain r (rule8-plain r ∙ keeps)
+  stored = stamp-right r keeps
 
   module _ {kept : ℕ} {stamp own : List ℕ} (w : kept ≡ withoutAppend a) (s : stamp ≡ newStamp r old) (o : own ≡ properOf a bytes) where
     value-plain : appends a ≡ false → valued name vendor kept stamp own ≡ valueToPut img name vendor a bytes
     unfolding valueToPut newValue newData
-    value-plain n = rw (w, s, o, n, proper-plain r)
+    value-plain n = rw (w, s, o, n)
 
     value-appended : appends a ≡ true → valued name vendor kept stamp (appended img name vendor own) ≡ valueToPut img name vendor a bytes
     unfolding valueToPut newValue newData appended
-    value-appended n = rw (w, s, o, n, proper-plain r)
+    value-appended n = rw (w, s, o, n)
 
   -- *the value to put*, by the data and the stamp that are kept
   module _ {kept : ℕ} {given own : List ℕ} (w : kept ≡ withoutAppend a) (s : given ≡ stampOf a bytes) (o : own ≡ properOf a bytes)

@@ -10,10 +10,10 @@ ghost use Rattle.model.specs.Change.{put, step};
 ghost use Rattle.model.specs.Compact.{joined};
 ghost use Rattle.model.specs.Request.{appends};
 ghost use Rattle.model.specs.Set.{fitsTail};
+ghost use Rattle.model.specs.Rules.{rule8};
 ghost use Rattle.values.specs.Found.{elseFound};
 ghost use Rattle.output.specs.Text.{Wrote};
 ghost use Rattle.compose.specs.Compose.{oldData};
-ghost use Rattle.policy.specs.Rules.{rule8Of};
 ghost use Rattle.change.specs.Asked.{valued, valueToPut, stampOver, stampKept, Asked, PutPlanned};
 use plan::Planned;
 use plan::Step;
@@ -214,7 +214,7 @@ pub fn put(
     content: &mut [u8],
 ) -> Planned
     requires { ⌜ Asked (now image) (standing .b) (standing .tail) (standing .places) (valueToPut (now image) (now name) (now vendor) attributes (now bytes))
-        × (rule8Of attributes (now bytes) ≡ false)
+        × (rule8 attributes (now bytes) ≡ false)
         × (length (now content) ≡ 28672) ⌝ }
     ensures { λ r.
         ⌜ PutPlanned (now (image .entry)) (valueToPut (now (image .entry)) (now (name .entry)) (now (vendor .entry)) attributes (now (bytes .entry)))

@@ -2,28 +2,28 @@
 -- answer of the set. Where it names none, it is the kind of the change, and every test is false: so a value to delete stands, and a value to put is small
 -- enough and fits.
 -- Assumes nothing.
-use Prim.Native.Nat.{ℕ, _+_, _≤_}
+use Prim.Native.Nat.{ℕ, _≤_}
 use native.Mathlib.Omega.{arith}
 use mathlib.Core.Path.{_≡_, refl, sym, ap, _∙_}
 use mathlib.Core.Bool.{Bool, true, false, cond, _||_}
-use mathlib.Core.List.{List, _++_, append-assoc}
+use mathlib.Core.List.{List, [], _∷_, _++_, append-assoc}
 use mathlib.Core.Option.{Option, none, some}
 use lib.ListN.{length}
 use borrow.Author.Tests.{ltb-false}
 use Rattle.model.specs.declared.Session.{Session}
+use Rattle.model.specs.declared.Terms.{Terms}
 use Rattle.model.specs.declared.Rule.{Rule}
 use Rattle.model.specs.Lists.{onSome, orElse}
 use Rattle.model.specs.Image.{regionSize}
 use Rattle.model.specs.Entry.{Value}
 use Rattle.model.specs.Region.{maxData, valuesOf, find}
-use Rattle.model.specs.Session.{reserved}
-use Rattle.model.specs.Request.{Request, requestKey}
-use Rattle.model.specs.Change.{Change, nothing, remove, put, deletes, emptyAppend, equalTo, newValue, changeOf, changeIn, step, spaceOf}
-use Rattle.model.specs.Rules.{firstBroken, rule12, rule13, imageRules, requestRules, standingRules, resultRules, roomRules, setBroken}
+use Rattle.model.specs.Request.{Request, requestKey, dataProper}
+use Rattle.model.specs.Change.{Change, nothing, remove, put, deletes, emptyAppend, equalTo, newValue, changeOf, changeIn}
+use Rattle.model.specs.Rules.{firstBroken, rule12, termsOf, imageRules, requestRules, standingRules, resultRules, itemRules, roomRules, setBroken}
 use Rattle.model.proofs.Requests.{broken-append, unbroken}
 use Rattle.decision.specs.declared.Decision.{Decision}
 use Rattle.decision.specs.declared.Decision.the-variants.{Nothing, Remove, Put}
-use Rattle.decision.specs.Decision.{kindOf, decided, decisionOf, brokenOf}
+use Rattle.decision.specs.Decision.{kindOf, decided, itemOf, decisionOf, brokenOf}
 
 -- ---- the rule named
 
@@ -35,22 +35,18 @@ named-rule none (put v) = refl
 
 -- the first broken rule of a set over an image that breaks neither 1 nor 2: with it the model's laws on a set that breaks none apply
 pub set-broken : (s : Session) (q : Request) (img : List ℕ) → firstBroken (imageRules img) ≡ none
-    → setBroken s q img ≡ brokenOf (decisionOf s q (regionSize img) (valuesOf img))
+    → setBroken s q img ≡ brokenOf (decisionOf (termsOf s (requestKey q)) q (regionSize img) (valuesOf img))
 unfolding setBroken decisionOf
 set-broken s q img h =
+    let t : Terms = termsOf s (requestKey q) in
     let vs : List Value = valuesOf img in
     let i : List (Rule × Bool) = imageRules img in
-    let a : List (Rule × Bool) = requestRules s q in
-    let b : List (Rule × Bool) = standingRules s q vs in
-    let c : List (Rule × Bool) = resultRules q vs in
-    let d : List (Rule × Bool) = roomRules s q (regionSize img) vs in
-    ap firstBroken
-    (ap (λ (l : List (Rule × Bool)). l ++ c ++ d) (append-assoc i a b)
-    ∙ ap (λ (l : List (Rule × Bool)). l ++ d) (append-assoc i (a ++ b) c)
-    ∙ append-assoc i (a ++ b ++ c) d)
-    ∙ broken-append i (a ++ b ++ c ++ d)
-    ∙ ap (λ (o : Option Rule). orElse o (firstBroken (a ++ b ++ c ++ d))) h
-    ∙ sym (named-rule (firstBroken (a ++ b ++ c ++ d)) (changeIn q vs))
+    let a : List (Rule × Bool) = itemRules t q vs in
+    let d : List (Rule × Bool) = roomRules t (regionSize img) (changeIn q vs ∷ []) vs in
+    ap firstBroken (append-assoc i a d)
+    ∙ broken-append i (a ++ d)
+    ∙ ap (λ (o : Option Rule). orElse o (firstBroken (a ++ d))) h
+    ∙ sym (named-rule (firstBroken (a ++ d)) (changeIn q vs))
 
 -- ---- the change
 
@@ -67,7 +63,9 @@ module _ (q : Request) (old : Option Value) where
       → cond d (remove (requestKey q)) (cond n nothing (put (newValue q old))) ≡ c)
       → kindOf (changeOf q old) ≡ k → changeOf q old ≡ c
   unfolding changeOf
-  by-tests c k e f h = f (deletes q) (emptyAppend q || onSome old (equalTo q) false) h
+  by-tests c k e f h =
+      f (deletes (q .attributes) (length (dataProper q)))
+      (emptyAppend (q .attributes) (length (dataProper q)) || onSome old (λ v. equalTo (q .attributes) (dataProper q) (v .attributes) (v .bytes)) false) h
 
   kind-put : kindOf (changeOf q old) ≡ Put → changeOf q old ≡ put (newValue q old)
   kind-put h = by-tests (put (newValue q old)) Put refl go h
@@ -92,36 +90,31 @@ kind-nothing nothing h = refl
 kind-nothing (remove k) h = let z : _≡_ {A = ℕ} 0 1 = cc in absurd (omega arith)
 kind-nothing (put v) h = let z : _≡_ {A = ℕ} 0 1 = cc in absurd (omega arith)
 
-module _ (s : Session) (q : Request) (size : ℕ) (vs : List Value) where
-  unbroken-rules : (k : Decision) → brokenOf k ≡ none → decisionOf s q size vs ≡ k
-      → (firstBroken (requestRules s q ++ standingRules s q vs ++ resultRules q vs ++ roomRules s q size vs) ≡ none) × (kindOf (changeIn q vs) ≡ k)
-  unfolding decisionOf
-  unbroken-rules k b h = decided-none _ (kindOf (changeIn q vs)) k h b
-
-  pub nothing-change : decisionOf s q size vs ≡ Nothing → changeIn q vs ≡ nothing
-  nothing-change h = kind-nothing (changeIn q vs) (unbroken-rules Nothing refl h .1)
-
-  pub remove-change : decisionOf s q size vs ≡ Remove → changeIn q vs ≡ remove (requestKey q)
-  unfolding changeIn
-  remove-change h = kind-remove q (find (requestKey q) vs) (unbroken-rules Remove refl h .1)
-
+module _ (t : Terms) (q : Request) (vs : List Value) where
   -- the value to put
   abbrev pub new : Value
   new = newValue q (find (requestKey q) vs)
 
-  pub put-change : decisionOf s q size vs ≡ Put → changeIn q vs ≡ put new
+  -- by rules 3 to 12
+  pub item-small : itemOf t q vs ≡ Put → length (new .bytes) ≤ maxData
+  unfolding itemOf itemRules requestRules standingRules resultRules rule12 changeIn
+  item-small h =
+      let p = decided-none (firstBroken (itemRules t q vs)) (kindOf (changeIn q vs)) Put h refl in
+      let e : rule12 (changeIn q vs) ≡ false = unbroken _ 12 (p .0) in
+      ltb-false maxData (length (new .bytes)) (rw (kind-put q (find (requestKey q) vs) (p .1)) at e)
+
+module _ (t : Terms) (q : Request) (size : ℕ) (vs : List Value) where
+  kind-of : (k : Decision) → brokenOf k ≡ none → decisionOf t q size vs ≡ k → kindOf (changeIn q vs) ≡ k
+  unfolding decisionOf
+  kind-of k b h = decided-none (firstBroken (itemRules t q vs ++ roomRules t size (changeIn q vs ∷ []) vs)) (kindOf (changeIn q vs)) k h b .1
+
+  pub nothing-change : decisionOf t q size vs ≡ Nothing → changeIn q vs ≡ nothing
+  nothing-change h = kind-nothing (changeIn q vs) (kind-of Nothing refl h)
+
+  pub remove-change : decisionOf t q size vs ≡ Remove → changeIn q vs ≡ remove (requestKey q)
   unfolding changeIn
-  put-change h = kind-put q (find (requestKey q) vs) (unbroken-rules Put refl h .1)
+  remove-change h = kind-remove q (find (requestKey q) vs) (kind-of Remove refl h)
 
-  pub put-small : decisionOf s q size vs ≡ Put → length (new .bytes) ≤ maxData
-  unfolding requestRules standingRules resultRules rule12
-  put-small h =
-      let t : rule12 q vs ≡ false = unbroken _ 12 (unbroken-rules Put refl h .0) in
-      ltb-false maxData (length (new .bytes)) (rw (put-change h) at t)
-
-  -- beside the reserve
-  pub put-fits : decisionOf s q size vs ≡ Put → spaceOf (step (put new) vs) + reserved s ≤ size
-  unfolding requestRules standingRules resultRules roomRules rule13
-  put-fits h =
-      let t : rule13 s q size vs ≡ false = unbroken _ 13 (unbroken-rules Put refl h .0) in
-      ltb-false size (spaceOf (step (put new) vs) + reserved s) (rw (put-change h) at t)
+  pub put-change : decisionOf t q size vs ≡ Put → changeIn q vs ≡ put (new t q vs)
+  unfolding changeIn
+  put-change h = kind-put q (find (requestKey q) vs) (kind-of Put refl h)

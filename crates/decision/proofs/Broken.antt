@@ -3,7 +3,7 @@
 use Prim.Native.Nat.{ℕ}
 use native.Mathlib.Omega.{arith}
 use mathlib.Core.Path.{_≡_, refl, sym, ap, _∙_}
-use mathlib.Core.Bool.{Bool}
+use mathlib.Core.Bool.{Bool, true, false}
 use mathlib.Core.List.{List, [], _∷_, _++_}
 use mathlib.Core.Option.{Option, none, some}
 use Rattle.model.specs.declared.Rule.{Rule}
@@ -22,6 +22,20 @@ later-broken xs rule d e h =
     go : (o : Option Rule) → (o ≡ none → d ≡ e) → orElse o (firstBroken ((rule, d) ∷ [])) ≡ orElse o (firstBroken ((rule, e) ∷ []))
     go (some x) h = refl
     go none h = rw (h refl)
+
+-- a broken rule is the answer, and one that is kept leaves the rest
+module _ (rule : Rule) (d : Bool) (xs : List (Rule × Bool)) where
+  pub broken-here : d ≡ true → firstBroken ((rule, d) ∷ xs) ≡ some rule
+  unfolding firstBroken
+  broken-here h = rw h
+
+  pub kept-here : d ≡ false → firstBroken ((rule, d) ∷ xs) ≡ firstBroken xs
+  unfolding firstBroken
+  kept-here h = rw h
+
+pub none-here : firstBroken [] ≡ none
+unfolding firstBroken
+none-here = refl
 
 -- ---- rules that were judged
 

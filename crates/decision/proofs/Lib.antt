@@ -1,8 +1,6 @@
 -- Laws that the proofs of this crate's functions and of its callers cite.
 -- The first broken rule of two lists
 pub mod Broken
--- Rules 3 to 6 one after another
-pub mod Calls
 -- The value that stands, by what was found
 pub mod Old
 -- The space of the values after a change

@@ -1,14 +1,14 @@
 -- The decision on a set: the first broken of rules 3 to 13, or what the set does to the values.
 use Prim.Native.Nat.{ℕ}
-use mathlib.Core.List.{List, _++_}
+use mathlib.Core.List.{List, [], _∷_, _++_}
 use mathlib.Core.Option.{Option, none, some}
-use Rattle.model.specs.declared.Session.{Session}
+use Rattle.model.specs.declared.Terms.{Terms}
 use Rattle.model.specs.declared.Rule.{Rule}
 use Rattle.model.specs.Lists.{onSome}
 use Rattle.model.specs.Entry.{Value}
 use Rattle.model.specs.Request.{Request}
 use Rattle.model.specs.Change.{Change, nothing, remove, put, changeIn}
-use Rattle.model.specs.Rules.{firstBroken, requestRules, standingRules, resultRules, roomRules}
+use Rattle.model.specs.Rules.{firstBroken, itemRules, roomRules}
 use Rattle.decision.specs.declared.Decision.{Decision}
 use Rattle.decision.specs.declared.Decision.the-variants.{Broken, Nothing, Remove, Put}
 
@@ -33,12 +33,14 @@ kindOf (put v) = Put
 abbrev pub decided : Option Rule → Decision → Decision
 decided broken what = onSome broken (λ rule. Broken rule) what
 
--- over a region of so many bytes with these values
-unfoldable pub decisionOf : Session → Request → ℕ → List Value → Decision
-decisionOf s r size vs =
-    decided
-    (firstBroken (requestRules s r ++ standingRules s r vs ++ resultRules r vs ++ roomRules s r size vs))
-    (kindOf (changeIn r vs))
+-- by rules 3 to 12, over these values
+unfoldable pub itemOf : Terms → Request → List Value → Decision
+itemOf t r vs = decided (firstBroken (itemRules t r vs)) (kindOf (changeIn r vs))
+
+-- by rules 3 to 13, over a region of so many bytes with these values
+unfoldable pub decisionOf : Terms → Request → ℕ → List Value → Decision
+decisionOf t r size vs =
+    decided (firstBroken (itemRules t r vs ++ roomRules t size (changeIn r vs ∷ []) vs)) (kindOf (changeIn r vs))
 
 -- the rule that a decision names, if any
 abbrev pub brokenOf : Decision → Option Rule

@@ -8,19 +8,17 @@ use lib.Dec.{ltb}
 use Rattle.model.specs.declared.Rule.{Rule}
 use Rattle.model.specs.declared.Rule.the-variants.{Standing, Descriptor, Verdict, Stamp, Absent, DataSize, Room}
 use Rattle.model.specs.Lists.{isEmpty}
-use Rattle.model.specs.Entry.{Value, headerSize, rounded, entrySize}
+use Rattle.model.specs.Entry.{Value, entrySize}
 use Rattle.model.specs.Walk.{entryValue}
 use Rattle.model.specs.Region.{maxData, entries, values}
 use Rattle.model.specs.Request.{appends, later}
-use Rattle.model.specs.Change.{spaceOf}
+use Rattle.model.specs.Change.{spaceOf, deletes, emptyAppend, equalTo}
+use Rattle.model.specs.Rules.{rule7, rule8, rule9}
 use Rattle.layout.specs.declared.Entry as numbers
 use Rattle.region.specs.Walk.{entryAt, stampAt}
 use Rattle.values.specs.declared.Found.{Found}
 use Rattle.values.specs.declared.Found.the-variants as found
-use Rattle.policy.specs.Rules.{rule7Of, rule8Of}
 use Rattle.policy.specs.Descriptor.{stampIn}
-use Rattle.policy.specs.Verdict.{rule9Of}
-use Rattle.policy.specs.Change.{deletesOf, emptyAppendOf, equalOf}
 use Rattle.decision.specs.declared.Judged.{Judged}
 use Rattle.decision.specs.declared.Judged.the-variants.{Kept, Breaks}
 use Rattle.decision.specs.declared.Decision.{Decision}
@@ -47,7 +45,7 @@ stands old = onFound old (λ at e. true) false
 -- rules 7 and 8, by whether the phase is runtime, attributes, data and what stands
 unfoldable pub standingBy : Bool → ℕ → List ℕ → Found → List (Rule × Bool)
 standingBy runtime a bytes old =
-    (Standing, onFound old (λ at e. rule7Of runtime a (e .attributes)) false) ∷ (Descriptor, rule8Of a bytes) ∷ []
+    (Standing, onFound old (λ at e. rule7 runtime a (e .attributes)) false) ∷ (Descriptor, rule8 a bytes) ∷ []
 
 -- the stamp is not later than that of the value that stands
 unfoldable pub notLater : List ℕ → Found → List ℕ → Bool
@@ -56,18 +54,18 @@ notLater r old stamp = onFound old (λ at e. not (later stamp (stampIn (stampAt 
 -- rules 9 and 10, by what stands, attributes, the verdicts of which one is wanted, the verdict given and the stamp; 10 does not concern appends
 unfoldable pub verdictBy : List ℕ → Found → ℕ → List ℕ → ℕ → List ℕ → List (Rule × Bool)
 verdictBy r old a wanted verdict stamp =
-    (Verdict, rule9Of wanted verdict)
+    (Verdict, rule9 wanted verdict)
     ∷ (Stamp, not (appends a) && not (isEmpty wanted) && notLater r old stamp)
     ∷ []
 
 -- the value that stands is equal
 unfoldable pub equalBy : List ℕ → Found → ℕ → List ℕ → Bool
-equalBy r old a proper = onFound old (λ at e. equalOf a proper (e .attributes) (entryAt r at e .bytes)) false
+equalBy r old a proper = onFound old (λ at e. equalTo a proper (e .attributes) (entryAt r at e .bytes)) false
 
 -- what a set asks for, by what stands, attributes and data proper
 unfoldable pub kindBy : List ℕ → Found → ℕ → List ℕ → Decision
 kindBy r old a proper =
-    cond (deletesOf a (length proper)) Remove (cond (emptyAppendOf a (length proper) || equalBy r old a proper) Nothing Put)
+    cond (deletes a (length proper)) Remove (cond (emptyAppend a (length proper) || equalBy r old a proper) Nothing Put)
 
 -- the size of the data that a set would store
 unfoldable pub newSize : List ℕ → Found → ℕ → ℕ → ℕ
@@ -81,18 +79,20 @@ oldSpace r old = onFound old (λ at e. entrySize (entryValue (entryAt r at e))) 
 unfoldable pub roomBy : List ℕ → Found → ℕ → Bool
 roomBy r old need = ltb (length r + oldSpace r old) (spaceOf (values (entries r)) + need)
 
--- rule 11 on a delete, rules 12 and 13 on a value to put
-unfoldable pub resultBy : Bool → Decision → ℕ → Bool → Decision
-resultBy there (Broken rule) size full = Broken rule
-resultBy there Nothing size full = Nothing
-resultBy there Remove size full = cond there Remove (Broken Absent)
-resultBy there Put size full = cond (ltb maxData size) (Broken DataSize) (cond full (Broken Room) Put)
+-- rule 11 on a delete, rule 12 on a value to put
+unfoldable pub resultBy : Bool → Decision → ℕ → Decision
+resultBy there (Broken rule) size = Broken rule
+resultBy there Nothing size = Nothing
+resultBy there Remove size = cond there Remove (Broken Absent)
+resultBy there Put size = cond (ltb maxData size) (Broken DataSize) Put
 
--- what a set that breaks none of rules 3 to 10 comes to: by what stands, the reserve, the size of the name, attributes and data proper
-unfoldable pub outcomeBy : List ℕ → Found → ℕ → ℕ → ℕ → List ℕ → Decision
-outcomeBy r old reserve name a proper =
-    resultBy
-    (stands old)
-    (kindBy r old a proper)
-    (newSize r old a (length proper))
-    (roomBy r old (rounded (headerSize + name + newSize r old a (length proper)) + reserve))
+-- what a set that breaks none of rules 3 to 10 comes to: by what stands, attributes and data proper
+unfoldable pub outcomeBy : List ℕ → Found → ℕ → List ℕ → Decision
+outcomeBy r old a proper = resultBy (stands old) (kindBy r old a proper) (newSize r old a (length proper))
+
+-- rule 13 on a value to put
+unfoldable pub roomedBy : Decision → Bool → Decision
+roomedBy (Broken rule) full = Broken rule
+roomedBy Nothing full = Nothing
+roomedBy Remove full = Remove
+roomedBy Put full = cond full (Broken Room) Put

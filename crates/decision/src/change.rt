@@ -4,7 +4,7 @@ ghost use mathlib.Core.Bool.{true};
 ghost use Prim.Native.Nat.{_+_, _<_, _≤_, _^_};
 ghost use lib.ListN.{length};
 ghost use Rattle.model.specs.Entry.{rounded};
-ghost use Rattle.decision.specs.Parts.{stands, equalBy, kindBy, newSize, oldSpace, roomBy, resultBy, outcomeBy};
+ghost use Rattle.decision.specs.Parts.{stands, equalBy, kindBy, newSize, oldSpace, roomBy, resultBy, outcomeBy, roomedBy};
 use crate::Decision;
 use model::Rule;
 use region::walk;
@@ -93,24 +93,19 @@ fn is_full(region: &[u8], old: Found, need: usize) -> bool
     free - need < list::space(region)
 }
 
-// Rules 12 and 13 on data of this size under a name of that one: the entry to write, and the reserve, are needed.
-fn put(region: &[u8], old: Found, reserve: u32, name: usize, size: usize) -> Decision
-    requires { ⌜ (length (now region) ≤ 28672) × (name < 2 ^ 63) ⌝ }
-    ensures { λ r. ⌜ r ≡ resultBy true Decision.Put size (roomBy (now (region .entry)) old (rounded (60 + name + size) + reserve)) ⌝ }
+// Rule 12 on data of this size.
+fn put(size: usize) -> Decision
+    ensures { λ r. ⌜ r ≡ resultBy true Decision.Put size ⌝ }
 {
     if (layout::LARGEST_DATA as usize) < size {
         return Decision::Broken(Rule::DataSize);
-    }
-    let need = layout::entry_size(name, size) + reserve as usize;
-    if is_full(region, old, need) {
-        return Decision::Broken(Rule::Room);
     }
     Decision::Put
 }
 
 // Rule 11: the value to delete is absent.
 fn remove(old: Found) -> Decision
-    ensures { λ r. ⌜ r ≡ resultBy (stands old) Decision.Remove 0 true ⌝ }
+    ensures { λ r. ⌜ r ≡ resultBy (stands old) Decision.Remove 0 ⌝ }
 {
     if stands(old) {
         return Decision::Remove;
@@ -118,26 +113,45 @@ fn remove(old: Found) -> Decision
     Decision::Broken(Rule::Absent)
 }
 
-// What a set that breaks none of rules 3 to 10 comes to.
-pub fn outcome(
-    region: &[u8],
-    old: Found,
-    reserve: u32,
-    name: &[u8],
-    attributes: u32,
-    proper: &[u8],
-) -> Decision
-    requires { ⌜ length (now region) ≤ 28672 ⌝ }
-    ensures { λ r. ⌜ r ≡ outcomeBy (now (region .entry)) old reserve (length (now (name .entry))) attributes (now (proper .entry)) ⌝ }
+// What a set that breaks none of rules 3 to 10 comes to, by rules 11 and 12.
+pub fn outcome(region: &[u8], old: Found, attributes: u32, proper: &[u8]) -> Decision
+    ensures { λ r. ⌜ r ≡ outcomeBy (now (region .entry)) old attributes (now (proper .entry)) ⌝ }
 {
     let what = kind(region, old, attributes, proper);
     match what {
         Decision::Remove => remove(old),
-        Decision::Put => {
-            let size = new_size(region, old, attributes, proper.len());
-            put(region, old, reserve, name.len(), size)
-        }
+        Decision::Put => put(new_size(region, old, attributes, proper.len())),
         Decision::Nothing => what,
         Decision::Broken(_) => what,
+    }
+}
+
+// And by room, where a value is to be put: the entry to write, and the reserve, are needed.
+pub fn roomed(
+    item: Decision,
+    reserve: u32,
+    region: &[u8],
+    old: Found,
+    name: usize,
+    attributes: u32,
+    size: usize,
+) -> Decision
+    requires { ⌜ (length (now region) ≤ 28672) × (name < 2 ^ 63) × (size < 2 ^ 63) ⌝ }
+    requires { ⌜ (item ≡ Decision.Put → newSize (now region) old attributes size ≤ 2048) ⌝ }
+    ensures { λ r. ⌜ r ≡ roomedBy item (roomBy (now (region .entry)) old
+        (rounded (60 + name + newSize (now (region .entry)) old attributes size) + reserve)) ⌝ }
+{
+    match item {
+        Decision::Put => {
+            let new = new_size(region, old, attributes, size);
+            let need = layout::entry_size(name, new) + reserve as usize;
+            if is_full(region, old, need) {
+                return Decision::Broken(Rule::Room);
+            }
+            item
+        }
+        Decision::Remove => item,
+        Decision::Nothing => item,
+        Decision::Broken(_) => item,
     }
 }

@@ -7,16 +7,14 @@ ghost use lib.ListN.{length};
 ghost use Rattle.model.specs.Lists.{isSome};
 ghost use Rattle.model.specs.Name.{keyed};
 ghost use Rattle.model.specs.Region.{sound, entries, values, added, replacing, standing};
-ghost use Rattle.model.specs.Session.{atRuntime};
-ghost use Rattle.model.specs.Request.{keyPK};
+ghost use Rattle.model.specs.Request.{keyPK, wantedVerdicts};
 ghost use Rattle.model.specs.Rules.{firstBroken};
 ghost use Rattle.values.specs.Found.{foundOf};
 ghost use Rattle.policy.specs.Descriptor.{stampOf};
-ghost use Rattle.policy.specs.Verdict.{wantedBy};
-ghost use Rattle.decision.specs.Decision.{requestOf, decisionOf};
+ghost use Rattle.decision.specs.Decision.{requestOf, itemOf, decisionOf};
 ghost use Rattle.decision.specs.Parts.{judgedOf, stands, standingBy, verdictBy};
 use model::Rule;
-use model::Session;
+use model::Terms;
 use values::Found;
 use values::Places;
 use values::lookup;
@@ -46,7 +44,7 @@ pub enum Judged {
 
 // Rules 7 to 10: the mode is looked up, and the stamp read, only where 7 and 8 are kept.
 fn judge_standing(
-    s: Session,
+    t: Terms,
     region: &[u8],
     old: Found,
     name: &[u8],
@@ -56,18 +54,18 @@ fn judge_standing(
     presence: u32,
     verdict: u32,
 ) -> Judged
-    ensures { λ r. ⌜ r ≡ judgedOf (firstBroken (standingBy (atRuntime s) attributes (now (bytes .entry)) old
+    ensures { λ r. ⌜ r ≡ judgedOf (firstBroken (standingBy (t .runtime) attributes (now (bytes .entry)) old
         ++ verdictBy (now (region .entry)) old attributes
-        (wantedBy (s .setup .custom) presence (isSome (standing keyPK (entries (now (region .entry)))))
+        (wantedVerdicts (t .custom) presence (isSome (standing keyPK (entries (now (region .entry)))))
         (keyed (now (name .entry)) (now (vendor .entry))) attributes (stands old))
         verdict (stampOf attributes (now (bytes .entry))))) ⌝ }
 {
-    let t = rules::standing(session::at_runtime(s.phase), attributes, bytes, old);
-    match t {
+    let j = rules::standing(t.runtime, attributes, bytes, old);
+    match j {
         Judged::Kept => {
             let w = rules::wanted(
                 region,
-                s.setup.custom,
+                t.custom,
                 name,
                 vendor,
                 attributes,
@@ -77,13 +75,13 @@ fn judge_standing(
             let stamp = policy::stamp(attributes, bytes);
             rules::verdict(region, old, attributes, w, verdict, &stamp)
         }
-        Judged::Breaks(_) => t,
+        Judged::Breaks(_) => j,
     }
 }
 
-// The rules in their order, then the change.
+// Rules 3 to 12 in their order, then the change.
 fn judge(
-    s: Session,
+    t: Terms,
     region: &[u8],
     old: Found,
     name: &[u8],
@@ -94,17 +92,16 @@ fn judge(
     verdict: u32,
 ) -> Decision
     requires { ⌜ sound (now region) ≡ true ⌝ }
-    requires { ⌜ length (now region) ≤ 28672 ⌝ }
     requires { ⌜ old ≡ foundOf (standing (keyed (now name) (now vendor)) (entries (now region))) ⌝ }
-    ensures { λ r. ⌜ r ≡ decisionOf s (requestOf (now (name .entry)) (now (vendor .entry)) attributes (now (bytes .entry)) presence verdict)
-        (length (now (region .entry))) (values (entries (now (region .entry)))) ⌝ }
+    ensures { λ r. ⌜ r ≡ itemOf t (requestOf (now (name .entry)) (now (vendor .entry)) attributes (now (bytes .entry)) presence verdict)
+        (values (entries (now (region .entry)))) ⌝ }
 {
-    let q = rules::request(s, name, vendor, attributes);
+    let q = rules::request(t, name, vendor, attributes);
     match q {
         Judged::Breaks(rule) => Decision::Broken(rule),
         Judged::Kept => {
-            let t = judge_standing(
-                s,
+            let j = judge_standing(
+                t,
                 region,
                 old,
                 name,
@@ -114,18 +111,10 @@ fn judge(
                 presence,
                 verdict,
             );
-            match t {
+            match j {
                 Judged::Breaks(rule) => Decision::Broken(rule),
                 Judged::Kept => {
-                    let reserve = session::reserved(s.phase, s.setup.reserve);
-                    change::outcome(
-                        region,
-                        old,
-                        reserve,
-                        name,
-                        attributes,
-                        policy::proper(attributes, bytes),
-                    )
+                    change::outcome(region, old, attributes, policy::proper(attributes, bytes))
                 }
             }
         }
@@ -134,7 +123,7 @@ fn judge(
 
 // The decision on a set, and the places of the name's entries.
 pub fn decide(
-    s: Session,
+    t: Terms,
     region: &[u8],
     name: &[u8],
     vendor: &[u8; 16],
@@ -145,15 +134,15 @@ pub fn decide(
 ) -> Decided
     requires { ⌜ sound (now region) ≡ true ⌝ }
     requires { ⌜ length (now region) ≤ 28672 ⌝ }
-    ensures { λ r. ⌜ (r .what ≡ decisionOf s (requestOf (now (name .entry)) (now (vendor .entry)) attributes (now (bytes .entry)) presence verdict)
+    ensures { λ r. ⌜ (r .what ≡ decisionOf t (requestOf (now (name .entry)) (now (vendor .entry)) attributes (now (bytes .entry)) presence verdict)
         (length (now (region .entry))) (values (entries (now (region .entry)))))
         × (r .places .added ≡ foundOf (added (keyed (now (name .entry)) (now (vendor .entry))) (entries (now (region .entry)))))
         × (r .places .replacing ≡ foundOf (replacing (keyed (now (name .entry)) (now (vendor .entry))) (entries (now (region .entry))))) ⌝ }
 {
     let places = lookup::places(region, name, vendor);
     let old = lookup::standing(places);
-    let what = judge(
-        s,
+    let item = judge(
+        t,
         region,
         old,
         name,
@@ -162,6 +151,15 @@ pub fn decide(
         bytes,
         presence,
         verdict,
+    );
+    let what = change::roomed(
+        item,
+        t.reserve,
+        region,
+        old,
+        name.len(),
+        attributes,
+        policy::proper(attributes, bytes).len(),
     );
     Decided { what, places }
 }

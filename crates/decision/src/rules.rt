@@ -5,38 +5,34 @@ ghost use mathlib.Core.List.{[]};
 ghost use Rattle.model.specs.Lists.{isSome};
 ghost use Rattle.model.specs.Name.{keyed};
 ghost use Rattle.model.specs.Region.{entries, standing};
-ghost use Rattle.model.specs.Request.{keyPK};
-ghost use Rattle.model.specs.Rules.{firstBroken, requestRules};
-ghost use Rattle.policy.specs.Rules.{rule7Of};
-ghost use Rattle.policy.specs.Verdict.{verdictsOf, wantedBy};
+ghost use Rattle.model.specs.Request.{keyPK, wantedVerdicts};
+ghost use Rattle.model.specs.Rules.{firstBroken, requestRules, rule7};
+ghost use Rattle.policy.specs.Verdict.{verdictsOf};
 ghost use Rattle.decision.specs.Decision.{requestOf};
 ghost use Rattle.decision.specs.Parts.{judgedOf, onFound, standingBy, notLater, verdictBy};
 use crate::Judged;
 use layout::fixed;
 use model::Rule;
-use model::Session;
+use model::Terms;
 use policy::Wanted;
 use region::walk;
 use values::Found;
 use values::lookup;
 
 // Rules 3 to 6, on the call itself.
-pub(crate) fn request(s: Session, name: &[u8], vendor: &[u8; 16], attributes: u32) -> Judged
-    ensures { λ r. ⌜ r ≡ judgedOf (firstBroken (requestRules s (requestOf (now (name .entry)) (now (vendor .entry)) attributes [] 0 0))) ⌝ }
+pub(crate) fn request(t: Terms, name: &[u8], vendor: &[u8; 16], attributes: u32) -> Judged
+    ensures { λ r. ⌜ r ≡ judgedOf (firstBroken (requestRules t (requestOf (now (name .entry)) (now (vendor .entry)) attributes [] 0 0))) ⌝ }
 {
     if !slices::is_named(name) {
         return Judged::Breaks(Rule::Name);
     }
-    if policy::attributes_broken(session::at_runtime(s.phase), attributes) {
+    if policy::attributes_broken(t.runtime, attributes) {
         return Judged::Breaks(Rule::Attributes);
     }
     if policy::key_attributes_broken(name, vendor, attributes) {
         return Judged::Breaks(Rule::KeyAttributes);
     }
-    if session::in_boot(s.phase) {
-        return Judged::Kept;
-    }
-    if session::is_locked(s, name, vendor) {
+    if t.barred {
         return Judged::Breaks(Rule::Locked);
     }
     Judged::Kept
@@ -44,7 +40,7 @@ pub(crate) fn request(s: Session, name: &[u8], vendor: &[u8; 16], attributes: u3
 
 // Rule 7, where a value stands.
 fn attributes_differ(runtime: bool, attributes: u32, old: Found) -> bool
-    ensures { λ r. ⌜ r ≡ onFound old (λ at e. rule7Of runtime attributes (e .attributes)) false ⌝ }
+    ensures { λ r. ⌜ r ≡ onFound old (λ at e. rule7 runtime attributes (e .attributes)) false ⌝ }
 {
     match old {
         Found::At(_, e) => policy::standing_broken(runtime, attributes, e.attributes),
@@ -81,14 +77,14 @@ fn user_mode(region: &[u8]) -> bool
 // Verdict wanted. The mode is asked for key names only.
 pub fn wanted(
     region: &[u8],
-    custom: u32,
+    custom: bool,
     name: &[u8],
     vendor: &[u8; 16],
     attributes: u32,
     presence: u32,
     stands: bool,
 ) -> Wanted
-    ensures { λ r. ⌜ verdictsOf r ≡ wantedBy custom presence (isSome (standing keyPK (entries (now (region .entry)))))
+    ensures { λ r. ⌜ verdictsOf r ≡ wantedVerdicts custom presence (isSome (standing keyPK (entries (now (region .entry)))))
         (keyed (now (name .entry)) (now (vendor .entry))) attributes stands ⌝ }
 {
     if fixed::is_key_name(name, vendor) {

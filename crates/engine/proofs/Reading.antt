@@ -18,7 +18,7 @@ use Rattle.model.specs.Entry.{Value}
 use Rattle.model.specs.Walk.{Entry, entryValue, placed}
 use Rattle.model.specs.Region.{entries, values, valuesOf, valuesIn}
 use Rattle.model.specs.Session.{countedPhase, atRuntime}
-use Rattle.model.specs.Rules.{firstBroken, rule3, rule3Next, rule11Read, rule14, seen, valueToGet, valueToName, gotBytes, namedBytes, getBroken, nextBroken}
+use Rattle.model.specs.Rules.{firstBroken, rule3, rule3Next, rule11Read, rule14, valueToGet, valueToName, gotBytes, namedBytes, getBroken, nextBroken}
 use Rattle.model.specs.Answers.{ruleNumber, refusal, written, done, refused, outcome, getReply, nextReply, getPlan, nextPlan}
 use Rattle.model.specs.Beside.{Gives}
 use Rattle.model.specs.Book as book
@@ -38,8 +38,8 @@ use Rattle.region.proofs.Entries.{vendor}
 use Rattle.values.specs.declared.Found.{Found}
 use Rattle.values.specs.declared.Found.the-variants.{At, Nothing}
 use Rattle.values.proofs.Sizes.{lengths}
-use Rattle.query.specs.Query.{entryIn, seenAt, getAt, nameAt}
-use Rattle.query.proofs.Held.{valueIn, session-get}
+use Rattle.query.specs.Query.{entryIn}
+use Rattle.query.proofs.Held.{valueIn}
 use Rattle.engine.specs.Read.{foundBroken, readBroken, replyOf, foundReply, shortOf, replyTo, refusedGot, Answered, nextAt, nextBrokenAt, nextReplyAt}
 use Rattle.engine.proofs.Opened.{Opens, Refuses}
 
@@ -142,20 +142,20 @@ read-as img bytes attributes buffer {found} {found′} {named} {named′} {got} 
 
 -- the region that was cut
 pub region-get : (s : Session) (k : Key) (img r : List ℕ) (runtime : Bool) → r ≡ region img → runtime ≡ eqb (countedPhase (s .phase)) 2
-    → getAt runtime k (values (entries r)) ≡ valueToGet s k (valuesOf img)
+    → valueToGet runtime k (values (entries r)) ≡ valueToGet (atRuntime s) k (valuesOf img)
 unfolding valuesIn atRuntime
 region-get s k img r runtime p q =
-    ap₂ (λ (t : Bool) (x : List ℕ). getAt t k (values (entries x))) q p ∙ session-get s k (valuesOf img)
+    ap₂ (λ (t : Bool) (x : List ℕ). valueToGet t k (values (entries x))) q p
 
 pub region-name : (phase : ℕ) (k : Key) (img r : List ℕ) (runtime : Bool) → r ≡ region img → runtime ≡ eqb (countedPhase phase) 2
-    → nameAt runtime k (values (entries r)) ≡ nextAt phase k img
+    → valueToName runtime k (values (entries r)) ≡ nextAt phase k img
 unfolding valuesIn
-region-name phase k img r runtime p q = ap₂ (λ (t : Bool) (x : List ℕ). nameAt t k (values (entries x))) q p
+region-name phase k img r runtime p q = ap₂ (λ (t : Bool) (x : List ℕ). valueToName t k (values (entries x))) q p
 
 -- ---- whole calls
 
 pub get-answered : (x : Context) (s : Session) (k : Key) (buffer img : List ℕ) {got : Got} {after : List ℕ}
-    → Read img (valueToGet s k (valuesOf img)) gotBytes (λ v. v .attributes) buffer (wellNamed (k .name)) got after
+    → Read img (valueToGet (atRuntime s) k (valuesOf img)) gotBytes (λ v. v .attributes) buffer (wellNamed (k .name)) got after
     → Returned (book.get s k buffer) x img img (got .answer)
     × Gives (getReply s k buffer img) (got .size) (got .attributes) (got .needed) after
 unfolding getPlan getReply getBroken rule3 readBroken replyOf
@@ -165,7 +165,7 @@ get-answered x s k buffer img h =
 -- a name has no attributes
 no-attributes : (s : Session) (k : Key) (buffer img : List ℕ) → nextReply s k buffer img .attributes ≡ 0
 unfolding nextReply refusal written
-no-attributes s k buffer img = go (nextBroken s k buffer img) (valueToName s k (valuesOf img))
+no-attributes s k buffer img = go (nextBroken s k buffer img) (valueToName (atRuntime s) k (valuesOf img))
   where
     go : (o : Option Rule) (v : Option Value)
         → (onSome o (λ rule. refusal rule (onSome v (λ w. length (namedBytes w)) 0) buffer) (onSome v (λ w. written (namedBytes w) 0 buffer) (written [] 0 buffer))) .attributes ≡ 0
@@ -177,6 +177,6 @@ pub next-answered : (x : Context) (s : Session) (k : Key) (buffer img : List ℕ
     → Answered (nextBrokenAt (s .phase) k buffer img) (nextReplyAt (s .phase) k buffer img) got after
     → Returned (book.next s k buffer) x img img (got .answer)
     × Gives (nextReply s k buffer img) (got .size) 0 (got .needed) after
-unfolding nextPlan nextReply nextBroken rule3Next readBroken replyOf nameAt seenAt valueToName seen atRuntime
+unfolding nextPlan nextReply nextBroken rule3Next readBroken replyOf atRuntime
 next-answered x s k buffer img h =
     ((h .answer ∙ sym (no-stores x (nextBroken s k buffer img) img), refl), (h .size, sym (no-attributes s k buffer img), h .needed, h .buffer))

@@ -5,11 +5,12 @@ use Prim.Native.Nat.{ℕ, _+_, _*_, _^_, _≤_}
 use native.Mathlib.Omega.{arith}
 use mathlib.Core.Path.{_≡_, refl, sym, ap, _∙_, subst}
 use mathlib.Core.Bool.{Bool, true, false}
-use mathlib.Core.List.{List, [], _++_}
+use mathlib.Core.List.{List, [], _∷_, _++_}
 use mathlib.Core.Option.{Option, none, some}
 use lib.ListN.{length}
 use Rattle.model.specs.Layout.{authenticated}
 use Rattle.model.specs.declared.Session.{Session}
+use Rattle.model.specs.declared.Terms.{Terms}
 use Rattle.model.specs.declared.Rule.{Rule}
 use Rattle.model.specs.Lists.{part, isSome, onSome}
 use Rattle.model.specs.Name.{keyed}
@@ -17,9 +18,9 @@ use Rattle.model.specs.Image.{block, regionSize, region}
 use Rattle.model.specs.Entry.{Value}
 use Rattle.model.specs.Walk as walk
 use Rattle.model.specs.Region.{entries, sound, values, valuesOf, added, replacing, standing, find, valuesIn}
-use Rattle.model.specs.Request.{Request, requestKey, dataProper, stampToStore}
+use Rattle.model.specs.Request.{Request, requestKey, stampToStore}
 use Rattle.model.specs.Change.{Change, nothing, remove, put, changeIn, newData, newStamp, newValue}
-use Rattle.model.specs.Rules.{firstBroken, imageRules, requestRules, standingRules, resultRules, roomRules, rule8, setBroken, imageRulesIn}
+use Rattle.model.specs.Rules.{firstBroken, termsOf, imageRules, requestRules, standingRules, itemRules, roomRules, rule8, setBroken, imageRulesIn}
 use Rattle.model.specs.Stores.{Store, Bytes}
 use Rattle.model.specs.Set.{Plan, refuse, make, fitsTail, deleteTo, putPlan, changePlan, setPlan}
 use Rattle.model.specs.Answers.{storesOf}
@@ -31,8 +32,6 @@ use Rattle.values.specs.declared.Places.{Places}
 use Rattle.image.proofs.Ready.{refused-rule}
 use Rattle.image.specs.Check.{callOf, IsReady}
 use Rattle.image.specs.declared.Check.the-variants.{Refused}
-use Rattle.policy.specs.Rules.{rule8Of}
-use Rattle.policy.proofs.Plain.{rule8-plain}
 use Rattle.model.specs.Book.{set, planOf, Sized, ClearsOne, isState, isRecord, inPlace}
 use Rattle.recovery.proofs.Bits.{marks-clear-one-bit}
 use Rattle.plan.specs.declared.Op.{Op}
@@ -57,13 +56,10 @@ unfolding setPlan setBroken
 image-refused s q img rule h =
     let vs : List Value = valuesOf img in
     let i : List (Rule × Bool) = imageRules img in
-    let a : List (Rule × Bool) = requestRules s q in
-    let b : List (Rule × Bool) = standingRules s q vs in
-    let c : List (Rule × Bool) = resultRules q vs in
-    let d : List (Rule × Bool) = roomRules s q (regionSize img) vs in
+    let a : List (Rule × Bool) = itemRules (termsOf s (requestKey q)) q vs in
+    let d : List (Rule × Bool) = roomRules (termsOf s (requestKey q)) (regionSize img) (changeIn q vs ∷ []) vs in
     let first : firstBroken i ≡ some rule = refused-rule authenticated img rule h in
-    let broken : firstBroken (i ++ a ++ b ++ c ++ d) ≡ some rule =
-    broken-append (i ++ a ++ b ++ c) d ∙ rw (broken-append (i ++ a ++ b) c, broken-append (i ++ a) b, broken-append i a, first) in
+    let broken : firstBroken (i ++ a ++ d) ≡ some rule = broken-append (i ++ a) d ∙ rw (broken-append i a, first) in
     ap (λ (o : Option Rule). onSome o refuse (changePlan img (changeIn q vs))) broken
 
 -- what the decision asks of the region that was cut
@@ -75,22 +71,26 @@ region-asked ready cut =
 
 -- the region that was cut, with the decision over it and the places found in it
 module _ (s : Session) (name vendor : List ℕ) (a : ℕ) (bytes : List ℕ) (presence verdict : ℕ) (places : Places)
-    {img r : List ℕ} {b at : ℕ} {what : Decision} (ready : IsReady img b at) (cut : r ≡ part 0 (4096 * b) img)
-    (d : (what ≡ decisionOf s (requestOf name vendor a bytes presence verdict) (length r) (values (entries r)))
+    {img r : List ℕ} {b at : ℕ} {what : Decision} {t : Terms} (ready : IsReady img b at) (cut : r ≡ part 0 (4096 * b) img) (told : t ≡ termsOf s (keyed name vendor))
+    (d : (what ≡ decisionOf t (requestOf name vendor a bytes presence verdict) (length r) (values (entries r)))
     × (places .added ≡ foundOf (added (keyed name vendor) (entries r)))
     × (places .replacing ≡ foundOf (replacing (keyed name vendor) (entries r)))) where
   abbrev q : Request
   q = requestOf name vendor a bytes presence verdict
 
+  abbrev terms : Terms
+  terms = termsOf s (keyed name vendor)
+
   its-region : r ≡ region img
   its-region = cut ∙ ready .cut
 
-  decided : decisionOf s q (regionSize img) (valuesOf img) ≡ what
+  decided : decisionOf terms q (regionSize img) (valuesOf img) ≡ what
   unfolding valuesIn
   decided =
       let long : length (region img) ≡ regionSize img = ready .long ∙ sym (region-size img b (ready .number)) in
-      sym (d .0 ∙ ap (λ (x : List ℕ). decisionOf s q (length x) (values (entries x))) its-region
-      ∙ ap (λ (n : ℕ). decisionOf s q n (values (entries (region img)))) long)
+      sym (d .0 ∙ ap (λ (y : Terms). decisionOf y q (length r) (values (entries r))) told
+      ∙ ap (λ (x : List ℕ). decisionOf terms q (length x) (values (entries x))) its-region
+      ∙ ap (λ (n : ℕ). decisionOf terms q n (values (entries (region img)))) long)
 
   found-added : places .added ≡ foundOf (added (keyed name vendor) (entries (region img)))
   found-added = d .1 ∙ ap (λ (x : List ℕ). foundOf (added (keyed name vendor) (entries x))) its-region
@@ -113,13 +113,13 @@ module _ (s : Session) (name vendor : List ℕ) (a : ℕ) (bytes : List ℕ) (pr
 
   pub set-nothing : what ≡ decision.Nothing → setPlan s q img ≡ make [] []
   unfolding changePlan
-  set-nothing h = plan nothing (ap brokenOf h) (nothing-change s q (regionSize img) (valuesOf img) (decided ∙ h))
+  set-nothing h = plan nothing (ap brokenOf h) (nothing-change terms q (regionSize img) (valuesOf img) (decided ∙ h))
 
   -- ---- a delete
 
   pub remove-plan : what ≡ decision.Remove → setPlan s q img ≡ make (deleteTo (keyed name vendor) (entries (region img))) []
   unfolding changePlan
-  remove-plan h = plan (remove (requestKey q)) (ap brokenOf h) (remove-change s q (regionSize img) (valuesOf img) (decided ∙ h))
+  remove-plan h = plan (remove (requestKey q)) (ap brokenOf h) (remove-change terms q (regionSize img) (valuesOf img) (decided ∙ h))
 
   below : (end : ℕ) → length (region img) ≤ end → Below end (places .added) × Below end (places .replacing)
   below end l = places-below img (ready .right) (ready-clean img (ready .ready)) (places .added) (places .replacing) (keyed name vendor) found-added found-replacing end l
@@ -134,7 +134,7 @@ module _ (s : Session) (name vendor : List ℕ) (a : ℕ) (bytes : List ℕ) (pr
       let k = keyed name vendor in
       let es = entries (region img) in
       let present : isSome (find k (valuesOf img)) ≡ true =
-      remove-present s q img (broken ∙ ap brokenOf h) k (remove-change s q (regionSize img) (valuesOf img) (decided ∙ h)) in
+      remove-present s q img (broken ∙ ap brokenOf h) k (remove-change terms q (regionSize img) (valuesOf img) (decided ∙ h)) in
       let looked : find k (values es) ≡ onSome (standing k es) (λ e. some (walk.entryValue e)) none =
       find-standing (length (region img)) es k (sound-parts authenticated (region img) (ready .sounds) .1) in
       go (standing k es) (ap isSome (sym looked) ∙ present)
@@ -162,29 +162,29 @@ module _ (s : Session) (name vendor : List ℕ) (a : ℕ) (bytes : List ℕ) (pr
       let es = entries (region img) in
       let l = image-long img b (ready .right) (ready .number) in
       let x = below (length img) (omega (arith, ready .long, l .1)) in
-      let clears = remove-clears s q img k bytes-img args (remove-change s q (regionSize img) (valuesOf img) (decided ∙ h)) (remove-plan h) in
+      let clears = remove-clears s q img k bytes-img args (remove-change terms q (regionSize img) (valuesOf img) (decided ∙ h)) (remove-plan h) in
       accepted-plans before c img (setPlan s q img) (deletePlan places) 1 (deleteTo k es) [] e o (delete-to c places k es found-added found-replacing)
       (delete-on c places k es found-added found-replacing) (remove-plan h) (remove-decides h c o e) (delete-ready c img places k found-added found-replacing (x .0) (x .1) clears)
 
   -- ---- a put
 
   new-plain : newValue q (find (keyed name vendor) (valuesOf img)) ≡ valueToPut img name vendor a bytes
-  unfolding valueToPut newValue newData newStamp dataProper stampToStore
+  unfolding valueToPut newValue newData newStamp stampToStore
   new-plain = refl
 
   asked-change : what ≡ decision.Put → changeIn q (valuesOf img) ≡ put (valueToPut img name vendor a bytes)
-  asked-change h = put-change s q (regionSize img) (valuesOf img) (decided ∙ h) ∙ ap put new-plain
+  asked-change h = put-change terms q (regionSize img) (valuesOf img) (decided ∙ h) ∙ ap put new-plain
 
   pub put-plan : what ≡ decision.Put → setPlan s q img ≡ putPlan img (valueToPut img name vendor a bytes)
   unfolding changePlan
   put-plan h = plan (put (valueToPut img name vendor a bytes)) (ap brokenOf h) (asked-change h)
 
-  pub put-asked : what ≡ decision.Put → Asked img b at places (valueToPut img name vendor a bytes) × (rule8Of a bytes ≡ false)
-  unfolding setBroken imageRulesIn requestRules standingRules valueToPut newValue newData dataProper
+  pub put-asked : what ≡ decision.Put → Asked img b at places (valueToPut img name vendor a bytes) × (rule8 a bytes ≡ false)
+  unfolding setBroken imageRulesIn itemRules requestRules standingRules valueToPut newValue newData
   put-asked h =
       let v = valueToPut img name vendor a bytes in
       let accepted : setBroken s q img ≡ none = broken ∙ ap brokenOf h in
-      let k : rule8 q ≡ false = unbroken _ 8 accepted in (
+      let k : rule8 a bytes ≡ false = unbroken _ 8 accepted in (
         record {
           ready = ready;
           added = found-added;
@@ -192,7 +192,7 @@ module _ (s : Session) (name vendor : List ℕ) (a : ℕ) (bytes : List ℕ) (pr
           valid = put-is-valid s q img accepted v (asked-change h);
           room = put-fits s q img accepted v (asked-change h);
         },
-        sym (rule8-plain q) ∙ k,
+        k,
       )
 
   put-kept : (before c : List ℕ) → what ≡ decision.Put → Kept (setPlan s q img) before c

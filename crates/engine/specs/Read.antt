@@ -12,7 +12,7 @@ use Rattle.model.specs.Name.{Key, wellNamed, emptyName}
 use Rattle.model.specs.Entry.{Value}
 use Rattle.model.specs.Region.{tailAt, valuesOf}
 use Rattle.model.specs.Session.{countedPhase}
-use Rattle.model.specs.Rules.{firstBroken, imageRules, rule11Read, rule14, namedBytes}
+use Rattle.model.specs.Rules.{firstBroken, imageRules, rule11Read, rule14, namedBytes, valueToName}
 use Rattle.model.specs.Answers.{ruleNumber, Reply, refusal, written, answerOf, done, refused}
 use Rattle.model.specs.declared.Rule.{Rule}
 use Rattle.model.specs.declared.Rule.the-variants.{Name, Absent, Buffer}
@@ -20,7 +20,6 @@ use Rattle.model.specs.declared.Answer.the-variants.{Refused}
 use Rattle.model.specs.declared.Got.{Got}
 use Rattle.image.specs.declared.Check.{Check}
 use Rattle.image.specs.declared.Check.the-variants as call
-use Rattle.query.specs.Query.{nameAt}
 
 -- rules 1, 2 and 3, of an image and of whether the name is one that the call takes
 unfoldable pub openOf : List ℕ → Bool → Check
@@ -57,7 +56,7 @@ replyTo bytes attributes buffer =
 
 -- of next-name, at a phase: the value found, the rule broken, the reply
 abbrev pub nextAt : ℕ → Key → List ℕ → Option Value
-nextAt phase k img = nameAt (eqb (countedPhase phase) 2) k (valuesOf img)
+nextAt phase k img = valueToName (eqb (countedPhase phase) 2) k (valuesOf img)
 
 abbrev pub nextNamed : Key → Bool
 nextNamed k = wellNamed (k .name) || same (k .name) emptyName

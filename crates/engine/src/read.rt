@@ -7,12 +7,11 @@ ghost use lib.ListN.{length};
 ghost use Rattle.model.specs.Lists.{same, overlay};
 ghost use Rattle.model.specs.Name.{keyed, wellNamed, emptyName};
 ghost use Rattle.model.specs.Region.{entries, values};
-ghost use Rattle.model.specs.Rules.{gotBytes, namedBytes};
+ghost use Rattle.model.specs.Rules.{gotBytes, namedBytes, valueToGet, valueToName};
 ghost use Rattle.model.specs.Answers.{getReply, nextReply};
 ghost use Rattle.model.specs.Beside.{Gives};
 ghost use Rattle.model.specs.Book as book;
 ghost use Rattle.recovery.specs.Interface.{Returned};
-ghost use Rattle.query.specs.Query.{getAt, nameAt};
 ghost use Rattle.engine.specs.Read.{openOf, refusedGot, Answered, shortOf, replyTo, foundBroken, foundReply, nextBrokenAt, nextReplyAt};
 use image::Check;
 use model::Answer;
@@ -113,10 +112,10 @@ fn get_from(region: &[u8], runtime: bool, name: &[u8], vendor: &[u8; 16], buffer
     requires { ⌜ length (now region) ≤ 28672 ⌝ }
     ensures { λ r. ⌜ Answered
         (foundBroken
-        (getAt runtime (keyed (now (name .entry)) (now (vendor .entry))) (values (entries (now (region .entry)))))
+        (valueToGet runtime (keyed (now (name .entry)) (now (vendor .entry))) (values (entries (now (region .entry)))))
         gotBytes (now (buffer .entry)))
         (foundReply
-        (getAt runtime (keyed (now (name .entry)) (now (vendor .entry))) (values (entries (now (region .entry)))))
+        (valueToGet runtime (keyed (now (name .entry)) (now (vendor .entry))) (values (entries (now (region .entry)))))
         gotBytes (λ v. v .attributes) (now (buffer .entry)))
         r (now (buffer .exit)) ⌝ }
 {
@@ -132,10 +131,10 @@ fn name_from(region: &[u8], runtime: bool, name: &[u8], vendor: &[u8; 16], buffe
     requires { ⌜ length (now region) ≤ 28672 ⌝ }
     ensures { λ r. ⌜ Answered
         (foundBroken
-        (nameAt runtime (keyed (now (name .entry)) (now (vendor .entry))) (values (entries (now (region .entry)))))
+        (valueToName runtime (keyed (now (name .entry)) (now (vendor .entry))) (values (entries (now (region .entry)))))
         namedBytes (now (buffer .entry)))
         (foundReply
-        (nameAt runtime (keyed (now (name .entry)) (now (vendor .entry))) (values (entries (now (region .entry)))))
+        (valueToName runtime (keyed (now (name .entry)) (now (vendor .entry))) (values (entries (now (region .entry)))))
         namedBytes (λ v. 0) (now (buffer .entry)))
         r (now (buffer .exit)) ⌝ }
 {

@@ -56,7 +56,7 @@ fn plan_ready(
 {
     let attributes = asking.attributes;
     let d = decision::decide(
-        s,
+        session::terms(s, name, vendor),
         slices::cut(image, 0, layout::BLOCK * b),
         name,
         vendor,

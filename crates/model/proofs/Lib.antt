@@ -27,3 +27,5 @@ pub mod Requests
 pub mod Locks
 -- A move between forms
 pub mod Moving
+-- Which values the rules of a set look at
+pub mod Looking

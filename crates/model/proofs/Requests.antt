@@ -14,16 +14,15 @@ use borrow.Author.Tests.{ltb-false, leb-true, eqb-true, eqb-false, ne-eqb, not-f
 use Rattle.model.specs.declared.Session.{Session}
 use Rattle.model.specs.declared.Rule.{Rule}
 use Rattle.model.specs.Layout.{authenticated}
-use Rattle.model.specs.Lists.{allFF, among, isEmpty, isSome, onSome, orElse}
+use Rattle.model.specs.Lists.{allFF, among, isSome, onSome, orElse}
 use Rattle.model.specs.Name.{Key, wellNamed}
 use Rattle.model.specs.Image.{rightLength, regionSize, region, work, spare}
 use Rattle.model.specs.Entry.{Value, keyOf}
 use Rattle.model.specs.Region.{maxData, storedAttributes, tail, sound, clean, cleanIn, valuesOf, valuesIn, find}
 use Rattle.model.specs.Work.{idle, readyForCall, readyIn, readyForStartUp}
-use Rattle.model.specs.Session.{reserved}
 use Rattle.model.specs.Request.{Request, requestKey, stampSize, timeBased, appends, withoutAppend, dataProper, stampToStore, later, properAt, rightDescriptor}
-use Rattle.model.specs.Change.{nothing, remove, put, deletes, emptyAppend, equalTo, newData, laterOf, newStamp, newValue, changeOf, changeIn, step, spaceOf}
-use Rattle.model.specs.Rules.{firstBroken, rule1, rule2In, rule2StartUp, rule3, rule4, rule8, rule11, rule12, rule13, imageRulesIn, requestRules, standingRules, resultRules, roomRules, removesAbsent, setBroken, getBroken, nextBroken, startUpBroken}
+use Rattle.model.specs.Change.{nothing, remove, put, deletes, emptyAppend, equalTo, newData, laterOf, newStamp, newValue, changeOf, changeIn, step, steps, spaceOf}
+use Rattle.model.specs.Rules.{firstBroken, rule1, rule2In, rule2StartUp, rule3, rule4, rule8, rule11, rule12, rule13, termsOf, imageRulesIn, requestRules, standingRules, resultRules, itemRules, roomRules, setBroken, getBroken, nextBroken, startUpBroken}
 use Rattle.model.specs.Answers.{ruleNumber}
 use Rattle.model.specs.Beside.{Valid}
 use Rattle.model.proofs.Encode.{AllValid, sound-valid}
@@ -78,30 +77,44 @@ unbroken (x ∷ xs) n h = go (eqb (ruleNumber (x .0)) n) (none-cons x xs h .0) (
 -- ---- what a change that puts says of the set
 
 record Puts (r : Request) (old : Option Value) (v : Value) : Type 0 where
-  kept : deletes r ≡ false
-  adds : emptyAppend r ≡ false
+  kept : deletes (r .attributes) (length (dataProper r)) ≡ false
+  adds : emptyAppend (r .attributes) (length (dataProper r)) ≡ false
   made : v ≡ newValue r old
 
 puts : (r : Request) (old : Option Value) (v : Value) → changeOf r old ≡ put v → Puts r old v
 unfolding changeOf
-puts r old v h = go (deletes r) refl (emptyAppend r) refl (onSome old (equalTo r) false) h
+puts r old v h =
+    go (deletes (r .attributes) (length (dataProper r))) refl (emptyAppend (r .attributes) (length (dataProper r))) refl
+    (onSome old (λ w. equalTo (r .attributes) (dataProper r) (w .attributes) (w .bytes)) false) h
   where
-    go : (d : Bool) → deletes r ≡ d → (e : Bool) → emptyAppend r ≡ e → (q : Bool)
+    go : (d : Bool) → deletes (r .attributes) (length (dataProper r)) ≡ d → (e : Bool) → emptyAppend (r .attributes) (length (dataProper r)) ≡ e → (q : Bool)
         → cond d (remove (requestKey r)) (cond (e || q) nothing (put (newValue r old))) ≡ put v → Puts r old v
     go true d e e′ q h = let z : _≡_ {A = ℕ} 0 1 = cc in absurd (omega arith)
     go false d true e q h = let z : _≡_ {A = ℕ} 0 1 = cc in absurd (omega arith)
     go false d false e true h = let z : _≡_ {A = ℕ} 0 1 = cc in absurd (omega arith)
     go false d false e false h = record { kept = d; adds = e; made = cc }
 
--- there are data proper, and they are the data to put or the end of them
-some-proper : (r : Request) → deletes r ≡ false → emptyAppend r ≡ false → 1 ≤ length (dataProper r)
-unfolding deletes emptyAppend
-some-proper r d e = go (dataProper r) (appends (r .attributes)) (or-split (eqb (r .attributes) 0) _ d .1) e
+-- a change that removes is of the set's own name
+removes : (r : Request) (old : Option Value) (k : Key) → changeOf r old ≡ remove k → k ≡ requestKey r
+unfolding changeOf
+removes r old k h =
+    go (deletes (r .attributes) (length (dataProper r)))
+    (emptyAppend (r .attributes) (length (dataProper r)) || onSome old (λ w. equalTo (r .attributes) (dataProper r) (w .attributes) (w .bytes)) false) h
   where
-    go : (xs : List ℕ) (t : Bool) → (isEmpty xs && not t) ≡ false → (isEmpty xs && t) ≡ false → 1 ≤ length xs
-    go [] true d e = absurd (true≢false e)
-    go [] false d e = absurd (true≢false d)
-    go (x ∷ xs) t d e = omega arith
+    go : (d e : Bool) → cond d (remove (requestKey r)) (cond e nothing (put (newValue r old))) ≡ remove k → k ≡ requestKey r
+    go true e h = cc
+    go false true h = let z : _≡_ {A = ℕ} 0 1 = cc in absurd (omega arith)
+    go false false h = let z : _≡_ {A = ℕ} 0 1 = cc in absurd (omega arith)
+
+-- there are data proper, and they are the data to put or the end of them
+some-proper : (a size : ℕ) → deletes a size ≡ false → emptyAppend a size ≡ false → 1 ≤ size
+unfolding deletes emptyAppend
+some-proper a size d e = go (eqb size 0) refl (appends a) (or-split (eqb a 0) _ d .1) e
+  where
+    go : (z : Bool) → eqb size 0 ≡ z → (t : Bool) → (z && not t) ≡ false → (z && t) ≡ false → 1 ≤ size
+    go true z true d e = absurd (true≢false e)
+    go true z false d e = absurd (true≢false d)
+    go false z t d e = let n = eqb-false size 0 z in omega arith
 
 some-new : (r : Request) (old : Option Value) → 1 ≤ length (dataProper r) → 1 ≤ length (newData r old)
 unfolding newData
@@ -124,11 +137,11 @@ new-attributes a h n z = go (appends a) refl h
         rw q at h
     go false e h = rw z at h
 
-put-attributes : (s : Session) (r : Request) → rule4 s r ≡ false → deletes r ≡ false → among storedAttributes (withoutAppend (r .attributes)) ≡ true
+put-attributes : (runtime : Bool) (a size : ℕ) → rule4 runtime a ≡ false → deletes a size ≡ false → among storedAttributes (withoutAppend a) ≡ true
 unfolding rule4 deletes
-put-attributes s r h d =
+put-attributes runtime a size h d =
     let p = or-split _ _ (or-split _ _ h .0) in
-    new-attributes (r .attributes) (not-false _ (p .0)) (p .1) (or-split _ _ d .0)
+    new-attributes a (not-false _ (p .0)) (p .1) (or-split _ _ d .0)
 
 -- a stamp is 16 bytes
 descriptor-length : (bytes : List ℕ) → rightDescriptor bytes ≡ true → stampSize ≤ length bytes
@@ -165,7 +178,7 @@ image-valid img l h =
     sound-valid authenticated (region img) (region-chunked authenticated (i .b) (ap length (ap region (i .whole) ∙ parts-region (i .parts))
     ∙ i .parts .region-long) s)
 
-stamp-length : (r : Request) → rule8 r ≡ false → length (stampToStore r) ≡ 16
+stamp-length : (r : Request) → rule8 (r .attributes) (r .bytes) ≡ false → length (stampToStore r) ≡ 16
 unfolding rule8 stampToStore
 stamp-length r h = go (timeBased (r .attributes)) (rightDescriptor (r .bytes)) refl h
   where
@@ -196,13 +209,13 @@ module _ (s : Session) (r : Request) (img : List ℕ) (accepted : setBroken s r 
       find-holds Valid (AllValid authenticated) (λ w ws h. h) (requestKey r) (valuesOf img) (image-valid img set-length set-ready) v e .stamp
 
   pub put-is-valid : (v : Value) → changeIn r (valuesOf img) ≡ put v → length (r .vendor) ≡ 16 → Valid v
-  unfolding setBroken imageRulesIn requestRules standingRules resultRules rule3 rule12 changeIn newValue
+  unfolding setBroken imageRulesIn itemRules requestRules standingRules resultRules rule3 rule12 changeIn newValue
   put-is-valid v c g =
       let p = puts r (find (requestKey r) (valuesOf img)) v c in
       let n : rule3 (requestKey r) ≡ false = unbroken _ 3 accepted in
-      let q : rule4 s r ≡ false = unbroken _ 4 accepted in
-      let d : rule8 r ≡ false = unbroken _ 8 accepted in
-      let h : rule12 r (valuesOf img) ≡ false = unbroken _ 12 accepted in
+      let q : rule4 (termsOf s (requestKey r) .runtime) (r .attributes) ≡ false = unbroken _ 4 accepted in
+      let d : rule8 (r .attributes) (r .bytes) ≡ false = unbroken _ 8 accepted in
+      let h : rule12 (changeIn r (valuesOf img)) ≡ false = unbroken _ 12 accepted in
       let few : length (v .bytes) ≤ maxData = ltb-false maxData (length (v .bytes)) (rw c at h) in
       rw (p .made)
       (record {
@@ -210,23 +223,23 @@ module _ (s : Session) (r : Request) (img : List ℕ) (accepted : setBroken s r 
         vendor = g;
         stamp = new-stamp (λ (x : List ℕ). length x ≡ 16) r (find (requestKey r) (valuesOf img)) (stamp-length r d) old-stamp;
         stampless = λ e. absurd (true≢false e);
-        attributes = put-attributes s r q (p .kept);
-        some-data = some-new r (find (requestKey r) (valuesOf img)) (some-proper r (p .kept) (p .adds));
+        attributes = put-attributes (termsOf s (requestKey r) .runtime) (r .attributes) (length (dataProper r)) q (p .kept);
+        some-data = some-new r (find (requestKey r) (valuesOf img)) (some-proper (r .attributes) (length (dataProper r)) (p .kept) (p .adds));
         few-data = rw (p .made) at few;
       })
 
   pub put-fits : (v : Value) → changeIn r (valuesOf img) ≡ put v → spaceOf (step (put v) (valuesOf img)) ≤ regionSize img
-  unfolding setBroken imageRulesIn requestRules standingRules resultRules roomRules rule13
+  unfolding setBroken imageRulesIn itemRules requestRules standingRules resultRules roomRules rule13 steps
   put-fits v c =
-      let h : rule13 s r (regionSize img) (valuesOf img) ≡ false = unbroken _ 13 accepted in
-      let l : ltb (regionSize img) (spaceOf (step (put v) (valuesOf img)) + reserved s) ≡ false = rw c at h in
+      let h : rule13 (termsOf s (requestKey r) .reserve) (regionSize img) (changeIn r (valuesOf img) ∷ []) (valuesOf img) ≡ false = unbroken _ 13 accepted in
+      let l : ltb (regionSize img) (spaceOf (step (put v) (valuesOf img)) + termsOf s (requestKey r) .reserve) ≡ false = rw c at h in
       omega (arith, ltb-false)
 
   pub remove-present : (k : Key) → changeIn r (valuesOf img) ≡ remove k → isSome (find k (valuesOf img)) ≡ true
-  unfolding setBroken imageRulesIn requestRules standingRules resultRules rule11 removesAbsent
+  unfolding setBroken imageRulesIn itemRules requestRules standingRules resultRules rule11 changeIn
   remove-present k c =
-      let h : rule11 r (valuesOf img) ≡ false = unbroken _ 11 accepted in
-      not-false (isSome (find k (valuesOf img))) (rw c at h)
+      let h : rule11 (changeIn r (valuesOf img)) (find (requestKey r) (valuesOf img)) ≡ false = unbroken _ 11 accepted in
+      rw (removes r (find (requestKey r) (valuesOf img)) k c) (not-false (isSome (find (requestKey r) (valuesOf img))) (rw c at h))
 
 -- ---- the other calls
 

@@ -3,8 +3,9 @@ use Prim.Native.Nat.{ℕ, _+_}
 use mathlib.Core.Bool.{Bool, false, not, cond, _&&_, _||_}
 use mathlib.Core.List.{List, [], _∷_, _++_}
 use mathlib.Core.Option.{Option}
+use lib.ListN.{length}
 use lib.Dec.{eqb}
-use Rattle.model.specs.Lists.{same, keep, isEmpty, onSome}
+use Rattle.model.specs.Lists.{same, keep, onSome}
 use Rattle.model.specs.declared.Layout.{Layout}
 use Rattle.model.specs.Layout.{authenticated}
 use Rattle.model.specs.Image.{regionHeaderSize}
@@ -18,21 +19,17 @@ pub data Change : Type 0 where
   remove : Key → Change
   put : Value → Change
 
--- "Attributes 0, or empty data proper without append, delete."
-unfoldable pub deletes : Request → Bool
-deletes r = eqb (r .attributes) 0 || (isEmpty (dataProper r) && not (appends (r .attributes)))
+-- "Attributes 0, or empty data proper without append, delete.": by attributes and the size of the data proper
+unfoldable pub deletes : ℕ → ℕ → Bool
+deletes a size = eqb a 0 || (eqb size 0 && not (appends a))
 
 -- "An empty append changes nothing."; 02 (b): it "still changes nothing", whatever its stamp
-unfoldable pub emptyAppend : Request → Bool
-emptyAppend r = isEmpty (dataProper r) && appends (r .attributes)
+unfoldable pub emptyAppend : ℕ → ℕ → Bool
+emptyAppend a size = eqb size 0 && appends a
 
--- "Equal data and attributes, neither 0x20 nor 0x40 among them: no stores."
-unfoldable pub equalTo : Request → Value → Bool
-equalTo r v =
-    same (dataProper r) (v .bytes)
-    && eqb (r .attributes) (v .attributes)
-    && not (timeBased (r .attributes))
-    && not (appends (r .attributes))
+-- "Equal data and attributes, neither 0x20 nor 0x40 among them: no stores.": attributes and data proper beside those stored
+unfoldable pub equalTo : ℕ → List ℕ → ℕ → List ℕ → Bool
+equalTo a proper stored old = same proper old && eqb a stored && not (timeBased a) && not (appends a)
 
 -- "Append joins the data, and creates if absent."
 unfoldable pub newData : Request → Option Value → List ℕ
@@ -64,9 +61,13 @@ newValue r old = record {
 unfoldable pub changeOf : Request → Option Value → Change
 changeOf r old =
     cond
-    (deletes r)
+    (deletes (r .attributes) (length (dataProper r)))
     (remove (requestKey r))
-    (cond (emptyAppend r || onSome old (equalTo r) false) nothing (put (newValue r old)))
+    (cond
+    (emptyAppend (r .attributes) (length (dataProper r))
+    || onSome old (λ v. equalTo (r .attributes) (dataProper r) (v .attributes) (v .bytes)) false)
+    nothing
+    (put (newValue r old)))
 
 -- the list of values after a change: a delete takes its value out, any other drops the old value and adds at the end
 unfoldable pub without : Key → List Value → List Value
@@ -76,6 +77,11 @@ unfoldable pub step : Change → List Value → List Value
 step nothing vs = vs
 step (remove k) vs = without k vs
 step (put v) vs = without (keyOf v) vs ++ (v ∷ [])
+
+-- changes one after another
+unfoldable pub steps : List Change → List Value → List Value
+steps [] vs = vs
+steps (c ∷ cs) vs = steps cs (step c vs)
 
 -- the change of a set over a list of values
 unfoldable pub changeIn : Request → List Value → Change

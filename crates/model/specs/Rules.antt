@@ -1,24 +1,25 @@
 -- 01, "Rules a call can break, in checking order". ruleN says whether rule N is broken.
 use Prim.Native.Nat.{ℕ, _+_}
-use mathlib.Core.Bool.{Bool, false, not, cond, _&&_, _||_}
+use mathlib.Core.Bool.{Bool, true, false, not, cond, _&&_, _||_}
 use mathlib.Core.List.{List, [], _∷_, _++_}
 use mathlib.Core.Option.{Option, none, some}
 use lib.ListN.{length}
 use lib.Dec.{eqb, leb, ltb}
 use Rattle.model.specs.declared.Layout.{Layout}
 use Rattle.model.specs.declared.Session.{Session}
+use Rattle.model.specs.declared.Terms.{Terms}
 use Rattle.model.specs.declared.Rule.{Rule}
 use Rattle.model.specs.declared.Rule.the-variants.{Length, Unready, Name, Attributes, KeyAttributes, Locked, Standing, Descriptor, Verdict, Stamp, Absent, DataSize, Room, Buffer, LockPhase, LockSpace}
 use Rattle.model.specs.Layout.{authenticated}
-use Rattle.model.specs.Lists.{same, keep, among, isEmpty, isSome, onSome, head}
+use Rattle.model.specs.Lists.{same, keep, any, among, isEmpty, isSome, onSome, head}
 use Rattle.model.specs.Image.{rightLength, regionSize}
 use Rattle.model.specs.Name.{Key, sameKey, wellNamed, emptyName}
 use Rattle.model.specs.Entry.{Value, keyOf}
 use Rattle.model.specs.Region.{maxData, storedAttributes, valuesOf, find}
 use Rattle.model.specs.Work.{readyIn, readyForStartUp}
-use Rattle.model.specs.Session.{inBoot, atRuntime, reserved, countedLocks, lockSpace, locked}
-use Rattle.model.specs.Request.{Request, requestKey, runtimeAccess, timeBased, appends, withoutAppend, isKeyName, wantedVerdicts, rightDescriptor, stampToStore, later}
-use Rattle.model.specs.Change.{Change, nothing, remove, put, changeIn, step, spaceOf}
+use Rattle.model.specs.Session.{inBoot, atRuntime, customMode, reserved, countedLocks, lockSpace, locked}
+use Rattle.model.specs.Request.{Request, requestKey, runtimeAccess, timeBased, appends, withoutAppend, isKeyName, userMode, wantedVerdicts, rightDescriptor, stampToStore, later}
+use Rattle.model.specs.Change.{Change, nothing, remove, put, changeOf, changeIn, steps, spaceOf}
 
 -- "The first broken is the answer": of rules in checking order, each with whether it is broken
 unfoldable pub firstBroken : List (Rule × Bool) → Option Rule
@@ -48,71 +49,66 @@ unfoldable pub rule3Next : Key → Bool
 rule3Next k = not (wellNamed (k .name) || same (k .name) emptyName)
 
 -- 4. "Attributes without 0x40 are none of 0, 0x03, 0x07, 0x23, 0x27, or are exactly 0x40, or at runtime are not 0 and lack RT."
-unfoldable pub rule4 : Session → Request → Bool
-rule4 s r =
-    not (among (0 ∷ storedAttributes) (withoutAppend (r .attributes)))
-    || eqb (r .attributes) 0x40
-    || (atRuntime s && not (eqb (r .attributes) 0) && not (runtimeAccess (r .attributes)))
+--    By whether the phase is runtime, and attributes
+unfoldable pub rule4 : Bool → ℕ → Bool
+rule4 runtime a =
+    not (among (0 ∷ storedAttributes) (withoutAppend a))
+    || eqb a 0x40
+    || (runtime && not (eqb a 0) && not (runtimeAccess a))
 
 -- 5. "A key name has other attributes than 0x27 or 0x67."
-unfoldable pub rule5 : Request → Bool
-rule5 r = isKeyName (requestKey r) && not (among (0x27 ∷ 0x67 ∷ []) (r .attributes))
+unfoldable pub rule5 : Key → ℕ → Bool
+rule5 k a = isKeyName k && not (among (0x27 ∷ 0x67 ∷ []) a)
 
 -- 6. "The name is locked and the phase is not boot."
-unfoldable pub rule6 : Session → Request → Bool
-rule6 s r = locked s (requestKey r) && not (inBoot s)
+unfoldable pub rule6 : Session → Key → Bool
+rule6 s k = locked s k && not (inBoot s)
 
 -- 7. "A value stands and the attributes without 0x40 are neither 0 nor the stored ones, or are 0 over a stored 0x20, or the phase is runtime and the stored ones lack RT."
-unfoldable pub rule7Over : Session → Request → Value → Bool
-rule7Over s r v =
-    not (among (0 ∷ v .attributes ∷ []) (withoutAppend (r .attributes)))
-    || (eqb (withoutAppend (r .attributes)) 0 && timeBased (v .attributes))
-    || (atRuntime s && not (runtimeAccess (v .attributes)))
+--    By whether the phase is runtime, attributes and the stored ones
+unfoldable pub unlikeStored : ℕ → ℕ → Bool
+unlikeStored asked stored = not (among (0 ∷ stored ∷ []) asked) || (eqb asked 0 && timeBased stored)
 
-unfoldable pub rule7 : Session → Request → List Value → Bool
-rule7 s r vs = onSome (find (requestKey r) vs) (rule7Over s r) false
+unfoldable pub rule7 : Bool → ℕ → ℕ → Bool
+rule7 runtime a stored = unlikeStored (withoutAppend a) stored || (runtime && not (runtimeAccess stored))
 
 -- 8. "A descriptor is wanted and does not fit the form above or the data."
-unfoldable pub rule8 : Request → Bool
-rule8 r = timeBased (r .attributes) && not (rightDescriptor (r .bytes))
+unfoldable pub rule8 : ℕ → List ℕ → Bool
+rule8 a bytes = timeBased a && not (rightDescriptor bytes)
 
--- 9. "A wanted verdict is absent."
-unfoldable pub verdictWanted : Session → Request → List Value → Bool
-verdictWanted s r vs = not (isEmpty (wantedVerdicts s r vs))
-
-unfoldable pub rule9 : Session → Request → List Value → Bool
-rule9 s r vs = verdictWanted s r vs && not (among (wantedVerdicts s r vs) (r .verdict))
+-- 9. "A wanted verdict is absent.": by the verdicts of which one is wanted, and the verdict given
+unfoldable pub rule9 : List ℕ → ℕ → Bool
+rule9 wanted verdict = not (isEmpty wanted) && not (among wanted verdict)
 
 -- 10. "A verdict was wanted, a value stands, and the stamp is not later than its own."; 02 (b): "Rule 10 no longer concerns appends"
-unfoldable pub rule10 : Session → Request → List Value → Bool
-rule10 s r vs =
-    not (appends (r .attributes)) && verdictWanted s r vs && onSome (find (requestKey r) vs) (λ v. not (later (stampToStore r) (v .stamp))) false
+unfoldable pub rule10 : ℕ → List ℕ → List ℕ → Option Value → Bool
+rule10 a wanted stamp old =
+    not (appends a) && not (isEmpty wanted) && onSome old (λ v. not (later stamp (v .stamp))) false
 
 -- 11. "The value to get, delete or go on from is absent (..), or next-name has reached the end.": of a set, and of a get or next-name
-unfoldable pub removesAbsent : Change → List Value → Bool
-removesAbsent nothing vs = false
-removesAbsent (remove k) vs = not (isSome (find k vs))
-removesAbsent (put v) vs = false
-
-unfoldable pub rule11 : Request → List Value → Bool
-rule11 r vs = removesAbsent (changeIn r vs) vs
+unfoldable pub rule11 : Change → Option Value → Bool
+rule11 nothing old = false
+rule11 (remove k) old = not (isSome old)
+rule11 (put v) old = false
 
 unfoldable pub rule11Read : Option Value → Bool
 rule11Read found = not (isSome found)
 
--- a test of the value that a change puts; "a delete, or a set that stores nothing, never meets" 13, nor has it data that would exceed a limit
-abbrev pub onPut : Change → (Value → Bool) → Bool
-onPut nothing f = false
-onPut (remove k) f = false
-onPut (put v) f = f v
+-- 12. "The data would exceed 2,048 bytes.": where a value is put; no other change has data
+unfoldable pub rule12 : Change → Bool
+rule12 nothing = false
+rule12 (remove k) = false
+rule12 (put v) = ltb maxData (length (v .bytes))
 
--- 12. "The data would exceed 2,048 bytes."
-unfoldable pub rule12 : Request → List Value → Bool
-rule12 r vs = onPut (changeIn r vs) (λ v. ltb maxData (length (v .bytes)))
+-- 13. "28 plus the rounded entry sizes of all values after the change, plus R at runtime, exceeds L": of changes one after another, beside so many bytes kept back;
+--     "a delete, or a set that stores nothing, never meets it"
+abbrev pub isPut : Change → Bool
+isPut nothing = false
+isPut (remove k) = false
+isPut (put v) = true
 
--- 13. "28 plus the rounded entry sizes of all values after the change, plus R at runtime, exceeds L"
-unfoldable pub rule13 : Session → Request → ℕ → List Value → Bool
-rule13 s r size vs = onPut (changeIn r vs) (λ v. ltb size (spaceOf (step (put v) vs) + reserved s))
+unfoldable pub rule13 : ℕ → ℕ → List Change → List Value → Bool
+rule13 reserve size cs vs = any isPut cs && ltb size (spaceOf (steps cs vs) + reserve)
 
 -- 15. "A lock is asked after the boot phase."
 unfoldable pub rule15 : Session → Bool
@@ -122,6 +118,10 @@ rule15 s = not (inBoot s)
 unfoldable pub rule16 : Session → Key → Bool
 rule16 s k = leb lockSpace (countedLocks s) && not (locked s k)
 
+-- what a session says to a set of a name: whether the phase is runtime, whether the name is barred by rule 6, custom mode, the bytes kept back
+unfoldable pub termsOf : Session → Key → Terms
+termsOf s k = record { runtime = atRuntime s; barred = rule6 s k; custom = customMode s; reserve = reserved s }
+
 -- "Sets, deletes among them, meet 1 to 13": the image, the call itself, what stands, the result, room
 unfoldable pub imageRulesIn : Layout → List ℕ → List (Rule × Bool)
 imageRulesIn y img = (Length, rule1 img) ∷ (Unready, rule2In y img) ∷ []
@@ -129,36 +129,54 @@ imageRulesIn y img = (Length, rule1 img) ∷ (Unready, rule2In y img) ∷ []
 abbrev pub imageRules : List ℕ → List (Rule × Bool)
 imageRules = imageRulesIn authenticated
 
-unfoldable pub requestRules : Session → Request → List (Rule × Bool)
-requestRules s r =
-    (Name, rule3 (requestKey r)) ∷ (Attributes, rule4 s r) ∷ (KeyAttributes, rule5 r) ∷ (Locked, rule6 s r) ∷ []
+unfoldable pub requestRules : Terms → Request → List (Rule × Bool)
+requestRules t r =
+    (Name, rule3 (requestKey r))
+    ∷ (Attributes, rule4 (t .runtime) (r .attributes))
+    ∷ (KeyAttributes, rule5 (requestKey r) (r .attributes))
+    ∷ (Locked, t .barred)
+    ∷ []
 
-unfoldable pub standingRules : Session → Request → List Value → List (Rule × Bool)
-standingRules s r vs =
-    (Standing, rule7 s r vs) ∷ (Descriptor, rule8 r) ∷ (Verdict, rule9 s r vs) ∷ (Stamp, rule10 s r vs) ∷ []
+-- in user mode or not, over the value that stands
+abbrev pub wantedOf : Terms → Request → Bool → Option Value → List ℕ
+wantedOf t r user old = wantedVerdicts (t .custom) (r .presence) user (requestKey r) (r .attributes) (isSome old)
 
-unfoldable pub resultRules : Request → List Value → List (Rule × Bool)
-resultRules r vs = (Absent, rule11 r vs) ∷ (DataSize, rule12 r vs) ∷ []
+unfoldable pub standingRules : Terms → Request → Bool → Option Value → List (Rule × Bool)
+standingRules t r user old =
+    (Standing, onSome old (λ v. rule7 (t .runtime) (r .attributes) (v .attributes)) false)
+    ∷ (Descriptor, rule8 (r .attributes) (r .bytes))
+    ∷ (Verdict, rule9 (wantedOf t r user old) (r .verdict))
+    ∷ (Stamp, rule10 (r .attributes) (wantedOf t r user old) (stampToStore r) old)
+    ∷ []
 
-unfoldable pub roomRules : Session → Request → ℕ → List Value → List (Rule × Bool)
-roomRules s r size vs = (Room, rule13 s r size vs) ∷ []
+unfoldable pub resultRules : Request → Option Value → List (Rule × Bool)
+resultRules r old = (Absent, rule11 (changeOf r old) old) ∷ (DataSize, rule12 (changeOf r old)) ∷ []
+
+-- all of them but room, over a list of values
+unfoldable pub itemRules : Terms → Request → List Value → List (Rule × Bool)
+itemRules t r vs =
+    requestRules t r
+    ++ standingRules t r (userMode vs) (find (requestKey r) vs)
+    ++ resultRules r (find (requestKey r) vs)
+
+-- room for changes, in a region of so many bytes
+unfoldable pub roomRules : Terms → ℕ → List Change → List Value → List (Rule × Bool)
+roomRules t size cs vs = (Room, rule13 (t .reserve) size cs vs) ∷ []
 
 unfoldable pub setBroken : Session → Request → List ℕ → Option Rule
 setBroken s r img =
     firstBroken
     (imageRules img
-    ++ requestRules s r
-    ++ standingRules s r (valuesOf img)
-    ++ resultRules r (valuesOf img)
-    ++ roomRules s r (regionSize img) (valuesOf img))
+    ++ itemRules (termsOf s (requestKey r)) r (valuesOf img)
+    ++ roomRules (termsOf s (requestKey r)) (regionSize img) (changeIn r (valuesOf img) ∷ []) (valuesOf img))
 
 -- "at runtime, values without RT are absent to get and next-name"
-unfoldable pub seen : Session → List Value → List Value
-seen s vs = cond (atRuntime s) (keep (λ v. runtimeAccess (v .attributes)) vs) vs
+unfoldable pub seen : Bool → List Value → List Value
+seen runtime vs = cond runtime (keep (λ v. runtimeAccess (v .attributes)) vs) vs
 
 -- the value to get
-unfoldable pub valueToGet : Session → Key → List Value → Option Value
-valueToGet s k vs = find k (seen s vs)
+unfoldable pub valueToGet : Bool → Key → List Value → Option Value
+valueToGet runtime k vs = find k (seen runtime vs)
 
 -- the value that comes after another's name in a list; none where that name is absent or the last
 unfoldable pub following : Key → List Value → Option Value
@@ -166,8 +184,8 @@ following k [] = none
 following k (v ∷ vs) = cond (sameKey (keyOf v) k) (head vs) (following k vs)
 
 -- the next value: the first after the empty name, whatever the GUID
-unfoldable pub valueToName : Session → Key → List Value → Option Value
-valueToName s k vs = cond (same (k .name) emptyName) (head (seen s vs)) (following k (seen s vs))
+unfoldable pub valueToName : Bool → Key → List Value → Option Value
+valueToName runtime k vs = cond (same (k .name) emptyName) (head (seen runtime vs)) (following k (seen runtime vs))
 
 -- what a get and what next-name writes: the data; "the 16 GUID bytes and name"
 abbrev pub gotBytes : Value → List ℕ
@@ -186,8 +204,8 @@ getBroken s k buffer img =
     firstBroken
     (imageRules img
     ++ ((Name, rule3 k)
-    ∷ (Absent, rule11Read (valueToGet s k (valuesOf img)))
-    ∷ (Buffer, rule14 (valueToGet s k (valuesOf img)) gotBytes buffer)
+    ∷ (Absent, rule11Read (valueToGet (atRuntime s) k (valuesOf img)))
+    ∷ (Buffer, rule14 (valueToGet (atRuntime s) k (valuesOf img)) gotBytes buffer)
     ∷ []))
 
 unfoldable pub nextBroken : Session → Key → List ℕ → List ℕ → Option Rule
@@ -195,8 +213,8 @@ nextBroken s k buffer img =
     firstBroken
     (imageRules img
     ++ ((Name, rule3Next k)
-    ∷ (Absent, rule11Read (valueToName s k (valuesOf img)))
-    ∷ (Buffer, rule14 (valueToName s k (valuesOf img)) namedBytes buffer)
+    ∷ (Absent, rule11Read (valueToName (atRuntime s) k (valuesOf img)))
+    ∷ (Buffer, rule14 (valueToName (atRuntime s) k (valuesOf img)) namedBytes buffer)
     ∷ []))
 
 -- "start-up 1 and 2"

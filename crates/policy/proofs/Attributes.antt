@@ -11,27 +11,27 @@ use Rattle.model.specs.Lists.{among}
 use Rattle.model.specs.Name.{Key}
 use Rattle.model.specs.Region.{storedAttributes}
 use Rattle.model.specs.Request.{runtimeAccess, timeBased, withoutAppend, isKeyName}
-use Rattle.policy.specs.Rules.{rule4Of, rule5Of, unlikeStored}
+use Rattle.model.specs.Rules.{rule4, rule5, unlikeStored}
 
-pub rule4-exact : (runtime : Bool) (a : ℕ) → a ≡ 0x40 → rule4Of runtime a ≡ true
-unfolding rule4Of
+pub rule4-exact : (runtime : Bool) (a : ℕ) → a ≡ 0x40 → rule4 runtime a ≡ true
+unfolding rule4
 rule4-exact runtime a h = rw h
 
-pub rule4-unknown : (runtime : Bool) (a : ℕ) → among (0 ∷ storedAttributes) (withoutAppend a) ≡ false → rule4Of runtime a ≡ true
-unfolding rule4Of
+pub rule4-unknown : (runtime : Bool) (a : ℕ) → among (0 ∷ storedAttributes) (withoutAppend a) ≡ false → rule4 runtime a ≡ true
+unfolding rule4
 rule4-unknown runtime a h = rw h
 
 pub rule4-known : (runtime : Bool) (a : ℕ) → a ≢ 0x40 → among (0 ∷ storedAttributes) (withoutAppend a) ≡ true
-    → rule4Of runtime a ≡ (runtime && not (eqb a 0) && not (runtimeAccess a))
-unfolding rule4Of
+    → rule4 runtime a ≡ (runtime && not (eqb a 0) && not (runtimeAccess a))
+unfolding rule4
 rule4-known runtime a n h = rw (h, ne-eqb a 0x40 n)
 
-pub rule5-other : (k : Key) (a : ℕ) → a ≢ 0x27 → a ≢ 0x67 → rule5Of k a ≡ isKeyName k
-unfolding rule5Of
+pub rule5-other : (k : Key) (a : ℕ) → a ≢ 0x27 → a ≢ 0x67 → rule5 k a ≡ isKeyName k
+unfolding rule5
 rule5-other k a h n = rw (ne-eqb a 0x27 h, ne-eqb a 0x67 n) (and-true (isKeyName k))
 
-pub rule5-suits : (k : Key) (a : ℕ) → among (0x27 ∷ 0x67 ∷ []) a ≡ true → rule5Of k a ≡ false
-unfolding rule5Of
+pub rule5-suits : (k : Key) (a : ℕ) → among (0x27 ∷ 0x67 ∷ []) a ≡ true → rule5 k a ≡ false
+unfolding rule5
 rule5-suits k a h = rw h (and-false (isKeyName k))
 
 pub unlike-zero : (asked stored : ℕ) → asked ≡ 0 → unlikeStored asked stored ≡ timeBased stored

@@ -7,16 +7,17 @@ use native.Mathlib.Nat.{min-le-left, zero-add}
 use native.Mathlib.Omega.{arith}
 use mathlib.Core.Path.{_≡_, refl, sym, ap, _∙_}
 use mathlib.Core.Logic.{_≢_}
-use mathlib.Core.Bool.{Bool, true, false, _&&_, and-true, and-false}
+use mathlib.Core.Bool.{Bool, true, false, not, cond, _&&_, and-true, and-false, true≢false}
 use mathlib.Core.List.{List, [], _∷_, _++_}
 use lib.ListN.{length, take, drop, set, getD, replicate, length-take, length-drop}
 use lib.Seq.{take-all, paste-suc, length-paste, take-length, take-append-le, take-take}
 use lib.Dec.{eqb, leb}
 use borrow.Author.Tests.{leb-true, le-leb, lt-leb, eq-eqb, ne-eqb}
 use Rattle.model.specs.Lists.{part, same, u16At}
-use Rattle.model.specs.Request.{timeBased, stampSize, certificate, descriptorLength, properAt, rightDescriptor}
+use Rattle.model.specs.Request.{Request, stampToStore, timeBased, stampSize, certificate, descriptorLength, properAt, rightDescriptor, properOf}
+use Rattle.model.specs.Rules.{rule8}
 use Rattle.model.proofs.Tests.{and-split}
-use Rattle.policy.specs.Descriptor.{properOf, noStamp, stampIn, rightSize, rightKind}
+use Rattle.policy.specs.Descriptor.{noStamp, stampIn, stampOf, rightSize, rightKind}
 
 pub right-parts : (bytes : List ℕ) → rightDescriptor bytes ≡ (same (part 7 9 bytes) (replicate 9 0) && rightSize bytes && rightKind bytes)
 unfolding rightDescriptor rightSize rightKind
@@ -139,3 +140,14 @@ stamp-held r at h =
     let long : 16 ≤ length (part 16 16 (drop at r)) = simp (length-take, length-drop) (omega arith) in
     let short : length (part 16 16 (drop at r)) ≤ 16 = simp (length-take, length-drop) (omega arith) in
     stamp-whole (part 16 16 (drop at r)) long ∙ take-all 16 (part 16 16 (drop at r)) short
+
+-- where rule 8 is kept the stamp is the one to store
+pub stamp-right : (r : Request) → rule8 (r .attributes) (r .bytes) ≡ false → stampToStore r ≡ stampOf (r .attributes) (r .bytes)
+unfolding rule8 stampToStore stampOf noStamp
+stamp-right r h = go (timeBased (r .attributes)) (rightDescriptor (r .bytes)) refl h
+  where
+    go : (t d : Bool) → rightDescriptor (r .bytes) ≡ d → (t && not d) ≡ false
+        → cond t (take stampSize (r .bytes)) (replicate stampSize 0) ≡ cond t (stampIn (r .bytes)) (replicate stampSize 0)
+    go true true e h = let l = right-long (r .bytes) e in sym (stamp-whole (r .bytes) (omega arith))
+    go true false e h = absurd (true≢false h)
+    go false d e h = refl

@@ -1,6 +1,4 @@
 -- Laws that the proofs of this crate's functions and of its callers cite.
--- The model's rules and tests, as they are said here over plain arguments
-pub mod Plain
 -- Rules 4, 5 and 7 by the tests that decide them
 pub mod Attributes
 -- A descriptor's parts, data proper, and the stamp as far as it is read

@@ -7,20 +7,20 @@ use mathlib.Core.Bool.{Bool, true, false, not, _||_}
 use mathlib.Core.List.{[], _∷_}
 use lib.Dec.{eqb}
 use borrow.Author.Tests.{eq-eqb, ne-eqb}
-use Rattle.policy.specs.Verdict.{rule9Of}
+use Rattle.model.specs.Rules.{rule9}
 
 last : (t : Bool) → not (t || false) ≡ not t
 last true = refl
 last false = refl
 
-pub rule9-one : (a verdict : ℕ) → rule9Of (a ∷ []) verdict ≡ not (eqb verdict a)
-unfolding rule9Of
+pub rule9-one : (a verdict : ℕ) → rule9 (a ∷ []) verdict ≡ not (eqb verdict a)
+unfolding rule9
 rule9-one a verdict = last (eqb verdict a)
 
-pub rule9-first : (a b verdict : ℕ) → verdict ≡ a → rule9Of (a ∷ b ∷ []) verdict ≡ false
-unfolding rule9Of
+pub rule9-first : (a b verdict : ℕ) → verdict ≡ a → rule9 (a ∷ b ∷ []) verdict ≡ false
+unfolding rule9
 rule9-first a b verdict h = rw (eq-eqb verdict a h)
 
-pub rule9-second : (a b verdict : ℕ) → verdict ≢ a → rule9Of (a ∷ b ∷ []) verdict ≡ not (eqb verdict b)
-unfolding rule9Of
+pub rule9-second : (a b verdict : ℕ) → verdict ≢ a → rule9 (a ∷ b ∷ []) verdict ≡ not (eqb verdict b)
+unfolding rule9
 rule9-second a b verdict h = rw (ne-eqb verdict a h) (last (eqb verdict b))

@@ -1,15 +1,11 @@
--- Data proper and stamp, by attributes and data.
+-- A descriptor's parts, and the stamp, by attributes and data.
 use Prim.Native.Nat.{ℕ}
 use mathlib.Core.Bool.{Bool, cond, _&&_}
 use mathlib.Core.List.{List, _++_}
-use lib.ListN.{length, take, drop, replicate}
+use lib.ListN.{length, take, replicate}
 use lib.Dec.{eqb, leb}
 use Rattle.model.specs.Lists.{part, same, u16At}
 use Rattle.model.specs.Request.{timeBased, stampSize, certificate, descriptorLength, properAt}
-
--- the data behind a descriptor, all data without 0x20
-unfoldable pub properOf : ℕ → List ℕ → List ℕ
-properOf a bytes = cond (timeBased a) (drop (properAt bytes) bytes) bytes
 
 -- no stamp
 unfoldable pub noStamp : List ℕ

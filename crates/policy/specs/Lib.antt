@@ -1,5 +1,3 @@
--- What the rules say of the call itself, over plain arguments.
-pub mod Rules
+-- The parts of what the rules say of the call itself.
 pub mod Descriptor
 pub mod Verdict
-pub mod Change

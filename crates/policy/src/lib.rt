@@ -7,12 +7,11 @@ ghost use lib.ListN.{length};
 ghost use Rattle.model.specs.Lists.{among, isEmpty};
 ghost use Rattle.model.specs.Name.{keyed};
 ghost use Rattle.model.specs.Region.{storedAttributes};
-ghost use Rattle.model.specs.Request.{runtimeAccess, timeBased, appends, withoutAppend, rightDescriptor, later, keyVerdicts};
-ghost use Rattle.model.specs.Change.{laterOf};
-ghost use Rattle.policy.specs.Rules.{rule4Of, rule5Of, unlikeStored, rule7Of, rule8Of};
-ghost use Rattle.policy.specs.Descriptor.{properOf, noStamp, stampIn, stampOf, rightSize, rightKind};
-ghost use Rattle.policy.specs.Verdict.{verdictsOf, inPerson, otherVerdictsOf, rule9Of};
-ghost use Rattle.policy.specs.Change.{deletesOf, emptyAppendOf, equalOf};
+ghost use Rattle.model.specs.Request.{runtimeAccess, timeBased, appends, withoutAppend, rightDescriptor, later, keyVerdicts, properOf, inPerson, otherVerdicts};
+ghost use Rattle.model.specs.Change.{laterOf, deletes, emptyAppend, equalTo};
+ghost use Rattle.model.specs.Rules.{rule4, rule5, unlikeStored, rule7, rule8, rule9};
+ghost use Rattle.policy.specs.Descriptor.{noStamp, stampIn, stampOf, rightSize, rightKind};
+ghost use Rattle.policy.specs.Verdict.{verdictsOf};
 use layout::fixed;
 
 // Of which verdicts one is wanted: of none, of this one, of PK or KEK.
@@ -66,7 +65,7 @@ fn is_known(attributes: u32) -> bool
 
 // Rule 4: attributes without 0x40 are none of these, or are exactly 0x40, or at runtime are not 0 and lack RT.
 pub fn attributes_broken(runtime: bool, attributes: u32) -> bool
-    ensures { λ r. ⌜ r ≡ rule4Of runtime attributes ⌝ }
+    ensures { λ r. ⌜ r ≡ rule4 runtime attributes ⌝ }
 {
     if attributes == 0x40 {
         return true;
@@ -84,7 +83,7 @@ pub fn attributes_broken(runtime: bool, attributes: u32) -> bool
 
 // Rule 5: a key name has other attributes than 0x27 or 0x67.
 pub fn key_attributes_broken(name: &[u8], vendor: &[u8; 16], attributes: u32) -> bool
-    ensures { λ r. ⌜ r ≡ rule5Of (keyed (now (name .entry)) (now (vendor .entry))) attributes ⌝ }
+    ensures { λ r. ⌜ r ≡ rule5 (keyed (now (name .entry)) (now (vendor .entry))) attributes ⌝ }
 {
     if attributes == 0x27 {
         return false;
@@ -107,7 +106,7 @@ fn unlike(asked: u32, stored: u32) -> bool
 
 // Rule 7 over a value that stands; at runtime the stored attributes may not lack RT.
 pub fn standing_broken(runtime: bool, attributes: u32, stored: u32) -> bool
-    ensures { λ r. ⌜ r ≡ rule7Of runtime attributes stored ⌝ }
+    ensures { λ r. ⌜ r ≡ rule7 runtime attributes stored ⌝ }
 {
     if unlike(without_append(attributes), stored) {
         return true;
@@ -158,7 +157,7 @@ fn descriptor_right(bytes: &[u8]) -> bool
 
 // Rule 8: a descriptor is wanted and does not fit the form or the data.
 pub fn descriptor_broken(attributes: u32, bytes: &[u8]) -> bool
-    ensures { λ r. ⌜ r ≡ rule8Of attributes (now (bytes .entry)) ⌝ }
+    ensures { λ r. ⌜ r ≡ rule8 attributes (now (bytes .entry)) ⌝ }
 {
     if time_based(attributes) {
         return !descriptor_right(bytes);
@@ -237,10 +236,10 @@ pub fn later_of(given: &[u8; 16], old: &[u8; 16]) -> [u8; 16]
 }
 
 // Key names want no verdict in custom mode with presence: both are needed.
-pub fn in_person(custom: u32, presence: u32) -> bool
+pub fn in_person(custom: bool, presence: u32) -> bool
     ensures { λ r. ⌜ r ≡ inPerson custom presence ⌝ }
 {
-    custom != 0 && presence != 0
+    custom && presence != 0
 }
 
 // PK wants 3 in setup and 1 in user mode; KEK none in setup, 1 in user; db, dbx, dbt none in setup, 1 or 2 in user.
@@ -261,7 +260,7 @@ pub fn key_verdicts(user: bool, name: &[u8], vendor: &[u8; 16]) -> Wanted
 
 // Other names with 0x20 want 3 if absent, else 4; without 0x20 none is wanted.
 pub fn other_verdicts(attributes: u32, stands: bool) -> Wanted
-    ensures { λ r. ⌜ verdictsOf r ≡ otherVerdictsOf attributes stands ⌝ }
+    ensures { λ r. ⌜ verdictsOf r ≡ otherVerdicts attributes stands ⌝ }
 {
     if time_based(attributes) {
         if stands {
@@ -285,7 +284,7 @@ pub fn verdict_wanted(wanted: Wanted) -> bool
 
 // Rule 9: a wanted verdict is absent.
 pub fn verdict_broken(wanted: Wanted, verdict: u32) -> bool
-    ensures { λ r. ⌜ r ≡ rule9Of (verdictsOf wanted) verdict ⌝ }
+    ensures { λ r. ⌜ r ≡ rule9 (verdictsOf wanted) verdict ⌝ }
 {
     match wanted {
         Wanted::Free => false,
@@ -301,7 +300,7 @@ pub fn verdict_broken(wanted: Wanted, verdict: u32) -> bool
 
 // Attributes 0, or empty data proper without append, delete.
 pub fn deletes(attributes: u32, size: usize) -> bool
-    ensures { λ r. ⌜ r ≡ deletesOf attributes size ⌝ }
+    ensures { λ r. ⌜ r ≡ deletes attributes size ⌝ }
 {
     if attributes == 0 {
         return true;
@@ -314,7 +313,7 @@ pub fn deletes(attributes: u32, size: usize) -> bool
 
 // An empty append changes nothing.
 pub fn empty_append(attributes: u32, size: usize) -> bool
-    ensures { λ r. ⌜ r ≡ emptyAppendOf attributes size ⌝ }
+    ensures { λ r. ⌜ r ≡ emptyAppend attributes size ⌝ }
 {
     if size == 0 {
         return appends(attributes);
@@ -324,7 +323,7 @@ pub fn empty_append(attributes: u32, size: usize) -> bool
 
 // Equal data and attributes, neither 0x20 nor 0x40 among them; what is cheap to compare comes first.
 pub fn equal(attributes: u32, proper: &[u8], stored: u32, old: &[u8]) -> bool
-    ensures { λ r. ⌜ r ≡ equalOf attributes (now (proper .entry)) stored (now (old .entry)) ⌝ }
+    ensures { λ r. ⌜ r ≡ equalTo attributes (now (proper .entry)) stored (now (old .entry)) ⌝ }
 {
     if attributes != stored {
         return false;

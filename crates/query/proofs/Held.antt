@@ -11,10 +11,8 @@ use Rattle.model.specs.Entry.{Value}
 use Rattle.model.specs.Walk.{Entry, entryKey, entryValue}
 use Rattle.model.specs.Region.{isValue, values, find}
 use Rattle.model.specs.Request.{runtimeAccess}
-use Rattle.model.specs.Rules.{following, seen, valueToGet}
-use Rattle.model.specs.Session.{atRuntime}
-use Rattle.model.specs.declared.Session.{Session}
-use Rattle.query.specs.Query.{seenAt, isSeen, entryToGet, entryFollowing, entryToName, getAt, nameAt}
+use Rattle.model.specs.Rules.{following, seen, valueToGet, valueToName}
+use Rattle.query.specs.Query.{isSeen, entryToGet, entryFollowing, entryToName}
 
 -- the value of an entry, where there is one
 abbrev pub valueIn : Option Entry → Option Value
@@ -34,8 +32,8 @@ keep-values f g (e ∷ es) = go (f e) (g (entryValue e)) refl (keep-values f g e
     go false t q i = i
 
 -- the entries that are seen hold the values that are seen
-seen-values : (runtime : Bool) (es : List Entry) → map entryValue (keep (isSeen runtime es) es) ≡ seenAt runtime (values es)
-unfolding isSeen seenAt values
+seen-values : (runtime : Bool) (es : List Entry) → map entryValue (keep (isSeen runtime es) es) ≡ seen runtime (values es)
+unfolding isSeen seen values
 seen-values true es = keep-values (isValue es) (λ v. runtimeAccess (v .attributes)) es
 seen-values false es =
     let same : (λ (e : Entry). isValue es e && true) ≡ isValue es = fun-ext (λ e. and-true (isValue es e)) in
@@ -66,20 +64,15 @@ following-values k (e ∷ es) = go (sameKey (entryKey e) k) (following-values k 
     go false i = i
 
 -- the value to get, and the value to name
-pub get-value : (runtime : Bool) (k : Key) (es : List Entry) → valueIn (entryToGet runtime k es) ≡ getAt runtime k (values es)
-unfolding entryToGet getAt
+pub get-value : (runtime : Bool) (k : Key) (es : List Entry) → valueIn (entryToGet runtime k es) ≡ valueToGet runtime k (values es)
+unfolding entryToGet valueToGet
 get-value runtime k es = find-values k (keep (isSeen runtime es) es) ∙ ap (find k) (seen-values runtime es)
 
-pub name-value : (runtime : Bool) (k : Key) (es : List Entry) → valueIn (entryToName runtime k es) ≡ nameAt runtime k (values es)
-unfolding entryToName nameAt
+pub name-value : (runtime : Bool) (k : Key) (es : List Entry) → valueIn (entryToName runtime k es) ≡ valueToName runtime k (values es)
+unfolding entryToName valueToName
 name-value runtime k es = go (same (k .name) emptyName)
   where
     go : (t : Bool) → valueIn (cond t (head (keep (isSeen runtime es) es)) (entryFollowing k (keep (isSeen runtime es) es)))
-        ≡ cond t (head (seenAt runtime (values es))) (following k (seenAt runtime (values es)))
+        ≡ cond t (head (seen runtime (values es))) (following k (seen runtime (values es)))
     go true = head-values (keep (isSeen runtime es) es) ∙ ap head (seen-values runtime es)
     go false = following-values k (keep (isSeen runtime es) es) ∙ ap (following k) (seen-values runtime es)
-
--- as the rules have them, in a session
-pub session-get : (s : Session) (k : Key) (vs : List Value) → getAt (atRuntime s) k vs ≡ valueToGet s k vs
-unfolding getAt seenAt valueToGet seen
-session-get s k vs = refl

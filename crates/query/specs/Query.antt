@@ -5,11 +5,9 @@ use mathlib.Core.List.{List, [], _∷_}
 use mathlib.Core.Option.{Option, none, some}
 use Rattle.model.specs.Lists.{same, keep, first, head}
 use Rattle.model.specs.Name.{Key, sameKey, emptyName}
-use Rattle.model.specs.Entry.{Value}
 use Rattle.model.specs.Walk.{Entry, entryKey}
-use Rattle.model.specs.Region.{isValue, find}
+use Rattle.model.specs.Region.{isValue}
 use Rattle.model.specs.Request.{runtimeAccess}
-use Rattle.model.specs.Rules.{following}
 use Rattle.region.specs.Walk.{entryAt}
 use Rattle.values.specs.declared.Found.{Found}
 use Rattle.values.specs.declared.Found.the-variants.{At, Nothing}
@@ -19,12 +17,9 @@ abbrev pub entryIn : List ℕ → Found → Option Entry
 entryIn r (At at e) = some (entryAt r at e)
 entryIn r Nothing = none
 
--- "at runtime, values without RT are absent to get and next-name": of attributes, of values, and of an entry beside all entries
+-- "at runtime, values without RT are absent to get and next-name": of attributes, and of an entry beside all entries
 abbrev pub visible : Bool → ℕ → Bool
 visible runtime attributes = not runtime || runtimeAccess attributes
-
-unfoldable pub seenAt : Bool → List Value → List Value
-seenAt runtime vs = cond runtime (keep (λ v. runtimeAccess (v .attributes)) vs) vs
 
 unfoldable pub isSeen : Bool → List Entry → Entry → Bool
 isSeen runtime es e = isValue es e && visible runtime (e .header .attributes)
@@ -49,10 +44,3 @@ goingOn passed k es = cond passed (head es) (entryFollowing k es)
 -- the entry of the next value: the first after the empty name, whatever the GUID
 unfoldable pub entryToName : Bool → Key → List Entry → Option Entry
 entryToName runtime k es = goingOn (same (k .name) emptyName) k (keep (isSeen runtime es) es)
-
--- the values themselves, as the rules have them
-unfoldable pub getAt : Bool → Key → List Value → Option Value
-getAt runtime k vs = find k (seenAt runtime vs)
-
-unfoldable pub nameAt : Bool → Key → List Value → Option Value
-nameAt runtime k vs = cond (same (k .name) emptyName) (head (seenAt runtime vs)) (following k (seenAt runtime vs))

@@ -5,12 +5,14 @@ ghost use Prim.Native.Nat.{_≤_, _<_};
 ghost use lib.Dec.{eqb};
 ghost use Rattle.model.specs.Name.{keyed};
 ghost use Rattle.model.specs.Session.{countedPhase, countedReserve, locked};
+ghost use Rattle.model.specs.Rules.{rule6, termsOf};
 ghost use Rattle.model.specs.Answers.{answerOf, lockOutcome, lockSession};
 ghost use Rattle.session.specs.Places.{holds};
 use model::Answer;
 use model::Listed;
 use model::Rule;
 use model::Session;
+use model::Terms;
 
 // Whether the phase is boot.
 pub fn in_boot(phase: u32) -> bool
@@ -74,6 +76,28 @@ pub fn is_locked(s: Session, name: &[u8], vendor: &[u8; 16]) -> bool
         i += 1;
     }
     false
+}
+
+// Rule 6: the name is locked and the phase is not boot. In the boot phase the list is not looked through.
+fn is_barred(s: Session, name: &[u8], vendor: &[u8; 16]) -> bool
+    ensures { λ r. ⌜ r ≡ rule6 s (keyed (now (name .entry)) (now (vendor .entry))) ⌝ }
+{
+    if in_boot(s.phase) {
+        return false;
+    }
+    is_locked(s, name, vendor)
+}
+
+// What a session says to a set of a name.
+pub fn terms(s: Session, name: &[u8], vendor: &[u8; 16]) -> Terms
+    ensures { λ r. ⌜ r ≡ termsOf s (keyed (now (name .entry)) (now (vendor .entry))) ⌝ }
+{
+    Terms {
+        runtime: at_runtime(s.phase),
+        barred: is_barred(s, name, vendor),
+        custom: s.setup.custom != 0,
+        reserve: reserved(s.phase, s.setup.reserve),
+    }
 }
 
 // The lock call: rules 3, 15 and 16 in this order; a name already listed is accepted unchanged.

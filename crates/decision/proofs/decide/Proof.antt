@@ -1,10 +1,20 @@
 -- `decision::decide` meets its contract: what stands is the 3F entry of the two places found, else the 3E entry. Assumes nothing.
-use mathlib.Core.Path.{sym, ap₂, _∙_}
+use Prim.Native.Nat.{ℕ, _+_, _≤_}
+use native.Mathlib.Omega.{arith}
+use mathlib.Core.List.{List}
+use mathlib.Core.Path.{_≡_, sym, ap, ap₂, _∙_}
+use lib.ListN.{length}
 use denote.Ref.{now}
 use Rattle.model.specs.Name.{keyed}
-use Rattle.model.specs.Region.{entries, added, replacing, standing}
+use Rattle.model.specs.Entry.{rounded}
+use Rattle.model.specs.Region.{entries, values, added, replacing, standing}
 use Rattle.values.specs.Found.{elseFound}
 use Rattle.values.proofs.Finds.{found-else}
+use Rattle.decision.specs.Decision.{requestOf, itemOf}
+use Rattle.decision.specs.declared.Decision.{Decision}
+use Rattle.decision.specs.Parts.{newSize, roomBy, roomedBy}
+use Rattle.decision.proofs.Assembled.{new-size, decision-here}
+use Rattle.decision.proofs.Accepted.{item-small}
 use borrow.Author.Needs.{needs}
 use Rattle.decision.proofs.decide.Statement.{statement}
 use Rattle.decision.proofs.decide.Tie as tie
@@ -22,10 +32,41 @@ judge-requires c κs =
     let es = entries (now (a .region)) in
     let k = keyed (now (a .name)) (now (a .vendor)) in
     let p = c .before .places .ensures in
-    (c .before .before .before .before .before .before .pre .0, (c .before .before .before .before .before .before .pre .1, c .standing .ensures ∙ ap₂ elseFound (p .0) (p .1) ∙ sym (found-else (added k es) (replacing k es))))
+    (c .before .before .before .before .before .before .pre .0, c .standing .ensures ∙ ap₂ elseFound (p .0) (p .1) ∙ sym (found-else (added k es) (replacing k es)))
+
+proper-requires : tie.Need-proper-requires
+proper-requires c κs = search needs
+
+roomed-requires : tie.Need-roomed-requires
+unfolding standing
+roomed-requires c κs =
+    let a = c .before .before .before .before .before .before .before .before .args in
+    let p = c .before .before .before .before .before .before .before .before .pre in
+    let es = entries (now (a .region)) in
+    let k = keyed (now (a .name)) (now (a .vendor)) in
+    let q = requestOf (now (a .name)) (now (a .vendor)) (a .attributes) (now (a .bytes)) (a .presence) (a .verdict) in
+    let l = c .before .before .before .places .ensures in
+    let old = c .before .before .standing .ensures ∙ ap₂ elseFound (l .0) (l .1) ∙ sym (found-else (added k es) (replacing k es)) in
+    let size = ap (λ (b : List ℕ). newSize (now (a .region)) (c .before .before .standing .result) (a .attributes) (length b)) (c .proper .ensures) in
+    let new = new-size (a .t) q (now (a .region)) (p .0) (c .before .before .standing .result) old in
+    (search needs, λ e. omega (arith, size, new, item-small (a .t) q (values es) (sym (c .before .judge .ensures) ∙ e)))
 
 returns : tie.Need-returns
-returns c = search needs
+unfolding standing
+returns c =
+    let a = c .before .before .before .before .before .before .before .before .before .args in
+    let p = c .before .before .before .before .before .before .before .before .before .pre in
+    let r = now (a .region) in
+    let es = entries r in
+    let k = keyed (now (a .name)) (now (a .vendor)) in
+    let q = requestOf (now (a .name)) (now (a .vendor)) (a .attributes) (now (a .bytes)) (a .presence) (a .verdict) in
+    let l = c .before .before .before .before .places .ensures in
+    let found = c .before .before .before .standing .result in
+    let old = c .before .before .before .standing .ensures ∙ ap₂ elseFound (l .0) (l .1) ∙ sym (found-else (added k es) (replacing k es)) in
+    let need : ℕ → ℕ = λ n. rounded (60 + length (now (a .name)) + newSize r found (a .attributes) n) + a .t .reserve in
+    (c .roomed .ensures
+    ∙ ap₂ (λ (d : Decision) (b : List ℕ). roomedBy d (roomBy r found (need (length b)))) (c .before .before .judge .ensures) (c .before .proper .ensures)
+    ∙ sym (decision-here (a .t) q r (p .0) found old), l .0, l .1)
 
 pub decide-spec : {M : Type 1} → statement M
-decide-spec = tie.close (tie.spec places-requires standing-requires judge-requires returns)
+decide-spec = tie.close (tie.spec places-requires standing-requires judge-requires proper-requires roomed-requires returns)

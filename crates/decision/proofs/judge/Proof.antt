@@ -1,11 +1,7 @@
 -- `decision::judge` meets its contract: the parts are judged in the rules' order, and the last gives what is left. Assumes nothing.
-use Prim.Native.Nat.{ℕ}
-use mathlib.Core.Path.{sym, ap, ap₂, _∙_}
-use mathlib.Core.List.{List}
-use lib.ListN.{length}
+use mathlib.Core.Path.{sym, ap, _∙_}
 use denote.Ref.{now}
 use Rattle.model.specs.Rules.{firstBroken}
-use Rattle.session.proofs.Phases.{reserved-numbers}
 use Rattle.decision.specs.Decision.{requestOf}
 use Rattle.decision.specs.Parts.{outcomeBy}
 use Rattle.decision.proofs.Broken.{kept-none, breaks-some}
@@ -26,14 +22,11 @@ enum-told c = search needs
 judge-standing-requires : tie.Need-judge-standing-requires
 judge-standing-requires c κs = search needs
 
-enum-known-t : tie.Need-enum-known-t
-enum-known-t c = search needs
+enum-known-j : tie.Need-enum-known-j
+enum-known-j c = search needs
 
 enum-told-2 : tie.Need-enum-told-2
 enum-told-2 c = search needs
-
-reserved-requires : tie.Need-reserved-requires
-reserved-requires c κs = search needs
 
 proper-requires : tie.Need-proper-requires
 proper-requires c κs = search needs
@@ -47,27 +40,27 @@ returns c =
     let p = c .before .before .before .before .before .before .before .pre in
     let q = requestOf (now (a .name)) (now (a .vendor)) (a .attributes) (now (a .bytes)) (a .presence) (a .verdict) in
     let told = c .before .q .given in
-    let first = ap firstBroken (request-fields (a .s) q) ∙ breaks-some _ (told .0 .0) (sym (c .before .before .before .request .ensures) ∙ told .1) in
-    sym (call-broken (a .s) q (now (a .region)) (p .0) (a .old) (p .1 .1) (told .0 .0) first)
+    let first = ap firstBroken (request-fields (a .t) q) ∙ breaks-some _ (told .0 .0) (sym (c .before .before .before .request .ensures) ∙ told .1) in
+    sym (call-broken (a .t) q (now (a .region)) (p .0) (a .old) (p .1) (told .0 .0) first)
 
 returns-2 : tie.Need-returns-2
 returns-2 c =
     let a = c .before .before .before .before .before .before .before .before .before .before .args in
     let p = c .before .before .before .before .before .before .before .before .before .before .pre in
     let q = requestOf (now (a .name)) (now (a .vendor)) (a .attributes) (now (a .bytes)) (a .presence) (a .verdict) in
-    let told = c .before .t .given in
-    let first = ap firstBroken (request-fields (a .s) q) ∙ kept-none _ (sym (c .before .before .before .before .before .before .request .ensures) ∙ c .before .before .before .before .enum-told .given .1) in
-    sym (standing-broken (a .s) q (now (a .region)) (p .0) (a .old) (p .1 .1) first (told .0 .0) (breaks-some _ (told .0 .0) (sym (c .before .before .before .judge-standing .ensures) ∙ told .1)))
+    let told = c .before .j .given in
+    let first = ap firstBroken (request-fields (a .t) q) ∙ kept-none _ (sym (c .before .before .before .before .before .before .request .ensures) ∙ c .before .before .before .before .enum-told .given .1) in
+    sym (standing-broken (a .t) q (now (a .region)) (p .0) (a .old) (p .1) first (told .0 .0) (breaks-some _ (told .0 .0) (sym (c .before .before .before .judge-standing .ensures) ∙ told .1)))
 
 returns-3 : tie.Need-returns-3
 returns-3 c =
-    let a = c .before .before .before .before .before .before .before .before .before .before .before .before .args in
-    let p = c .before .before .before .before .before .before .before .before .before .before .before .before .pre in
+    let a = c .before .before .before .before .before .before .before .before .before .before .before .args in
+    let p = c .before .before .before .before .before .before .before .before .before .before .before .pre in
     let q = requestOf (now (a .name)) (now (a .vendor)) (a .attributes) (now (a .bytes)) (a .presence) (a .verdict) in
-    let first = ap firstBroken (request-fields (a .s) q) ∙ kept-none _ (sym (c .before .before .before .before .before .before .before .before .request .ensures) ∙ c .before .before .before .before .before .before .enum-told .given .1) in
+    let first = ap firstBroken (request-fields (a .t) q) ∙ kept-none _ (sym (c .before .before .before .before .before .before .before .request .ensures) ∙ c .before .before .before .before .before .enum-told .given .1) in
     c .outcome .ensures
-    ∙ ap₂ (λ (n : ℕ) (b : List ℕ). outcomeBy (now (a .region)) (a .old) n (length (now (a .name))) (a .attributes) b) (c .before .before .reserved .ensures .0 ∙ sym (reserved-numbers (a .s))) (c .before .proper .ensures)
-    ∙ sym (none-broken (a .s) q (now (a .region)) (p .0) (a .old) (p .1 .1) first (kept-none _ (sym (c .before .before .before .before .before .judge-standing .ensures) ∙ c .before .before .before .enum-told2 .given .1)))
+    ∙ ap (outcomeBy (now (a .region)) (a .old) (a .attributes)) (c .before .proper .ensures)
+    ∙ sym (none-broken (a .t) q (now (a .region)) (p .0) (a .old) (p .1) first (kept-none _ (sym (c .before .before .before .before .judge-standing .ensures) ∙ c .before .before .enum-told2 .given .1)))
 
 pub judge-spec : {M : Type 1} → statement M
 judge-spec =
@@ -77,9 +70,8 @@ judge-spec =
     enum-known-q
     enum-told
     judge-standing-requires
-    enum-known-t
+    enum-known-j
     enum-told-2
-    reserved-requires
     proper-requires
     outcome-requires
     returns

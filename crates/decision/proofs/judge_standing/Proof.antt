@@ -8,20 +8,14 @@ use denote.Ref.{now}
 use Rattle.model.specs.Lists.{isSome}
 use Rattle.model.specs.Name.{keyed}
 use Rattle.model.specs.Region.{entries, standing}
-use Rattle.model.specs.Request.{keyPK}
-use Rattle.model.specs.Session.{atRuntime}
+use Rattle.model.specs.Request.{keyPK, wantedVerdicts}
 use Rattle.model.specs.Rules.{firstBroken}
 use Rattle.policy.specs.Descriptor.{stampOf}
-use Rattle.policy.specs.Verdict.{wantedBy}
-use Rattle.session.proofs.Phases.{runtime-phase}
 use Rattle.decision.specs.Parts.{judgedOf, stands, standingBy, verdictBy}
 use Rattle.decision.proofs.Broken.{after-kept, after-breaks}
 use borrow.Author.Needs.{needs}
 use Rattle.decision.proofs.judge_standing.Statement.{statement}
 use Rattle.decision.proofs.judge_standing.Tie as tie
-
-at-runtime-requires : tie.Need-at-runtime-requires
-at-runtime-requires c κs = search needs
 
 standing-requires : tie.Need-standing-requires
 standing-requires c κs = search needs
@@ -46,33 +40,30 @@ enum-told-2 c = search needs
 
 returns : tie.Need-returns
 returns c =
-    let a = c .before .before .before .before .before .before .before .before .before .before .before .before .args in
+    let a = c .before .before .before .before .before .before .before .before .before .before .before .args in
     let r = now (a .region) in
     let k = keyed (now (a .name)) (now (a .vendor)) in
-    let wanted : Bool → List ℕ = λ t. wantedBy (a .s .setup .custom) (a .presence) (isSome (standing keyPK (entries r))) k (a .attributes) t in
-    let front = standingBy (atRuntime (a .s)) (a .attributes) (now (a .bytes)) (a .old) in
+    let wanted : Bool → List ℕ = λ s. wantedVerdicts (a .t .custom) (a .presence) (isSome (standing keyPK (entries r))) k (a .attributes) s in
+    let front = standingBy (a .t .runtime) (a .attributes) (now (a .bytes)) (a .old) in
     let back = verdictBy r (a .old) (a .attributes) (wanted (stands (a .old))) (a .verdict) (stampOf (a .attributes) (now (a .bytes))) in
-    let same = ap (λ (t : Bool). judgedOf (firstBroken (standingBy t (a .attributes) (now (a .bytes)) (a .old)))) (runtime-phase (a .s) ∙ sym (c .before .before .before .before .before .before .before .before .at-runtime .ensures)) in
     c .verdict .ensures
-    ∙ ap₂ (λ (w t : List ℕ). judgedOf (firstBroken (verdictBy r (a .old) (a .attributes) w (a .verdict) t))) (c .before .before .before .wanted .ensures ∙ ap wanted (c .before .before .before .before .stands .ensures)) (c .before .before .stamp .ensures)
-    ∙ sym (after-kept front back (same ∙ sym (c .before .before .before .before .before .before .before .standing .ensures) ∙ c .before .before .before .before .before .enum-told .given .1))
+    ∙ ap₂ (λ (w s : List ℕ). judgedOf (firstBroken (verdictBy r (a .old) (a .attributes) w (a .verdict) s))) (c .before .before .before .wanted .ensures ∙ ap wanted (c .before .before .before .before .stands .ensures)) (c .before .before .stamp .ensures)
+    ∙ sym (after-kept front back (sym (c .before .before .before .before .before .before .before .standing .ensures) ∙ c .before .before .before .before .before .enum-told .given .1))
 
 returns-2 : tie.Need-returns-2
 returns-2 c =
-    let a = c .before .before .before .before .before .before .before .args in
+    let a = c .before .before .before .before .before .before .args in
     let r = now (a .region) in
     let k = keyed (now (a .name)) (now (a .vendor)) in
-    let front = standingBy (atRuntime (a .s)) (a .attributes) (now (a .bytes)) (a .old) in
-    let back = verdictBy r (a .old) (a .attributes) (wantedBy (a .s .setup .custom) (a .presence) (isSome (standing keyPK (entries r))) k (a .attributes) (stands (a .old))) (a .verdict) (stampOf (a .attributes) (now (a .bytes))) in
-    let same = ap (λ (t : Bool). judgedOf (firstBroken (standingBy t (a .attributes) (now (a .bytes)) (a .old)))) (runtime-phase (a .s) ∙ sym (c .before .before .before .at-runtime .ensures)) in
+    let front = standingBy (a .t .runtime) (a .attributes) (now (a .bytes)) (a .old) in
+    let back = verdictBy r (a .old) (a .attributes) (wantedVerdicts (a .t .custom) (a .presence) (isSome (standing keyPK (entries r))) k (a .attributes) (stands (a .old))) (a .verdict) (stampOf (a .attributes) (now (a .bytes))) in
     let told = c .enum-told2 .given in
-    told .1 ∙ sym (after-breaks front back (told .0 .0) (same ∙ sym (c .before .before .standing .ensures) ∙ told .1))
+    told .1 ∙ sym (after-breaks front back (told .0 .0) (sym (c .before .before .standing .ensures) ∙ told .1))
 
 pub judge-standing-spec : {M : Type 1} → statement M
 judge-standing-spec =
     tie.close
     (tie.spec
-    at-runtime-requires
     standing-requires
     enum-told
     stands-requires

@@ -1,7 +1,7 @@
 -- `policy::descriptor_broken` meets its contract: the form is asked with 0x20. Assumes nothing.
 use mathlib.Core.Path.{sym, _∙_}
-use Rattle.policy.specs.Rules.{rule8Of}
 use borrow.Author.Needs.{needs}
+use Rattle.model.specs.Rules.{rule8}
 use Rattle.policy.proofs.descriptor_broken.Statement.{statement}
 use Rattle.policy.proofs.descriptor_broken.Tie as tie
 
@@ -12,11 +12,11 @@ descriptor-right-requires : tie.Need-descriptor-right-requires
 descriptor-right-requires c κs = search needs
 
 returns : tie.Need-returns
-unfolding rule8Of
+unfolding rule8
 returns c = rw (sym (c .before .before .time-based .ensures) ∙ c .before .if1 .taken, ← c .descriptor-right .ensures)
 
 returns-2 : tie.Need-returns-2
-unfolding rule8Of
+unfolding rule8
 returns-2 c = rw (sym (c .before .time-based .ensures) ∙ c .if1 .left)
 
 pub descriptor-broken-spec : {M : Type 1} → statement M

@@ -1,10 +1,9 @@
 -- `policy::in_person` meets its contract: presence decides in custom mode. Assumes nothing.
-use borrow.Author.Tests.{ne-eqb}
 use Rattle.policy.proofs.in_person.Statement.{statement}
 use Rattle.policy.proofs.in_person.Tie as tie
 
 returns : tie.Need-returns
-returns c = rw (ne-eqb _ _ (c .if1 .taken))
+returns c = rw (c .if1 .taken)
 
 returns-2 : tie.Need-returns-2
 returns-2 c = rw (c .if1 .left)

@@ -1,8 +1,8 @@
 -- `policy::standing_broken` meets its contract: the first of its two tests that fails decides. Assumes nothing.
 use mathlib.Core.Path.{sym, ap, _∙_}
 use Prim.Native.Nat.{ℕ}
-use Rattle.policy.specs.Rules.{unlikeStored, rule7Of}
 use borrow.Author.Needs.{needs}
+use Rattle.model.specs.Rules.{unlikeStored, rule7}
 use Rattle.policy.proofs.standing_broken.Statement.{statement}
 use Rattle.policy.proofs.standing_broken.Tie as tie
 
@@ -13,7 +13,7 @@ unlike-requires : tie.Need-unlike-requires
 unlike-requires c κs = search needs
 
 returns : tie.Need-returns
-unfolding rule7Of
+unfolding rule7
 returns c =
     let a = c .before .before .before .args in
     let u = sym (c .before .unlike .ensures ∙ ap (λ (n : ℕ). unlikeStored n (a .stored)) (c .before .before .without-append .ensures)) ∙ c .if1 .taken in
@@ -23,14 +23,14 @@ runtime-access-requires : tie.Need-runtime-access-requires
 runtime-access-requires c κs = search needs
 
 returns-2 : tie.Need-returns-2
-unfolding rule7Of
+unfolding rule7
 returns-2 c =
     let a = c .before .before .before .before .before .args in
     let u = sym (c .before .before .before .unlike .ensures ∙ ap (λ (n : ℕ). unlikeStored n (a .stored)) (c .before .before .before .before .without-append .ensures)) ∙ c .before .before .if1 .left in
     rw (u, c .before .if2 .taken, ← c .runtime-access .ensures)
 
 returns-3 : tie.Need-returns-3
-unfolding rule7Of
+unfolding rule7
 returns-3 c =
     let a = c .before .before .before .before .args in
     let u = sym (c .before .before .unlike .ensures ∙ ap (λ (n : ℕ). unlikeStored n (a .stored)) (c .before .before .before .without-append .ensures)) ∙ c .before .if1 .left in

@@ -1,12 +1,8 @@
 -- `decision::change::outcome` meets its contract: it goes by what the set asks for. Assumes nothing.
-use Prim.Native.Nat.{ℕ, _+_}
 use mathlib.Core.Path.{sym, ap, _∙_}
 use mathlib.Core.Bool.{true}
-use lib.ListN.{length}
-use denote.Ref.{now}
-use Rattle.model.specs.Entry.{rounded}
 use Rattle.decision.specs.declared.Decision.the-variants.{Put}
-use Rattle.decision.specs.Parts.{resultBy, roomBy, outcomeBy}
+use Rattle.decision.specs.Parts.{resultBy, outcomeBy}
 use borrow.Author.Needs.{needs}
 use Rattle.decision.proofs.change.outcome.Statement.{statement}
 use Rattle.decision.proofs.change.outcome.Tie as tie
@@ -42,10 +38,8 @@ returns c = rw (sym (c .before .before .before .kind .ensures) ∙ c .before .en
 returns-2 : tie.Need-returns-2
 unfolding outcomeBy resultBy
 returns-2 c =
-    let a = c .before .before .before .before .before .before .before .before .args in
     rw (sym (c .before .before .before .before .kind .ensures) ∙ c .before .before .enum-told2 .given .1)
-    (c .put .ensures
-    ∙ ap (λ (n : ℕ). resultBy true Put n (roomBy (now (a .region)) (a .old) (rounded (60 + length (now (a .name)) + n) + a .reserve))) (c .before .new-size .ensures))
+    (c .put .ensures ∙ ap (resultBy true Put) (c .before .new-size .ensures))
 
 returns-3 : tie.Need-returns-3
 unfolding outcomeBy resultBy

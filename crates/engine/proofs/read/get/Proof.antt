@@ -6,8 +6,8 @@ use lib.ListN.{length}
 use denote.Ref.{now}
 use Rattle.model.specs.Name.{keyed}
 use Rattle.model.specs.Region.{entries, values, valuesOf}
+use Rattle.model.specs.Session.{atRuntime}
 use Rattle.model.specs.Rules.{gotBytes, valueToGet}
-use Rattle.query.specs.Query.{getAt}
 use Rattle.engine.proofs.Opened.{opens, refuses}
 use Rattle.engine.proofs.Reading.{read-found, read-refused, read-as, region-get, get-answered}
 use borrow.Author.Needs.{needs}
@@ -61,7 +61,7 @@ returns c =
     let k = keyed (now (a .name)) (now (a .vendor)) in
     let t = c .before .before .before .before .before .before .before .opened .given in
     let o = opens img (t .0 .0) (t .0 .1 .0) (c .before .before .before .before .before .before .before .before .before .before .is-named .result) (sym (c .before .before .before .before .before .before .before .before .before .«open» .ensures) ∙ t .1) in
-    let found = getAt (c .before .before .before .before .at-runtime .result) k (values (entries r)) in
+    let found = valueToGet (c .before .before .before .before .at-runtime .result) k (values (entries r)) in
     let here = read-found img found gotBytes (λ v. v .attributes) (now (a .buffer)) o (c .before .before .get-from .ensures) in
     let value = region-get (a .s) k img r (c .before .before .before .before .at-runtime .result) (c .before .before .before .before .before .cut .ensures ∙ o .ready .cut) (c .before .before .before .before .at-runtime .ensures) in
     get-answered (a .c) (a .s) k (now (a .buffer)) img (read-as img gotBytes (λ v. v .attributes) (now (a .buffer)) value (c .before .before .before .before .before .before .before .before .before .before .is-named .ensures) here)
@@ -73,7 +73,7 @@ returns-2 c =
     let k = keyed (now (a .name)) (now (a .vendor)) in
     let t = c .before .before .opened2 .given in
     let x = refuses img (t .0 .0) (c .before .before .before .before .before .is-named .result) (sym (c .before .before .before .before .«open» .ensures) ∙ t .1) in
-    let value = valueToGet (a .s) k (valuesOf img) in
+    let value = valueToGet (atRuntime (a .s)) k (valuesOf img) in
     rw (c .refused .ensures)
     (get-answered (a .c) (a .s) k (now (a .buffer)) img
     (read-as img gotBytes (λ v. v .attributes) (now (a .buffer)) refl (c .before .before .before .before .before .is-named .ensures) (read-refused img value gotBytes (λ v. v .attributes) (now (a .buffer)) x)))

@@ -7,9 +7,9 @@ use denote.Ref.{now}
 use Rattle.model.specs.Name.{keyed}
 use Rattle.model.specs.Walk.{entryValue}
 use Rattle.model.specs.Region.{entries, values}
-use Rattle.model.specs.Rules.{gotBytes}
+use Rattle.model.specs.Rules.{gotBytes, valueToGet}
 use Rattle.region.specs.Walk.{entryAt}
-use Rattle.query.specs.Query.{entryToGet, getAt}
+use Rattle.query.specs.Query.{entryToGet}
 use Rattle.query.proofs.Held.{get-value}
 use Rattle.engine.proofs.Reading.{answered-absent, answered-found, value-found, value-none, entry-attributes, short-data}
 use borrow.Author.Needs.{needs}
@@ -34,8 +34,8 @@ returns c =
     let r = now (a .region) in
     let k = keyed (now (a .name)) (now (a .vendor)) in
     let f = c .before .before .before .to-get in
-    let v = value-none r (f .result) (entryToGet (a .runtime) k (entries r)) (f .ensures) (getAt (a .runtime) k (values (entries r))) (get-value (a .runtime) k (entries r)) (c .before .enum-told .given .1) in
-    rw (c .refused .ensures) (answered-absent (getAt (a .runtime) k (values (entries r))) v gotBytes (λ v. v .attributes) (now (a .buffer)))
+    let v = value-none r (f .result) (entryToGet (a .runtime) k (entries r)) (f .ensures) (valueToGet (a .runtime) k (values (entries r))) (get-value (a .runtime) k (entries r)) (c .before .enum-told .given .1) in
+    rw (c .refused .ensures) (answered-absent (valueToGet (a .runtime) k (values (entries r))) v gotBytes (λ v. v .attributes) (now (a .buffer)))
 
 data-of-requires : tie.Need-data-of-requires
 data-of-requires c κs = search needs
@@ -58,8 +58,8 @@ returns-2 c =
     let k = keyed (now (a .name)) (now (a .vendor)) in
     let f = c .before .before .before .before .before .before .before .before .to-get in
     let t = c .before .before .before .before .before .before .found .given in
-    let v = value-found r (f .result) (entryToGet (a .runtime) k (entries r)) (f .ensures) (getAt (a .runtime) k (values (entries r))) (get-value (a .runtime) k (entries r)) (t .0 .0) (t .0 .1 .0) (t .1) in
-    answered-found (entryValue (entryAt r (t .0 .0) (t .0 .1 .0))) (getAt (a .runtime) k (values (entries r))) v gotBytes (λ v. v .attributes) (now (a .buffer))
+    let v = value-found r (f .result) (entryToGet (a .runtime) k (entries r)) (f .ensures) (valueToGet (a .runtime) k (values (entries r))) (get-value (a .runtime) k (entries r)) (t .0 .0) (t .0 .1 .0) (t .1) in
+    answered-found (entryValue (entryAt r (t .0 .0) (t .0 .1 .0))) (valueToGet (a .runtime) k (values (entries r))) v gotBytes (λ v. v .attributes) (now (a .buffer))
     (now (c .before .before .before .before .data-of .result)) (c .before .before .before .before .data-of .ensures) (t .0 .1 .0 .attributes) (entry-attributes r (t .0 .0) (t .0 .1 .0)) (c .before .before .give .ensures)
 
 pub get-from-spec : {M : Type 1} → statement M

@@ -6,8 +6,7 @@ use lib.ListN.{length}
 use denote.Ref.{now}
 use Rattle.model.specs.Name.{keyed}
 use Rattle.model.specs.Region.{entries, values}
-use Rattle.model.specs.Rules.{namedBytes}
-use Rattle.query.specs.Query.{nameAt}
+use Rattle.model.specs.Rules.{namedBytes, valueToName}
 use Rattle.engine.specs.Read.{nextAt}
 use Rattle.engine.proofs.Opened.{opens, refuses}
 use Rattle.engine.proofs.Reading.{read-found, read-refused, read-as, region-name}
@@ -62,7 +61,7 @@ returns c =
     let k = keyed (now (a .name)) (now (a .vendor)) in
     let t = c .before .before .before .before .before .before .before .opened .given in
     let o = opens img (t .0 .0) (t .0 .1 .0) (c .before .before .before .before .before .before .before .before .before .before .is-next-named .result) (sym (c .before .before .before .before .before .before .before .before .before .«open» .ensures) ∙ t .1) in
-    let found = nameAt (c .before .before .before .before .at-runtime .result) k (values (entries r)) in
+    let found = valueToName (c .before .before .before .before .at-runtime .result) k (values (entries r)) in
     let here = read-found img found namedBytes (λ v. 0) (now (a .buffer)) o (c .before .before .name-from .ensures) in
     let value = region-name (a .phase) k img r (c .before .before .before .before .at-runtime .result) (c .before .before .before .before .before .cut .ensures ∙ o .ready .cut) (c .before .before .before .before .at-runtime .ensures) in
     read-as img namedBytes (λ v. 0) (now (a .buffer)) value (c .before .before .before .before .before .before .before .before .before .before .is-next-named .ensures) here

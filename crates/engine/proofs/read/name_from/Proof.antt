@@ -8,9 +8,9 @@ use denote.Ref.{now}
 use Rattle.model.specs.Name.{keyed}
 use Rattle.model.specs.Walk.{entryValue}
 use Rattle.model.specs.Region.{entries, values}
-use Rattle.model.specs.Rules.{namedBytes}
+use Rattle.model.specs.Rules.{namedBytes, valueToName}
 use Rattle.region.specs.Walk.{entryAt}
-use Rattle.query.specs.Query.{entryToName, nameAt}
+use Rattle.query.specs.Query.{entryToName}
 use Rattle.query.proofs.Held.{name-value}
 use Rattle.engine.proofs.Reading.{answered-absent, answered-found, value-found, value-none, entry-vendor, short-name, short-vendor}
 use borrow.Author.Needs.{needs}
@@ -35,8 +35,8 @@ returns c =
     let r = now (a .region) in
     let k = keyed (now (a .name)) (now (a .vendor)) in
     let f = c .before .before .before .to-name in
-    let v = value-none r (f .result) (entryToName (a .runtime) k (entries r)) (f .ensures) (nameAt (a .runtime) k (values (entries r))) (name-value (a .runtime) k (entries r)) (c .before .enum-told .given .1) in
-    rw (c .refused .ensures) (answered-absent (nameAt (a .runtime) k (values (entries r))) v namedBytes (λ v. 0) (now (a .buffer)))
+    let v = value-none r (f .result) (entryToName (a .runtime) k (entries r)) (f .ensures) (valueToName (a .runtime) k (values (entries r))) (name-value (a .runtime) k (entries r)) (c .before .enum-told .given .1) in
+    rw (c .refused .ensures) (answered-absent (valueToName (a .runtime) k (values (entries r))) v namedBytes (λ v. 0) (now (a .buffer)))
 
 vendor-of-requires : tie.Need-vendor-of-requires
 vendor-of-requires c κs = search needs
@@ -64,9 +64,9 @@ returns-2 c =
     let k = keyed (now (a .name)) (now (a .vendor)) in
     let f = c .before .before .before .before .before .before .before .before .before .to-name in
     let t = c .before .before .before .before .before .before .before .found .given in
-    let v = value-found r (f .result) (entryToName (a .runtime) k (entries r)) (f .ensures) (nameAt (a .runtime) k (values (entries r))) (name-value (a .runtime) k (entries r)) (t .0 .0) (t .0 .1 .0) (t .1) in
+    let v = value-found r (f .result) (entryToName (a .runtime) k (entries r)) (f .ensures) (valueToName (a .runtime) k (values (entries r))) (name-value (a .runtime) k (entries r)) (t .0 .0) (t .0 .1 .0) (t .1) in
     let guid = c .before .before .before .before .before .vendor-of .ensures ∙ entry-vendor r (t .0 .0) (t .0 .1 .0) in
-    answered-found (entryValue (entryAt r (t .0 .0) (t .0 .1 .0))) (nameAt (a .runtime) k (values (entries r))) v namedBytes (λ v. 0) (now (a .buffer))
+    answered-found (entryValue (entryAt r (t .0 .0) (t .0 .1 .0))) (valueToName (a .runtime) k (values (entries r))) v namedBytes (λ v. 0) (now (a .buffer))
     (now (c .before .before .before .before .before .vendor-of .result) ++ now (c .before .before .before .before .name-of .result)) (ap₂ _++_ guid (c .before .before .before .before .name-of .ensures)) 0 refl (c .before .before .give-name .ensures)
 
 pub name-from-spec : {M : Type 1} → statement M

@@ -1,0 +1,32 @@
+-- `session::is_barred` meets its contract: in the boot phase no lock bars a name. Assumes nothing.
+use mathlib.Core.Path.{sym, _∙_}
+use mathlib.Core.Bool.{and-false, and-true}
+use denote.Ref.{now}
+use Rattle.model.specs.Name.{keyed}
+use Rattle.model.specs.Session.{locked}
+use Rattle.model.specs.Rules.{rule6}
+use Rattle.session.proofs.Phases.{boot-phase}
+use borrow.Author.Needs.{needs}
+use Rattle.session.proofs.is_barred.Statement.{statement}
+use Rattle.session.proofs.is_barred.Tie as tie
+
+in-boot-requires : tie.Need-in-boot-requires
+in-boot-requires c κs = search needs
+
+returns : tie.Need-returns
+unfolding rule6
+returns c =
+    let a = c .before .before .before .args in
+    rw (boot-phase (a .s) ∙ sym (c .before .in-boot .ensures) ∙ c .if1 .taken) (sym (and-false (locked (a .s) (keyed (now (a .name)) (now (a .vendor))))))
+
+is-locked-requires : tie.Need-is-locked-requires
+is-locked-requires c κs = search needs
+
+returns-2 : tie.Need-returns-2
+unfolding rule6
+returns-2 c =
+    let a = c .before .before .before .before .args in
+    rw (boot-phase (a .s) ∙ sym (c .before .before .in-boot .ensures) ∙ c .before .if1 .left) (c .is-locked .ensures ∙ sym (and-true (locked (a .s) (keyed (now (a .name)) (now (a .vendor))))))
+
+pub is-barred-spec : {M : Type 1} → statement M
+is-barred-spec = tie.close (tie.spec in-boot-requires returns is-locked-requires returns-2)
