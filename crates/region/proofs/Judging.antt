@@ -21,7 +21,7 @@ use Rattle.layout.specs.Head.{nameIn}
 use Rattle.layout.specs.declared.Entry as numbers
 use Rattle.region.specs.Walk.{entryAs}
 use Rattle.region.specs.Judge.{liveState, entrySound}
-use Rattle.region.proofs.Turns.{rest}
+use Rattle.region.proofs.Turns.{rest, Turned}
 
 module _ (y : Layout) (r : List ℕ) (at : ℕ) (e : numbers.Entry) where
   -- ---- right if it is live
@@ -95,12 +95,12 @@ unfolding rightLive entryAs walk.placed
 front-right y r at e = refl
 
 -- it is sound by itself just if it is so in the region
-pub front-sound : (y : Layout) (r : List ℕ) (at : ℕ) (e : numbers.Entry) → at ≤ length r
+pub front-sound : {y : Layout} {r : List ℕ} {at : ℕ} {e : numbers.Entry} {k : ℕ} → Turned y r at e k
     → entrySound (length (take (length r - at) (drop at r))) (entryAs y (take (length r - at) (drop at r)) 0 e) ≡ entrySound (length r) (entryAs y r at e)
-front-sound y r at e h =
+front-sound {y} {r} {at} {e} w =
     ap (λ s. entrySound (length s) (entryAs y s 0 e)) (rest r at)
     ∙ sound-parts y (drop at r) 0 e (length (drop at r))
     ∙ ap₂ (λ (b c : Bool). among states (e .state) && (eqb (e .state) 0xFF || b) && c)
-    (ap (leb (0 + filled y e)) (length-drop at r) ∙ shifted at (filled y e) (length r) h)
+    (ap (leb (0 + filled y e)) (length-drop at r) ∙ shifted at (filled y e) (length r) (w .inside))
     (front-right y r at e)
     ∙ sym (sound-parts y r at e (length r))

@@ -1,19 +1,19 @@
 -- Whether a name is doubled may be judged by looking at each entry against those before it, since being doubled by goes both ways; and an entry whose
 -- mark none of them has is doubled by none, since a mark is a function of state, name and GUID.
 -- Assumes nothing.
-use Prim.Native.Nat.{ℕ, _+_, _-_, _≤_, _<_, _/_, _%_}
+use Prim.Native.Nat.{ℕ, _+_, _-_, _≤_, _<_}
 use native.Mathlib.Omega.{arith}
 use mathlib.Core.Path.{_≡_, refl, sym, ap, ap₂, _∙_}
 use mathlib.Core.Logic.{_≢_}
 use mathlib.Core.Bool.{Bool, true, false, not, _&&_, _||_, and-true, and-false, or-true, true≢false}
 use mathlib.Core.List.{List, [], _∷_, _++_, append-assoc}
 use lib.ListN.{length, getD, set, take, drop, length-set}
-use lib.Dec.{eqb, leb}
+use lib.Dec.{eqb}
 use lib.Seq.{getD-set-same, getD-set-other}
 use borrow.Author.Tests.{eq-eqb, ne-eqb, eqb-true, eqb-false, le-leb, lt-leb}
 use Rattle.model.specs.declared.Layout.{Layout}
 use Rattle.model.specs.Lists.{any}
-use Rattle.model.specs.Name.{Key, sameKey, keyed}
+use Rattle.model.specs.Name.{Key, sameKey}
 use Rattle.model.specs.Image.{regionHeaderSize}
 use Rattle.model.specs.Entry.{headerFieldsIn}
 use Rattle.model.specs.Walk as walk
@@ -30,7 +30,7 @@ use Rattle.region.specs.Marks.{keyMark, deadMark, markOf, markAt, markIn
 use Rattle.region.specs.declared.Mark.{Mark}
 use Rattle.region.specs.declared.Turn.{Turn}
 use Rattle.region.specs.declared.Turn.the-variants.{Entry, Stop}
-use Rattle.region.proofs.Turns.{rest, turned, stopped}
+use Rattle.region.proofs.Turns.{rest, Turned, Ended, at-entry, at-end}
 
 -- ---- the mark of an entry
 
@@ -80,27 +80,30 @@ note-own v g k = go (eqb v 0) refl (eqb v g) refl
 
 -- ---- the entries before an offset
 
-module _ (end : ℕ) {l es : List walk.Entry} {x : walk.Entry} (first : l ≡ x ∷ es) where
-  pub up-next : x .at < end → upTo end l ≡ x ∷ upTo end es
-  unfolding upTo
-  up-next h = ap (upTo end) first ∙ rw (lt-leb end (x .at) h)
-
-  pub up-stop : end ≤ x .at → upTo end l ≡ []
-  unfolding upTo
-  up-stop h = ap (upTo end) first ∙ rw (le-leb end (x .at) h)
-
-pub at-place : (form : Layout) (r : List ℕ) (at : ℕ) (e : numbers.Entry) → entryAs form r at e .at ≡ at
+at-place : (form : Layout) (r : List ℕ) (at : ℕ) (e : numbers.Entry) → entryAs form r at e .at ≡ at
 unfolding entryAs walk.placed
 at-place form r at e = refl
 
+module _ {form : Layout} {r : List ℕ} {at : ℕ} {e : numbers.Entry} {k : ℕ} (w : Turned form r at e k) {end : ℕ} where
+  pub up-next : at < end → upTo end (fromIn form r at) ≡ entryAs form r at e ∷ upTo end (fromIn form r k)
+  unfolding upTo
+  up-next h = ap (upTo end) (w .walk) ∙ rw (at-place form r at e, lt-leb end at h)
+
+  up-stop : end ≤ at → upTo end (fromIn form r at) ≡ []
+  unfolding upTo
+  up-stop h = ap (upTo end) (w .walk) ∙ rw (at-place form r at e, le-leb end at h)
+
+pub up-none : {form : Layout} {r : List ℕ} {at : ℕ} → Ended form r at → (end : ℕ) → upTo end (fromIn form r at) ≡ []
+unfolding upTo
+up-none z end = ap (upTo end) (z .walk)
+
 -- from an offset on none begins before it
 pub up-past : (form : Layout) (r : List ℕ) (at end : ℕ) → end ≤ at → upTo end (fromIn form r at) ≡ []
-unfolding upTo
 up-past form r at end h = go (turnIn form r at) refl
   where
     go : (t : Turn) → turnIn form r at ≡ t → upTo end (fromIn form r at) ≡ []
-    go (Entry e k) p = up-stop end (turned form r at e k p .walk) (rw (at-place form r at e) h)
-    go Stop p = ap (upTo end) (stopped form r at p)
+    go (Entry e k) p = up-stop (at-entry refl p) h
+    go Stop p = up-none (at-end refl p) end
 
 -- ---- being doubled by goes both ways
 
@@ -271,18 +274,17 @@ begin form r = record {
   size = refl;
 }
 
-module _ (form : Layout) (r noted : List ℕ) (at : ℕ) (c : Passed form r noted at) where
+module _ {form : Layout} {r noted : List ℕ} {at : ℕ} (c : Passed form r noted at) where
   before : upTo at (entriesIn form r) ≡ c .passed
   before = ap (upTo at) (c .whole) ∙ up-noted noted at (c .passed) (fromIn form r at) (c .each) (up-past form r at at (omega arith))
 
-  pub ended : turnIn form r at ≡ Stop → undoubled (entriesIn form r) ≡ true
+  pub ended : Ended form r at → undoubled (entriesIn form r) ≡ true
   unfolding undoubled
-  ended s = c .judge ∙ ap (judged (c .passed)) (stopped form r at s)
+  ended z = c .judge ∙ ap (judged (c .passed)) (z .walk)
 
-  module _ (e : numbers.Entry) (k : ℕ) (found : turnIn form r at ≡ Entry e k) where
+  module _ {e : numbers.Entry} {k : ℕ} (w : Turned form r at e k) where
     pub doubled : (v g : ℕ) → (isNoted v g && doubledIn (entryAs form r at e) (upTo at (entriesIn form r))) ≡ true → undoubled (entriesIn form r) ≡ false
     doubled v g h =
-        let w = turned form r at e k found in
         let d = and-split (isNoted v g) (doubledIn (entryAs form r at e) (upTo at (entriesIn form r))) h in
         c .judge ∙ ap (judged (c .passed)) (w .walk)
         ∙ judged-stop (c .passed) (entryAs form r at e) (fromIn form r k) (ap (doubledIn (entryAs form r at e)) (sym before) ∙ d .1)
@@ -302,7 +304,6 @@ module _ (form : Layout) (r noted : List ℕ) (at : ℕ) (c : Passed form r note
         → Passed form r (noting noted m) k
     unfolding markAt
     next m q b h =
-        let w = turned form r at e k found in
         let x = entryAs form r at e in
         let room : m .place < length noted = rw (c .size) b in
         let more : at < k = omega arith in

@@ -1,7 +1,7 @@
 -- What a turn of the walk says of the entries from its offset on. The numbers found are those of the header that is read there, whose stamp and GUID
 -- stand in the bytes, so the entry that they make up is the one that the walk places.
 -- Assumes nothing.
-use Prim.Native.Nat.{ℕ, _+_, _-_, _≤_}
+use Prim.Native.Nat.{ℕ, _+_, _-_, _≤_, _<_}
 use native.Mathlib.Nat.{le-of-eq}
 use native.Mathlib.Omega.{arith}
 use mathlib.Core.Path.{_≡_, refl, sym, ap, ap₂, _∙_}
@@ -12,7 +12,7 @@ use lib.Seq.{take-all}
 use Rattle.model.specs.declared.Layout.{Layout}
 use Rattle.model.specs.Layout.{headerLength}
 use Rattle.model.specs.Entry.{readHeaderIn, Header}
-use Rattle.model.proofs.Walking.{read-nil, from-end, from-entry, from-fits, read-fields, stride-least}
+use Rattle.model.proofs.Walking.{read-nil, from-end, from-past, from-entry, from-fits, read-fields, stride-least}
 use Rattle.layout.specs.Head.{headIn, headerAs, numbersOf}
 use Rattle.region.specs.Walk.{strideIn, entryAs, turnIn, onHead}
 use Rattle.model.specs.Lists.{onSome}
@@ -21,6 +21,7 @@ use Rattle.model.specs.Beside.{fromIn}
 use Rattle.layout.specs.declared.Entry as numbers
 use Rattle.layout.specs.declared.Head.{Head}
 use Rattle.layout.specs.declared.Head.the-variants.{Present, End}
+use Rattle.region.specs.declared.Turn.{Turn}
 use Rattle.region.specs.declared.Turn.the-variants.{Entry, Stop}
 
 -- the part that `&r[at..]` lends is the rest of the list
@@ -71,11 +72,15 @@ module _ (y : Layout) where
 
   -- ---- what a turn says of the walk
 
+  -- at an entry the walk is that entry and the walk from the next offset on; the header found lies within the region, so offsets do not overflow, and what
+  -- is left of the region falls
   pub record Turned (r : List ℕ) (at : ℕ) (e : numbers.Entry) (k : ℕ) : Type 0 where
     pub walk : (fromIn y) r at ≡ (entryAs y) r at e ∷ (fromIn y) r k
     pub fits : at + (headerLength y) ≤ length r
     pub more : at + (headerLength y) ≤ k
     pub next : (entryAs y) r at e .next ≡ k
+    pub inside : at ≤ length r
+    pub less : length r - k < length r - at
 
   -- an entry found is the first of the walk, which goes on at the offset found with it
   pub turned : (r : List ℕ) (at : ℕ) (e : numbers.Entry) (k : ℕ) → (turnIn y) r at ≡ Entry e k → Turned r at e k
@@ -89,13 +94,16 @@ module _ (y : Layout) where
           let last : at + (strideIn y) e ≡ k = ap (λ (m : numbers.Entry). at + (strideIn y) m) (sym same) ∙ (cc) in
           let q = present (drop at r) e (h ∙ ap Present same) in
           let header = same-header (drop at r) e q in
+          let room = from-fits y r at (q .header) (q .read) in
           let least = stride-least y ((headerAs y) e (drop at r)) in
           record {
             walk = from-entry y r at ((headerAs y) e (drop at r)) (q .read ∙ ap some header)
                 ∙ ap (λ (j : ℕ). (entryAs y) r at e ∷ (fromIn y) r j) last;
-            fits = from-fits y r at (q .header) (q .read);
+            fits = room;
             more = omega arith;
             next = last;
+            inside = omega arith;
+            less = omega arith;
           }
 
   pub stopped : (r : List ℕ) (at : ℕ) → (turnIn y) r at ≡ Stop → (fromIn y) r at ≡ []
@@ -105,3 +113,21 @@ module _ (y : Layout) where
       go : (x : Head) → (headIn y) (drop at r) ≡ x → onHead x (λ n. Entry n (at + (strideIn y) n)) Stop ≡ Stop → (fromIn y) r at ≡ []
       go End h p = from-end y r at (ended (drop at r) h)
       go (Present n) h p = let z : _≡_ {A = ℕ} 0 1 = cc in absurd (omega arith)
+
+-- ---- the law of a turn, as a loop cites it: by what the call answers and what the match tells of the answer. Layout, region, offset and numbers are read
+-- off the two.
+
+-- at the end the walk is empty
+pub record Ended (y : Layout) (r : List ℕ) (at : ℕ) : Type 0 where
+  pub walk : fromIn y r at ≡ []
+
+-- past the end of the region nothing stands
+pub at-past : (y : Layout) (r : List ℕ) (at : ℕ) → length r ≤ at → Ended y r at
+at-past y r at h = record { walk = from-past y r at h }
+
+module _ {y : Layout} {r : List ℕ} {at : ℕ} {t : Turn} (answer : t ≡ turnIn y r at) where
+  pub at-entry : {e : numbers.Entry} {k : ℕ} → t ≡ Entry e k → Turned y r at e k
+  at-entry {e} {k} told = turned y r at e k (sym answer ∙ told)
+
+  pub at-end : t ≡ Stop → Ended y r at
+  at-end told = record { walk = stopped y r at (sym answer ∙ told) }

@@ -2,8 +2,7 @@
 -- What is left of the region falls.
 -- Assumes nothing.
 use Prim.Native.Nat.{_-_}
-use native.Mathlib.Omega.{arith}
-use mathlib.Core.Path.{_≡_, refl, sym, ap, _∙_}
+use mathlib.Core.Path.{_≡_, sym, ap, _∙_}
 use lib.ListN.{length}
 use denote.Ref.{now}
 use Rattle.model.specs.Lists.{any}
@@ -12,9 +11,9 @@ use Rattle.model.specs.Region.{isEntry, entriesIn}
 use Rattle.model.specs.Beside.{fromIn}
 use Rattle.model.proofs.Walking.{entries-from}
 use Rattle.region.specs.Marks.{upTo}
-use Rattle.region.proofs.Turns.{turned, stopped}
+use Rattle.region.proofs.Turns.{at-entry, at-end}
 use Rattle.region.proofs.Scanning.{any-next, any-here}
-use Rattle.region.proofs.Marked.{up-next, up-past, at-place}
+use Rattle.region.proofs.Marked.{up-next, up-none, up-past}
 use borrow.Author.Needs.{needs}
 use Rattle.region.proofs.judge.came_before.Statement.{statement}
 use Rattle.region.proofs.judge.came_before.Tie as tie
@@ -41,13 +40,9 @@ enum-told : tie.Need-enum-told Inv-loop μ-loop
 enum-told c = search needs
 
 returns : tie.Need-returns Inv-loop μ-loop
-unfolding upTo
 returns c =
-    let l = c .before .before .before .before in
-    let a = l .before .before .before .before .args in
-    let r = now (a .region) in
-    sym (l .loop .inv ∙ ap (λ w. any (isEntry (a .state) (keyed (now (a .name)) (now (a .vendor)))) (upTo (a .end) w))
-    (stopped (a .y) r (l .loop .at) (sym (c .before .before .turn-in .ensures) ∙ c .enum-told .given .1)))
+    let b = c .before .before in
+    sym (b .before .before .loop .inv ∙ ap (any _) (up-none (at-end (b .turn-in .ensures) (c .enum-told .given .1)) _))
 
 is-entry-in-requires : tie.Need-is-entry-in-requires Inv-loop μ-loop
 is-entry-in-requires c κs = search needs
@@ -55,41 +50,23 @@ is-entry-in-requires c κs = search needs
 returns-2 : tie.Need-returns-2 Inv-loop μ-loop
 returns-2 c =
     let b = c .before .before .before in
-    let l = b .before .before .before .before in
-    let a = l .before .before .before .before .args in
-    let t = b .t .given in
-    let r = now (a .region) in
-    let w = turned (a .y) r (l .loop .at) (t .0 .0) (t .0 .1 .0) (sym (b .before .before .turn-in .ensures) ∙ t .1) in
-    let up = up-next (a .end) (w .walk) (rw (at-place (a .y) r (l .loop .at) (t .0 .0)) (b .before .before .before .loop-test .taken)) in
-    sym (l .loop .inv ∙ any-here up (isEntry (a .state) (keyed (now (a .name)) (now (a .vendor)))) (sym (c .before .is-entry-in .ensures) ∙ c .if1 .taken))
+    let up = up-next (at-entry (b .before .before .turn-in .ensures) (b .t .given .1)) (b .before .before .before .loop-test .taken) in
+    sym (b .before .before .before .before .loop .inv ∙ any-here up _ (sym (c .before .is-entry-in .ensures) ∙ c .if1 .taken))
 
 loop-less : tie.Need-loop-less Inv-loop μ-loop
-loop-less c =
-    let b = c .before .before .before in
-    let l = b .before .before .before .before in
-    let a = l .before .before .before .before .args in
-    let t = b .t .given in
-    let r = now (a .region) in
-    let w = turned (a .y) r (l .loop .at) (t .0 .0) (t .0 .1 .0) (sym (b .before .before .turn-in .ensures) ∙ t .1) in
-    omega arith
+loop-less c = let b = c .before .before .before in at-entry (b .before .before .turn-in .ensures) (b .t .given .1) .less
 
 loop-again : tie.Need-loop-again Inv-loop μ-loop
 loop-again c =
     let b = c .before .before .before in
-    let l = b .before .before .before .before in
-    let a = l .before .before .before .before .args in
-    let t = b .t .given in
-    let r = now (a .region) in
-    let w = turned (a .y) r (l .loop .at) (t .0 .0) (t .0 .1 .0) (sym (b .before .before .turn-in .ensures) ∙ t .1) in
-    let up = up-next (a .end) (w .walk) (rw (at-place (a .y) r (l .loop .at) (t .0 .0)) (b .before .before .before .loop-test .taken)) in
-    l .loop .inv ∙ any-next up (isEntry (a .state) (keyed (now (a .name)) (now (a .vendor)))) (sym (c .before .is-entry-in .ensures) ∙ c .if1 .left)
+    let up = up-next (at-entry (b .before .before .turn-in .ensures) (b .t .given .1)) (b .before .before .before .loop-test .taken) in
+    b .before .before .before .before .loop .inv ∙ any-next up _ (sym (c .before .is-entry-in .ensures) ∙ c .if1 .left)
 
 returns-3 : tie.Need-returns-3 Inv-loop μ-loop
 returns-3 c =
     let l = c .before in
     let a = l .before .before .before .before .args in
-    let r = now (a .region) in
-    sym (l .loop .inv ∙ ap (any (isEntry (a .state) (keyed (now (a .name)) (now (a .vendor))))) (up-past (a .y) r (l .loop .at) (a .end) (c .loop-test .left)))
+    sym (l .loop .inv ∙ ap (any _) (up-past (a .y) (now (a .region)) (l .loop .at) (a .end) (c .loop-test .left)))
 
 pub came-before-spec : {M : Type 1} → statement M
 came-before-spec =

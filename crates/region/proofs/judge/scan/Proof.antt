@@ -12,7 +12,7 @@ use Rattle.model.specs.Beside.{fromIn}
 use Rattle.region.specs.Judge.{scanOf}
 use Rattle.region.proofs.Judging.{front-sound}
 use Rattle.region.proofs.Scanning.{scanned, scan-begin, scan-next, scan-stop}
-use Rattle.region.proofs.Turns.{turned, stopped}
+use Rattle.region.proofs.Turns.{at-entry, at-end}
 use Rattle.region.proofs.judge.scan.Statement.{statement}
 use Rattle.region.proofs.judge.scan.Tie as tie
 
@@ -37,76 +37,37 @@ enum-told c = search needs
 returns : tie.Need-returns Inv-loop μ-loop
 unfolding walkEnd
 returns c =
-    let l = c .before .before .before in
-    let a = l .before .before .args in
-    let r = now (a .region) in
-    sym (l .loop .inv ∙ ap (scanned (length r) (l .loop .at)) (stopped (a .y) r (l .loop .at) (sym (c .before .before .turn-in .ensures)
-    ∙ c .enum-told .given .1)))
+    let b = c .before .before in
+    sym (b .before .loop .inv ∙ ap (scanned _ _) (at-end (b .turn-in .ensures) (c .enum-told .given .1) .walk))
 
 sub-entry-sound : tie.Need-sub-entry-sound Inv-loop μ-loop
-sub-entry-sound c =
-    let b = c .before in
-    let l = b .before .before .before in
-    let a = l .before .before .args in
-    let r = now (a .region) in
-    let t = b .t .given in
-    let w = turned (a .y) r (l .loop .at) (t .0 .0) (t .0 .1 .0) (sym (b .before .before .turn-in .ensures) ∙ t .1) in
-    omega arith
+sub-entry-sound c = at-entry (c .before .before .before .turn-in .ensures) (c .before .t .given .1) .inside
 
 part-entry-sound-start : tie.Need-part-entry-sound-start Inv-loop μ-loop
-part-entry-sound-start c =
-    let b = c .before in
-    let l = b .before .before .before in
-    let a = l .before .before .args in
-    let r = now (a .region) in
-    let t = b .t .given in
-    let w = turned (a .y) r (l .loop .at) (t .0 .0) (t .0 .1 .0) (sym (b .before .before .turn-in .ensures) ∙ t .1) in
-    omega arith
+part-entry-sound-start c = let w = at-entry (c .before .before .before .turn-in .ensures) (c .before .t .given .1) in omega arith
 
 part-entry-sound-end : tie.Need-part-entry-sound-end Inv-loop μ-loop
-part-entry-sound-end c =
-    let b = c .before in
-    let l = b .before .before .before in
-    let a = l .before .before .args in
-    let r = now (a .region) in
-    let t = b .t .given in
-    let w = turned (a .y) r (l .loop .at) (t .0 .0) (t .0 .1 .0) (sym (b .before .before .turn-in .ensures) ∙ t .1) in
-    omega arith
+part-entry-sound-end c = let w = at-entry (c .before .before .before .turn-in .ensures) (c .before .t .given .1) in omega arith
 
 entry-sound-requires : tie.Need-entry-sound-requires Inv-loop μ-loop
 entry-sound-requires c κs = search needs
 
 loop-less : tie.Need-loop-less Inv-loop μ-loop
-loop-less c =
-    let b = c .before .before .before .before in
-    let l = b .before .before .before in
-    let a = l .before .before .args in
-    let r = now (a .region) in
-    let t = b .t .given in
-    let w = turned (a .y) r (l .loop .at) (t .0 .0) (t .0 .1 .0) (sym (b .before .before .turn-in .ensures) ∙ t .1) in
-    omega arith
+loop-less c = let b = c .before .before .before .before in at-entry (b .before .before .turn-in .ensures) (b .t .given .1) .less
 
 loop-again : tie.Need-loop-again Inv-loop μ-loop
 loop-again c =
     let b = c .before .before .before .before in
-    let l = b .before .before .before in
-    let a = l .before .before .args in
-    let r = now (a .region) in
-    let t = b .t .given in
-    let w = turned (a .y) r (l .loop .at) (t .0 .0) (t .0 .1 .0) (sym (b .before .before .turn-in .ensures) ∙ t .1) in
-    let own = sym (front-sound (a .y) r (l .loop .at) (t .0 .0) (omega arith)) ∙ sym (c .before .entry-sound .ensures) in
-    l .loop .inv ∙ scan-next (w .walk) (length r) (l .loop .at) (t .0 .1 .0) (own ∙ c .if1 .taken) (w .next)
+    let w = at-entry (b .before .before .turn-in .ensures) (b .t .given .1) in
+    let own = sym (front-sound w) ∙ sym (c .before .entry-sound .ensures) in
+    b .before .before .before .loop .inv ∙ scan-next (w .walk) _ _ _ (own ∙ c .if1 .taken) (w .next)
 
 returns-2 : tie.Need-returns-2 Inv-loop μ-loop
 returns-2 c =
     let b = c .before .before .before .before in
-    let l = b .before .before .before in
-    let a = l .before .before .args in
-    let r = now (a .region) in
-    let t = b .t .given in
-    let w = turned (a .y) r (l .loop .at) (t .0 .0) (t .0 .1 .0) (sym (b .before .before .turn-in .ensures) ∙ t .1) in
-    let own = sym (front-sound (a .y) r (l .loop .at) (t .0 .0) (omega arith)) ∙ sym (c .before .entry-sound .ensures) in
-    sym (l .loop .inv ∙ scan-stop (w .walk) (length r) (l .loop .at) (own ∙ c .if1 .left))
+    let w = at-entry (b .before .before .turn-in .ensures) (b .t .given .1) in
+    let own = sym (front-sound w) ∙ sym (c .before .entry-sound .ensures) in
+    sym (b .before .before .before .loop .inv ∙ scan-stop (w .walk) _ _ (own ∙ c .if1 .left))
 
 pub scan-spec : {M : Type 1} → statement M
 scan-spec =

@@ -4,9 +4,9 @@
 use Prim.Native.Nat.{_-_}
 use native.Mathlib.Omega.{arith}
 use mathlib.Core.Path.{sym, _∙_}
-use lib.ListN.{length, getD}
+use lib.ListN.{length}
 use denote.Ref.{now}
-use Rattle.region.proofs.Turns.{turned}
+use Rattle.region.proofs.Turns.{at-entry, at-end}
 use Rattle.region.proofs.Marked.{Passed, here-mark, begin, ended, doubled, next}
 use borrow.Author.Needs.{needs}
 use Rattle.region.proofs.judge.undoubled.Statement.{statement}
@@ -36,44 +36,16 @@ enum-told : tie.Need-enum-told Inv-loop μ-loop
 enum-told c = search needs
 
 returns : tie.Need-returns Inv-loop μ-loop
-returns c =
-    let l = c .before .before .before in
-    let a = l .before .before .before .args in
-    let r = now (a .region) in
-    sym (ended (a .y) r (l .loop .noted) (l .loop .at) (l .loop .inv) (sym (c .before .before .turn-in .ensures) ∙ c .enum-told .given .1))
+returns c = sym (ended (c .before .before .before .loop .inv) (at-end (c .before .before .turn-in .ensures) (c .enum-told .given .1)))
 
 sub-mark-of : tie.Need-sub-mark-of Inv-loop μ-loop
-sub-mark-of c =
-    let b = c .before in
-    let l = b .before .before .before in
-    let a = l .before .before .before .args in
-    let r = now (a .region) in
-    let t = b .t .given in
-    let found = sym (b .before .before .turn-in .ensures) ∙ t .1 in
-    let w = turned (a .y) r (l .loop .at) (t .0 .0) (t .0 .1 .0) found in
-    omega arith
+sub-mark-of c = at-entry (c .before .before .before .turn-in .ensures) (c .before .t .given .1) .inside
 
 part-mark-of-start : tie.Need-part-mark-of-start Inv-loop μ-loop
-part-mark-of-start c =
-    let b = c .before in
-    let l = b .before .before .before in
-    let a = l .before .before .before .args in
-    let r = now (a .region) in
-    let t = b .t .given in
-    let found = sym (b .before .before .turn-in .ensures) ∙ t .1 in
-    let w = turned (a .y) r (l .loop .at) (t .0 .0) (t .0 .1 .0) found in
-    omega arith
+part-mark-of-start c = let w = at-entry (c .before .before .before .turn-in .ensures) (c .before .t .given .1) in omega arith
 
 part-mark-of-end : tie.Need-part-mark-of-end Inv-loop μ-loop
-part-mark-of-end c =
-    let b = c .before in
-    let l = b .before .before .before in
-    let a = l .before .before .before .args in
-    let r = now (a .region) in
-    let t = b .t .given in
-    let found = sym (b .before .before .turn-in .ensures) ∙ t .1 in
-    let w = turned (a .y) r (l .loop .at) (t .0 .0) (t .0 .1 .0) found in
-    omega arith
+part-mark-of-end c = let w = at-entry (c .before .before .before .turn-in .ensures) (c .before .t .given .1) in omega arith
 
 mark-of-requires : tie.Need-mark-of-requires Inv-loop μ-loop
 mark-of-requires c κs = search needs
@@ -87,14 +59,8 @@ is-doubled-requires c κs = search needs
 returns-2 : tie.Need-returns-2 Inv-loop μ-loop
 returns-2 c =
     let b = c .before .before .before .before .before in
-    let l = b .before .before .before in
-    let a = l .before .before .before .args in
-    let r = now (a .region) in
-    let t = b .t .given in
-    let found = sym (b .before .before .turn-in .ensures) ∙ t .1 in
-    let m = c .before .before .mark-of .result in
-    let h = sym (c .before .is-doubled .ensures) ∙ c .if1 .taken in
-    sym (doubled (a .y) r (l .loop .noted) (l .loop .at) (l .loop .inv) (t .0 .0) (t .0 .1 .0) found (getD (l .loop .noted) (m .place) 0) (m .sign) h)
+    let w = at-entry (b .before .before .turn-in .ensures) (b .t .given .1) in
+    sym (doubled (b .before .before .before .loop .inv) w _ _ (sym (c .before .is-doubled .ensures) ∙ c .if1 .taken))
 
 array-read-note : tie.Need-array-read-note Inv-loop μ-loop
 array-read-note c = search needs
@@ -106,29 +72,17 @@ array-write-noted : tie.Need-array-write-noted Inv-loop μ-loop
 array-write-noted c = search needs
 
 loop-less : tie.Need-loop-less Inv-loop μ-loop
-loop-less c =
-    let b = c .before .before .before .before .before .before in
-    let l = b .before .before .before in
-    let a = l .before .before .before .args in
-    let r = now (a .region) in
-    let t = b .t .given in
-    let found = sym (b .before .before .turn-in .ensures) ∙ t .1 in
-    let w = turned (a .y) r (l .loop .at) (t .0 .0) (t .0 .1 .0) found in
-    omega arith
+loop-less c = let b = c .before .before .before .before .before .before in at-entry (b .before .before .turn-in .ensures) (b .t .given .1) .less
 
 loop-again : tie.Need-loop-again Inv-loop μ-loop
 loop-again c =
     let b = c .before .before .before .before .before .before in
     let l = b .before .before .before in
     let a = l .before .before .before .args in
-    let r = now (a .region) in
-    let t = b .t .given in
-    let found = sym (b .before .before .turn-in .ensures) ∙ t .1 in
-    let m = c .before .before .before .mark-of .result in
+    let w = at-entry (b .before .before .turn-in .ensures) (b .t .given .1) in
     let e = c .before .before .before .mark-of .ensures in
-    let q = e .0 ∙ here-mark (a .y) r (l .loop .at) (t .0 .0) in
-    let h = sym (c .before .before .is-doubled .ensures) ∙ c .before .if1 .left in
-    rw (c .note .ensures) (next (a .y) r (l .loop .noted) (l .loop .at) (l .loop .inv) (t .0 .0) (t .0 .1 .0) found m q (e .1) h)
+    let q = e .0 ∙ here-mark (a .y) (now (a .region)) (l .loop .at) (b .t .given .0 .0) in
+    rw (c .note .ensures) (next (l .loop .inv) w _ q (e .1) (sym (c .before .before .is-doubled .ensures) ∙ c .before .if1 .left))
 
 pub undoubled-spec : {M : Type 1} → statement M
 undoubled-spec =

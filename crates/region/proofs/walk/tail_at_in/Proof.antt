@@ -2,15 +2,13 @@
 -- falls.
 -- Assumes nothing.
 use Prim.Native.Nat.{_-_}
-use native.Mathlib.Omega.{arith}
 use mathlib.Core.Path.{_≡_, refl, sym, ap, _∙_}
 use lib.ListN.{length}
-use denote.Ref.{now}
 use borrow.Author.Needs.{needs}
 use Rattle.model.specs.Walk.{walkEnd}
 use Rattle.model.specs.Region.{entriesIn, tailAtIn}
 use Rattle.model.specs.Beside.{fromIn}
-use Rattle.region.proofs.Turns.{turned, stopped}
+use Rattle.region.proofs.Turns.{at-entry, at-end}
 use Rattle.region.proofs.walk.tail_at_in.Statement.{statement}
 use Rattle.region.proofs.walk.tail_at_in.Tie as tie
 
@@ -36,28 +34,18 @@ enum-told c = search needs
 returns : tie.Need-returns Inv-loop μ-loop
 unfolding walkEnd
 returns c =
-    let l = c .before .before .before in
-    let a = l .before .before .args in
-    let r = now (a .region) in
-    sym (l .loop .inv ∙ ap (walkEnd (l .loop .at)) (stopped (a .y) r (l .loop .at) (sym (c .before .before .turn-in .ensures) ∙ c .enum-told .given .1)))
+    let b = c .before .before in
+    sym (b .before .loop .inv ∙ ap (walkEnd _) (at-end (b .turn-in .ensures) (c .enum-told .given .1) .walk))
 
 loop-less : tie.Need-loop-less Inv-loop μ-loop
-loop-less c =
-    let l = c .before .before .before .before in
-    let t = c .before .t .given in
-    let w = turned (l .before .before .args .y) (now (l .before .before .args .region)) (l .loop .at) (t .0 .0) (t .0 .1 .0)
-    (sym (c .before .before .before .turn-in .ensures) ∙ t .1) in
-    omega arith
+loop-less c = at-entry (c .before .before .before .turn-in .ensures) (c .before .t .given .1) .less
 
 loop-again : tie.Need-loop-again Inv-loop μ-loop
 unfolding walkEnd
 loop-again c =
-    let l = c .before .before .before .before in
-    let a = l .before .before .args in
-    let r = now (a .region) in
-    let t = c .before .t .given in
-    let w = turned (a .y) r (l .loop .at) (t .0 .0) (t .0 .1 .0) (sym (c .before .before .before .turn-in .ensures) ∙ t .1) in
-    l .loop .inv ∙ ap (walkEnd (l .loop .at)) (w .walk) ∙ ap (λ k. walkEnd k (fromIn (a .y) r (t .0 .1 .0))) (w .next)
+    let b = c .before .before .before in
+    let w = at-entry (b .turn-in .ensures) (c .before .t .given .1) in
+    b .before .loop .inv ∙ ap (walkEnd _) (w .walk) ∙ rw (w .next)
 
 pub tail-at-in-spec : {M : Type 1} → statement M
 tail-at-in-spec =
