@@ -19,7 +19,7 @@ use Rattle.model.proofs.Walking.{entries-from}
 use Rattle.model.specs.Beside.{fromIn}
 use Rattle.layout.specs.declared.Entry as numbers
 use Rattle.region.specs.Walk.{entryAs, vendorAs}
-use Rattle.region.proofs.Turns.{Turned}
+use Rattle.region.proofs.Turns.{Turned, Ended}
 use Rattle.values.specs.Found.{foundOf}
 use Rattle.values.specs.declared.Found.{Found}
 use Rattle.values.specs.declared.Found.the-variants.{At, Nothing}
@@ -65,15 +65,15 @@ module _ (y : Layout) where
   unfolding values listedIn entriesIn fromIn
   listed-all r = refl
 
-  pub listed-none : (r : List ℕ) (at : ℕ) → fromIn y r at ≡ [] → listedIn y r at ≡ []
+pub listed-none : {y : Layout} {r : List ℕ} {at : ℕ} → Ended y r at → listedIn y r at ≡ []
+unfolding listedIn
+listed-none {y} {r} z = ap (λ (es : List walk.Entry). map walk.entryValue (keep (isValue (entriesIn y r)) es)) (z .walk)
+
+module _ {y : Layout} {r : List ℕ} {at : ℕ} {e : numbers.Entry} {k : ℕ} (w : Turned y r at e k) where
+  pub listed-value : isValue (entriesIn y r) (entryAs y r at e) ≡ true → listedIn y r at ≡ walk.entryValue (entryAs y r at e) ∷ listedIn y r k
   unfolding listedIn
-  listed-none r at p = ap (λ (es : List walk.Entry). map walk.entryValue (keep (isValue (entriesIn y r)) es)) p
+  listed-value h = ap (λ (es : List walk.Entry). map walk.entryValue (keep (isValue (entriesIn y r)) es)) (w .walk) ∙ rw h
 
-  module _ (r : List ℕ) (at : ℕ) (e : numbers.Entry) (k : ℕ) (w : Turned y r at e k) where
-    pub listed-value : isValue (entriesIn y r) (entryAs y r at e) ≡ true → listedIn y r at ≡ walk.entryValue (entryAs y r at e) ∷ listedIn y r k
-    unfolding listedIn
-    listed-value h = ap (λ (es : List walk.Entry). map walk.entryValue (keep (isValue (entriesIn y r)) es)) (w .walk) ∙ rw h
-
-    pub listed-next : isValue (entriesIn y r) (entryAs y r at e) ≡ false → listedIn y r at ≡ listedIn y r k
-    unfolding listedIn
-    listed-next h = ap (λ (es : List walk.Entry). map walk.entryValue (keep (isValue (entriesIn y r)) es)) (w .walk) ∙ rw h
+  pub listed-next : isValue (entriesIn y r) (entryAs y r at e) ≡ false → listedIn y r at ≡ listedIn y r k
+  unfolding listedIn
+  listed-next h = ap (λ (es : List walk.Entry). map walk.entryValue (keep (isValue (entriesIn y r)) es)) (w .walk) ∙ rw h

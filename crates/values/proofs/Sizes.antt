@@ -64,18 +64,18 @@ module _ (y : Layout) where
             let b = part-fits r (at + headerLength y + e .name) (e .size) in
             record { whole = omega arith; stride = rw h (omega arith) }
 
-  module _ (r : List ℕ) (at : ℕ) (e : numbers.Entry) (k : ℕ) (w : Turned y r at e k) where
-    behind : at + strideIn y e ≡ k
-    unfolding entryAs walk.placed
-    behind = w .next
+module _ {y : Layout} {r : List ℕ} {at : ℕ} {e : numbers.Entry} {k : ℕ} (w : Turned y r at e k) where
+  behind : at + strideIn y e ≡ k
+  unfolding entryAs walk.placed
+  behind = w .next
 
-    pub size-next : at + entrySizeIn y (walk.entryValue (entryAs y r at e)) ≤ k
-    size-next = let l = lengths r at e in omega (arith, behind)
+  pub size-next : at + entrySizeIn y (walk.entryValue (entryAs y r at e)) ≤ k
+  size-next = let l = lengths y r at e in omega (arith, behind)
 
-    pub size-within : at + entrySizeIn y (walk.entryValue (entryAs y r at e)) ≤ length r + 3
-    size-within = let l = lengths r at e in omega arith
+  pub size-within : at + entrySizeIn y (walk.entryValue (entryAs y r at e)) ≤ length r + 3
+  size-within = let l = lengths y r at e in omega arith
 
-    pub sizes-value : isValue (entriesIn y r) (entryAs y r at e) ≡ true
-        → entrySizesIn y (listedIn y r at) ≡ entrySizeIn y (walk.entryValue (entryAs y r at e)) + entrySizesIn y (listedIn y r k)
-    unfolding entrySizesIn
-    sizes-value h = ap (entrySizesIn y) ((listed-value y) r at e k w h)
+  pub sizes-value : isValue (entriesIn y r) (entryAs y r at e) ≡ true
+      → entrySizesIn y (listedIn y r at) ≡ entrySizeIn y (walk.entryValue (entryAs y r at e)) + entrySizesIn y (listedIn y r k)
+  unfolding entrySizesIn
+  sizes-value h = ap (entrySizesIn y) (listed-value w h)

@@ -14,14 +14,14 @@ use Rattle.model.specs.Lists.{keep, first, orElse}
 use Rattle.model.specs.Region.{entriesIn, isEntry, isValue, added, replacing, standing}
 use Rattle.model.specs.Name.{Key}
 use Rattle.model.specs.Walk as walk
-use Rattle.model.proofs.Walking.{from-past}
 use Rattle.model.specs.Beside.{fromIn}
 use Rattle.layout.specs.declared.Entry as numbers
 use Rattle.region.specs.Walk.{entryAs, turnIn}
 use Rattle.region.specs.declared.Turn.{Turn}
 use Rattle.region.specs.declared.Turn.the-variants.{Entry, Stop}
-use Rattle.region.proofs.Turns.{turned, stopped}
+use Rattle.region.proofs.Turns.{at-entry, at-end, at-past}
 use Rattle.values.specs.Found.{foundOf}
+use Rattle.values.specs.declared.Found.{Found}
 use Rattle.values.specs.declared.Found.the-variants.{At, Nothing}
 use Rattle.values.proofs.Finds.{found-none, found-here, found-next}
 use Rattle.values.proofs.Listed.{listedIn}
@@ -60,14 +60,14 @@ module _ (y : Layout) where
 
   module _ (r : List ℕ) (f : walk.Entry → Bool) (a : ℕ) (e : numbers.Entry) where
     kept : (fuel at : ℕ) → length r ≤ at + fuel → foundOf (first f (fromIn y r at)) ≡ At a e → Kept r f at a e
-    kept zero at h p = absurd (not-found a e (sym ((found-none y) r at f (from-past y r at (omega arith))) ∙ p))
+    kept zero at h p = absurd (not-found a e (sym (found-none (at-past y r at (omega arith)) f) ∙ p))
     kept (suc fuel) at h p = go (turnIn y r at) refl (kept fuel)
       where
         test : (n : numbers.Entry) (k : ℕ) → turnIn y r at ≡ Entry n k → (t : Bool) → f (entryAs y r at n) ≡ t
             → (foundOf (first f (fromIn y r k)) ≡ At a e → Kept r f k a e) → Kept r f at a e
         test n k q true s more =
-            let w = turned y r at n k q in
-            let b : At at n ≡ At a e = sym ((found-here y) r at n k w f s) ∙ p in
+            let w = at-entry refl q in
+            let b : At at n ≡ At a e = sym (found-here w f s) ∙ p in
             let i : at ≡ a = cc in
             let j : n ≡ e = cc in
             record {
@@ -79,8 +79,8 @@ module _ (y : Layout) where
               rest = ap (keep f) (w .walk) ∙ rw s (ap₂ (λ (m : ℕ) (x : numbers.Entry). entryAs y r m x ∷ keep f (fromIn y r k)) i j);
             }
         test n k q false s more =
-            let w = turned y r at n k q in
-            let m = more (sym ((found-next y) r at n k w f s) ∙ p) in
+            let w = at-entry refl q in
+            let m = more (sym (found-next w f s) ∙ p) in
             record {
               next = m .next;
               turn = m .turn;
@@ -91,8 +91,8 @@ module _ (y : Layout) where
             }
 
         go : (t : Turn) → turnIn y r at ≡ t → ((k : ℕ) → length r ≤ k + fuel → foundOf (first f (fromIn y r k)) ≡ At a e → Kept r f k a e) → Kept r f at a e
-        go Stop q more = absurd (not-found a e (sym ((found-none y) r at f (stopped y r at q)) ∙ p))
-        go (Entry n k) q more = let w = turned y r at n k q in test n k q (f (entryAs y r at n)) refl (more k (omega arith))
+        go Stop q more = absurd (not-found a e (sym (found-none (at-end refl q) f) ∙ p))
+        go (Entry n k) q more = let w = at-entry refl q in test n k q (f (entryAs y r at n)) refl (more k (omega arith))
 
     pub found-kept : (at : ℕ) → foundOf (first f (fromIn y r at)) ≡ At a e → Kept r f at a e
     found-kept at p = kept (length r) at (omega arith) p
@@ -105,7 +105,7 @@ module _ (y : Layout) where
     stands : (f : walk.Entry → Bool) → foundOf (first f (fromIn y r 28)) ≡ At a e → Stands r (first f (fromIn y r 28)) a e
     stands f p =
         let m = found-kept r f a e 28 p in
-        record { entry = m .entry; fits = turned y r a e (m .next) (m .turn) .fits }
+        record { entry = m .entry; fits = at-entry refl (m .turn) .fits }
 
     pub added-stands : foundOf (added k (entriesIn y r)) ≡ At a e → Stands r (added k (entriesIn y r)) a e
     unfolding added entriesIn fromIn
@@ -128,17 +128,12 @@ module _ (y : Layout) where
             let s = replacing-stands p in
             record { entry = ap (λ (o : Option walk.Entry). orElse o (replacing k (entriesIn y r))) q ∙ s .entry; fits = s .fits }
 
-  pub listed-found : (r : List ℕ) (at a : ℕ) (e : numbers.Entry) (k : ℕ) → foundOf (first (isValue (entriesIn y r)) (fromIn y r at)) ≡ At a e → turnIn y r a
-      ≡ Entry e k
-      → listedIn y r at ≡ walk.entryValue (entryAs y r a e) ∷ listedIn y r k
-  unfolding listedIn
-  listed-found r at a e k p q =
-      let m = found-kept r (isValue (entriesIn y r)) a e at p in
-      let same : Entry e (m .next) ≡ Entry e k = sym (m .turn) ∙ q in
-      let i : m .next ≡ k = cc in
-      ap (map walk.entryValue) (m .rest)
-      ∙ ap (λ (j : ℕ). walk.entryValue (entryAs y r a e) ∷ map walk.entryValue (keep (isValue (entriesIn y r)) (fromIn y r j))) i
+-- no value is left where a search for the next one finds nothing
+pub record None (y : Layout) (r : List ℕ) (at : ℕ) : Type 0 where
+  pub list : listedIn y r at ≡ []
 
-  pub listed-nothing : (r : List ℕ) (at : ℕ) → foundOf (first (isValue (entriesIn y r)) (fromIn y r at)) ≡ Nothing → listedIn y r at ≡ []
-  unfolding listedIn
-  listed-nothing r at p = ap (map walk.entryValue) (nothing-kept (isValue (entriesIn y r)) (fromIn y r at) p)
+pub listed-nothing : {y : Layout} {r : List ℕ} {at : ℕ} {f : Found} → f ≡ foundOf (first (isValue (entriesIn y r)) (fromIn y r at)) → f ≡ Nothing → None y r at
+unfolding listedIn
+listed-nothing {y} {r} {at} answer told = record {
+  list = ap (map walk.entryValue) (nothing-kept (isValue (entriesIn y r)) (fromIn y r at) (sym answer ∙ told));
+}

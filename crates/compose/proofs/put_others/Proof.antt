@@ -3,10 +3,8 @@
 -- Assumes nothing.
 use Prim.Native.Nat.{_+_, _-_, _≤_}
 use native.Mathlib.Omega.{arith}
-use mathlib.Core.Path.{_≡_, refl, sym, _∙_}
+use mathlib.Core.Path.{_≡_, refl, _∙_}
 use lib.ListN.{length}
-use denote.Ref.{now}
-use Rattle.model.specs.Layout.{authenticated}
 use Rattle.model.specs.Name.{keyed}
 use Rattle.values.proofs.Stands.{listed-nothing}
 use Rattle.values.proofs.Next.{next-value}
@@ -38,52 +36,34 @@ same-length : tie.Need-same-length Inv-loop μ-loop
 same-length c = search needs
 
 returns : tie.Need-returns Inv-loop μ-loop
-returns c =
-    let l = c .before .before .before in
-    let r = now (c .before .before .before .before .before .before .before .before .args .region) in
-    carried-all (l .loop .inv .2) (listed-nothing authenticated r (l .loop .here) (sym (c .before .before .next-value .ensures) ∙ c .enum-told .given .1))
+returns c = let b = c .before .before in carried-all (b .before .loop .inv .2) (listed-nothing (b .next-value .ensures) (c .enum-told .given .1) .list)
 
 put-other-requires : tie.Need-put-other-requires Inv-loop μ-loop
 put-other-requires c κs =
-    let l = c .before .before .before .before .before in
-    let a = c .before .before .before .before .before .before .before .before .before .before .args in
-    let r = now (a .region) in
-    let t = c .before .before .f .given in
-    let x = next-value authenticated r (l .loop .here) (t .0 .0) (t .0 .1 .0) (sym (c .before .before .before .before .next-value .ensures) ∙ t .1) in
-    (omega (arith, l .loop .inv .0, x .from-here, x .fits), omega arith)
+    let b = c .before .before in
+    let x = next-value (b .before .before .next-value .ensures) (b .f .given .1) in
+    (omega (arith, b .before .before .before .loop .inv .0, x .from-here, x .fits), omega arith)
 
 behind-requires : tie.Need-behind-requires Inv-loop μ-loop
 behind-requires c κs =
-    let l = c .before .before .before .before .before .before .before .before in
-    let a = c .before .before .before .before .before .before .before .before .before .before .before .before .before .args in
-    let r = now (a .region) in
-    let t = c .before .before .before .before .before .f .given in
-    let x = next-value authenticated r (l .loop .here) (t .0 .0) (t .0 .1 .0)
-    (sym (c .before .before .before .before .before .before .before .next-value .ensures) ∙ t .1) in
+    let b = c .before .before .before .before .before in
+    let x = next-value (b .before .before .next-value .ensures) (b .f .given .1) in
     omega (arith, x .fits)
 
 loop-less : tie.Need-loop-less Inv-loop μ-loop
 loop-less c =
-    let l = c .before .before .before .before .before .before .before .before .before in
-    let a = c .before .before .before .before .before .before .before .before .before .before .before .before .before .before .args in
-    let r = now (a .region) in
-    let t = c .before .before .before .before .before .before .f .given in
-    let x = next-value authenticated r (l .loop .here) (t .0 .0) (t .0 .1 .0)
-    (sym (c .before .before .before .before .before .before .before .before .next-value .ensures) ∙ t .1) in
-    omega (arith, c .behind .ensures, x .from-here, x .fits)
+    let b = c .before .before .before .before .before .before in
+    rw (c .behind .ensures) (next-value (b .before .before .next-value .ensures) (b .f .given .1) .less)
 
 loop-again : tie.Need-loop-again Inv-loop μ-loop
 loop-again c =
-    let l = c .before .before .before .before .before .before .before .before .before in
-    let a = c .before .before .before .before .before .before .before .before .before .before .before .before .before .before .args in
-    let r = now (a .region) in
-    let t = c .before .before .before .before .before .before .f .given in
-    let x = next-value authenticated r (l .loop .here) (t .0 .0) (t .0 .1 .0)
-    (sym (c .before .before .before .before .before .before .before .before .next-value .ensures) ∙ t .1) in
+    let b = c .before .before .before .before .before .before in
+    let i = b .before .before .before .loop .inv in
+    let x = next-value (b .before .before .next-value .ensures) (b .f .given .1) in
     let w = c .before .before .before .put-other in (
-      omega (arith, l .loop .inv .0, w .ensures .1, c .behind .ensures, x .from-here, x .size),
-      w .kept .0 ∙ l .loop .inv .1,
-      rw (c .behind .ensures) (carried-next (l .loop .inv .2) x (w .ensures .0)),
+      omega (arith, i .0, w .ensures .1, c .behind .ensures, x .from-here, x .size),
+      w .kept .0 ∙ i .1,
+      rw (c .behind .ensures) (carried-next (i .2) x (w .ensures .0)),
     )
 
 pub put-others-spec : {M : Type 1} → statement M

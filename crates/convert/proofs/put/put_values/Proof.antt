@@ -3,9 +3,8 @@
 -- Assumes nothing.
 use Prim.Native.Nat.{_+_, _*_, _-_, _≤_}
 use native.Mathlib.Omega.{arith}
-use mathlib.Core.Path.{_≡_, refl, sym, _∙_}
+use mathlib.Core.Path.{_≡_, refl, _∙_}
 use lib.ListN.{length}
-use denote.Ref.{now}
 use Rattle.values.proofs.Stands.{listed-nothing}
 use Rattle.values.proofs.Next.{next-value}
 use Rattle.output.proofs.Writing.{wrote-length}
@@ -38,48 +37,36 @@ same-length : tie.Need-same-length Inv-loop μ-loop
 same-length c = search needs
 
 returns : tie.Need-returns Inv-loop μ-loop
-returns c = let l = c .before .before .before in
-    let a = c .before .before .before .before .before .before .args in
-    carried-all (a .from) (a .to) (l .loop .inv .2) (listed-nothing (a .from) (now (a .region)) (l .loop .here) (sym (c .before .before .next-value-in .ensures)
-    ∙ c .enum-told .given .1))
+returns c =
+    let b = c .before .before in
+    carried-all _ _ (b .before .loop .inv .2) (listed-nothing (b .next-value-in .ensures) (c .enum-told .given .1) .list)
 
 put-value-requires : tie.Need-put-value-requires Inv-loop μ-loop
-put-value-requires c κs = let l = c .before .before .before .before .before in
-    let a = c .before .before .before .before .before .before .before .before .args in
-    let r = now (a .region) in
-    let t = c .before .before .f .given in
-    let x = next-value (a .from) r (l .loop .here) (t .0 .0) (t .0 .1 .0) (sym (c .before .before .before .before .next-value-in .ensures) ∙ t .1) in
-    (omega (arith, l .loop .inv .0, x .from-here, x .fits), omega arith)
+put-value-requires c κs =
+    let b = c .before .before in
+    let x = next-value (b .before .before .next-value-in .ensures) (b .f .given .1) in
+    (omega (arith, b .before .before .before .loop .inv .0, x .from-here, x .fits), omega arith)
 
 behind-in-requires : tie.Need-behind-in-requires Inv-loop μ-loop
-behind-in-requires c κs = let l = c .before .before .before .before .before .before .before .before in
-    let a = c .before .before .before .before .before .before .before .before .before .before .before .args in
-    let r = now (a .region) in
-    let t = c .before .before .before .before .before .f .given in
-    let x = next-value (a .from) r (l .loop .here) (t .0 .0) (t .0 .1 .0)
-    (sym (c .before .before .before .before .before .before .before .next-value-in .ensures) ∙ t .1) in
+behind-in-requires c κs =
+    let b = c .before .before .before .before .before in
+    let x = next-value (b .before .before .next-value-in .ensures) (b .f .given .1) in
     omega (arith, x .fits)
 
 loop-less : tie.Need-loop-less Inv-loop μ-loop
-loop-less c = let l = c .before .before .before .before .before .before .before .before .before in
-    let a = c .before .before .before .before .before .before .before .before .before .before .before .before .args in
-    let r = now (a .region) in
-    let t = c .before .before .before .before .before .before .f .given in
-    let x = next-value (a .from) r (l .loop .here) (t .0 .0) (t .0 .1 .0)
-    (sym (c .before .before .before .before .before .before .before .before .next-value-in .ensures) ∙ t .1) in
-    omega (arith, c .behind-in .ensures, x .from-here, x .fits)
+loop-less c =
+    let b = c .before .before .before .before .before .before in
+    rw (c .behind-in .ensures) (next-value (b .before .before .next-value-in .ensures) (b .f .given .1) .less)
 
 loop-again : tie.Need-loop-again Inv-loop μ-loop
-loop-again c = let l = c .before .before .before .before .before .before .before .before .before in
-    let a = c .before .before .before .before .before .before .before .before .before .before .before .before .args in
-    let r = now (a .region) in
-    let t = c .before .before .before .before .before .before .f .given in
-    let x = next-value (a .from) r (l .loop .here) (t .0 .0) (t .0 .1 .0)
-    (sym (c .before .before .before .before .before .before .before .before .next-value-in .ensures) ∙ t .1) in
+loop-again c =
+    let b = c .before .before .before .before .before .before in
+    let i = b .before .before .before .loop .inv in
+    let x = next-value (b .before .before .next-value-in .ensures) (b .f .given .1) in
     let w = c .before .before .before .put-value in (
-      omega (arith, l .loop .inv .0, w .ensures .1, c .behind-in .ensures, x .from-here),
-      wrote-length (w .ensures .0) ∙ l .loop .inv .1,
-      rw (c .behind-in .ensures) (carried-next (a .from) (a .to) (l .loop .inv .2) x (w .ensures .0)),
+      omega (arith, i .0, w .ensures .1, c .behind-in .ensures, x .from-here),
+      wrote-length (w .ensures .0) ∙ i .1,
+      rw (c .behind-in .ensures) (carried-next _ _ (i .2) x (w .ensures .0)),
     )
 
 pub put-values-spec : {M : Type 1} → statement M

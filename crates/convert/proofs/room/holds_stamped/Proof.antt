@@ -34,47 +34,36 @@ enum-told : tie.Need-enum-told Inv-loop μ-loop
 enum-told c = search needs
 
 returns : tie.Need-returns Inv-loop μ-loop
-returns c = let l = c .before .before .before in
-    let a = c .before .before .before .before .before .args in
-    sym (l .loop .inv ∙ ap stamped (listed-nothing (a .y) (now (a .region)) (l .loop .here) (sym (c .before .before .next-value-in .ensures)
-    ∙ c .enum-told .given .1)))
+returns c =
+    let b = c .before .before in
+    sym (b .before .loop .inv ∙ ap stamped (listed-nothing (b .next-value-in .ensures) (c .enum-told .given .1) .list))
 
 time-based-requires : tie.Need-time-based-requires Inv-loop μ-loop
 time-based-requires c κs = search needs
 
 returns-2 : tie.Need-returns-2 Inv-loop μ-loop
-returns-2 c = let l = c .before .before .before .before .before .before in
-    let a = c .before .before .before .before .before .before .before .before .args in
-    let r = now (a .region) in
-    let t = c .before .before .before .f .given in
-    let x = next-value (a .y) r (l .loop .here) (t .0 .0) (t .0 .1 .0) (sym (c .before .before .before .before .before .next-value-in .ensures) ∙ t .1) in
-    sym (l .loop .inv ∙ stamped-here (a .y) x (sym (c .before .time-based .ensures) ∙ c .if1 .taken))
+returns-2 c =
+    let b = c .before .before .before in
+    let x = next-value (b .before .before .next-value-in .ensures) (b .f .given .1) in
+    sym (b .before .before .before .loop .inv ∙ stamped-here _ x (sym (c .before .time-based .ensures) ∙ c .if1 .taken))
 
 behind-in-requires : tie.Need-behind-in-requires Inv-loop μ-loop
-behind-in-requires c κs = let l = c .before .before .before .before .before .before in
-    let a = c .before .before .before .before .before .before .before .before .args in
-    let r = now (a .region) in
-    let t = c .before .before .before .f .given in
-    let x = next-value (a .y) r (l .loop .here) (t .0 .0) (t .0 .1 .0) (sym (c .before .before .before .before .before .next-value-in .ensures) ∙ t .1) in
+behind-in-requires c κs =
+    let b = c .before .before .before in
+    let x = next-value (b .before .before .next-value-in .ensures) (b .f .given .1) in
     omega (arith, x .fits)
 
 loop-less : tie.Need-loop-less Inv-loop μ-loop
-loop-less c = let l = c .before .before .before .before .before .before .before in
-    let a = c .before .before .before .before .before .before .before .before .before .args in
-    let r = now (a .region) in
-    let t = c .before .before .before .before .f .given in
-    let x = next-value (a .y) r (l .loop .here) (t .0 .0) (t .0 .1 .0) (sym (c .before .before .before .before .before .before .next-value-in .ensures)
-    ∙ t .1) in
-    omega (arith, c .behind-in .ensures, x .from-here, x .fits)
+loop-less c =
+    let b = c .before .before .before .before in
+    rw (c .behind-in .ensures) (next-value (b .before .before .next-value-in .ensures) (b .f .given .1) .less)
 
 loop-again : tie.Need-loop-again Inv-loop μ-loop
-loop-again c = let l = c .before .before .before .before .before .before .before in
-    let a = c .before .before .before .before .before .before .before .before .before .args in
-    let r = now (a .region) in
-    let t = c .before .before .before .before .f .given in
-    let x = next-value (a .y) r (l .loop .here) (t .0 .0) (t .0 .1 .0) (sym (c .before .before .before .before .before .before .next-value-in .ensures)
-    ∙ t .1) in
-    l .loop .inv ∙ rw (c .behind-in .ensures) (stamped-next (a .y) x (sym (c .before .before .time-based .ensures) ∙ c .before .if1 .left))
+loop-again c =
+    let b = c .before .before .before .before in
+    let x = next-value (b .before .before .next-value-in .ensures) (b .f .given .1) in
+    b .before .before .before .loop .inv
+    ∙ rw (c .behind-in .ensures) (stamped-next _ x (sym (c .before .before .time-based .ensures) ∙ c .before .if1 .left))
 
 pub holds-stamped-spec : {M : Type 1} → statement M
 holds-stamped-spec =

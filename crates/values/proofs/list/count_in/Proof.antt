@@ -8,7 +8,7 @@ use lib.ListN.{length}
 use denote.Ref.{now}
 use borrow.Author.Needs.{needs}
 use Rattle.model.specs.Region.{entriesIn, values}
-use Rattle.region.proofs.Turns.{turned, stopped}
+use Rattle.region.proofs.Turns.{at-entry, at-end}
 use Rattle.values.proofs.Listed.{listedIn, listed-all, listed-none, listed-value, listed-next}
 use Rattle.values.proofs.list.count_in.Statement.{statement}
 use Rattle.values.proofs.list.count_in.Tie as tie
@@ -36,59 +36,40 @@ enum-told c = search needs
 
 returns : tie.Need-returns Inv-loop μ-loop
 returns c =
-    let l = c .before .before .before in
-    let a = l .before .before .args in
-    let r = now (a .region) in
-    let end = ap length (listed-none (a .y) r (l .loop .at) (stopped (a .y) r (l .loop .at) (sym (c .before .before .turn-in .ensures)
-    ∙ c .enum-told .given .1))) in
-    omega (arith, l .loop .inv .0)
+    let b = c .before .before in
+    let end = ap length (listed-none (at-end (b .turn-in .ensures) (c .enum-told .given .1))) in
+    omega (arith, b .before .loop .inv .0)
 
 is-value-in-requires : tie.Need-is-value-in-requires Inv-loop μ-loop
 is-value-in-requires c κs = search needs
 
 add-n : tie.Need-add-n Inv-loop μ-loop
 add-n c =
-    let l = c .before .before .before .before .before .before in
-    let t = c .before .before .before .t .given in
-    let w = turned (l .before .before .args .y) (now (l .before .before .args .region)) (l .loop .at) (t .0 .0) (t .0 .1 .0)
-    (sym (c .before .before .before .before .before .turn-in .ensures) ∙ t .1) in
-    record { fits = omega (arith, l .loop .inv .1) }
+    let b = c .before .before .before in
+    let w = at-entry (b .before .before .turn-in .ensures) (b .t .given .1) in
+    record { fits = omega (arith, b .before .before .before .loop .inv .1) }
 
 loop-less : tie.Need-loop-less Inv-loop μ-loop
-loop-less c =
-    let l = c .before .before .before .before .before .before in
-    let t = c .before .before .before .t .given in
-    let w = turned (l .before .before .args .y) (now (l .before .before .args .region)) (l .loop .at) (t .0 .0) (t .0 .1 .0)
-    (sym (c .before .before .before .before .before .turn-in .ensures) ∙ t .1) in
-    omega arith
+loop-less c = let b = c .before .before .before in at-entry (b .before .before .turn-in .ensures) (b .t .given .1) .less
 
 loop-again : tie.Need-loop-again Inv-loop μ-loop
 loop-again c =
-    let l = c .before .before .before .before .before .before in
-    let a = l .before .before .args in
-    let r = now (a .region) in
-    let t = c .before .before .before .t .given in
-    let w = turned (a .y) r (l .loop .at) (t .0 .0) (t .0 .1 .0) (sym (c .before .before .before .before .before .turn-in .ensures) ∙ t .1) in
-    let here = ap length (listed-value (a .y) r (l .loop .at) (t .0 .0) (t .0 .1 .0) w (sym (c .before .is-value-in .ensures) ∙ c .if1 .taken)) in
-    (omega (arith, l .loop .inv .0), omega (arith, l .loop .inv .1))
+    let b = c .before .before .before in
+    let i = b .before .before .before .loop .inv in
+    let w = at-entry (b .before .before .turn-in .ensures) (b .t .given .1) in
+    let here = ap length (listed-value w (sym (c .before .is-value-in .ensures) ∙ c .if1 .taken)) in
+    (omega (arith, i .0), omega (arith, i .1))
 
 loop-less-2 : tie.Need-loop-less-2 Inv-loop μ-loop
-loop-less-2 c =
-    let l = c .before .before .before .before .before .before in
-    let t = c .before .before .before .t .given in
-    let w = turned (l .before .before .args .y) (now (l .before .before .args .region)) (l .loop .at) (t .0 .0) (t .0 .1 .0)
-    (sym (c .before .before .before .before .before .turn-in .ensures) ∙ t .1) in
-    omega arith
+loop-less-2 c = let b = c .before .before .before in at-entry (b .before .before .turn-in .ensures) (b .t .given .1) .less
 
 loop-again-2 : tie.Need-loop-again-2 Inv-loop μ-loop
 loop-again-2 c =
-    let l = c .before .before .before .before .before .before in
-    let a = l .before .before .args in
-    let r = now (a .region) in
-    let t = c .before .before .before .t .given in
-    let w = turned (a .y) r (l .loop .at) (t .0 .0) (t .0 .1 .0) (sym (c .before .before .before .before .before .turn-in .ensures) ∙ t .1) in
-    let here = ap length (listed-next (a .y) r (l .loop .at) (t .0 .0) (t .0 .1 .0) w (sym (c .before .is-value-in .ensures) ∙ c .if1 .left)) in
-    (omega (arith, l .loop .inv .0), omega (arith, l .loop .inv .1))
+    let b = c .before .before .before in
+    let i = b .before .before .before .loop .inv in
+    let w = at-entry (b .before .before .turn-in .ensures) (b .t .given .1) in
+    let here = ap length (listed-next w (sym (c .before .is-value-in .ensures) ∙ c .if1 .left)) in
+    (omega (arith, i .0), omega (arith, i .1))
 
 pub count-in-spec : {M : Type 1} → statement M
 count-in-spec =

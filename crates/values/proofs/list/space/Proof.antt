@@ -10,7 +10,7 @@ use borrow.Author.Needs.{needs}
 use Rattle.model.specs.Layout.{authenticated}
 use Rattle.model.specs.Region.{entries, values}
 use Rattle.model.specs.Change.{entrySizesIn, spaceIn, entrySizes, spaceOf}
-use Rattle.region.proofs.Turns.{turned, stopped}
+use Rattle.region.proofs.Turns.{at-entry, at-end}
 use Rattle.values.proofs.Listed.{listed, listed-all, listed-none, listed-next}
 use Rattle.values.proofs.Sizes.{size-next, size-within, sizes-value}
 use Rattle.values.proofs.list.space.Statement.{statement}
@@ -38,11 +38,9 @@ enum-told c = search needs
 returns : tie.Need-returns Inv-loop μ-loop
 unfolding entrySizesIn
 returns c =
-    let l = c .before .before .before in
-    let r = now (l .before .before .args .region) in
-    let end = ap entrySizes (listed-none authenticated r (l .loop .at) (stopped authenticated r (l .loop .at)
-    (sym (c .before .before .turn .ensures) ∙ c .enum-told .given .1))) in
-    omega (arith, l .loop .inv .0)
+    let b = c .before .before in
+    let end = ap entrySizes (listed-none (at-end (b .turn .ensures) (c .enum-told .given .1))) in
+    omega (arith, b .before .loop .inv .0)
 
 is-value-requires : tie.Need-is-value-requires Inv-loop μ-loop
 is-value-requires c κs = search needs
@@ -52,47 +50,32 @@ size-of-requires c κs = search needs
 
 add-sum : tie.Need-add-sum Inv-loop μ-loop
 add-sum c =
-    let l = c .before .before .before .before .before .before .before in
-    let r = now (l .before .before .args .region) in
-    let t = c .before .before .before .before .t .given in
-    let w = turned authenticated r (l .loop .at) (t .0 .0) (t .0 .1 .0) (sym (c .before .before .before .before .before .before .turn .ensures) ∙ t .1) in
-    let most = size-within authenticated r (l .loop .at) (t .0 .0) (t .0 .1 .0) w in
-    record { fits = omega (arith, l .loop .inv .1, c .size-of .ensures) }
+    let b = c .before .before .before .before in
+    let most = size-within (at-entry (b .before .before .turn .ensures) (b .t .given .1)) in
+    record { fits = omega (arith, b .before .before .before .loop .inv .1, c .size-of .ensures) }
 
 loop-less : tie.Need-loop-less Inv-loop μ-loop
-loop-less c =
-    let l = c .before .before .before .before .before .before .before in
-    let t = c .before .before .before .before .t .given in
-    let w = turned authenticated (now (l .before .before .args .region)) (l .loop .at) (t .0 .0) (t .0 .1 .0)
-    (sym (c .before .before .before .before .before .before .turn .ensures) ∙ t .1) in
-    omega arith
+loop-less c = let b = c .before .before .before .before in at-entry (b .before .before .turn .ensures) (b .t .given .1) .less
 
 loop-again : tie.Need-loop-again Inv-loop μ-loop
 loop-again c =
-    let l = c .before .before .before .before .before .before .before in
-    let r = now (l .before .before .args .region) in
-    let t = c .before .before .before .before .t .given in
-    let w = turned authenticated r (l .loop .at) (t .0 .0) (t .0 .1 .0) (sym (c .before .before .before .before .before .before .turn .ensures) ∙ t .1) in
-    let here = sizes-value authenticated r (l .loop .at) (t .0 .0) (t .0 .1 .0) w (sym (c .before .before .is-value .ensures) ∙ c .before .if1 .taken) in
-    let most = size-next authenticated r (l .loop .at) (t .0 .0) (t .0 .1 .0) w in
-    (omega (arith, l .loop .inv .0, c .size-of .ensures), omega (arith, l .loop .inv .1, c .size-of .ensures))
+    let b = c .before .before .before .before in
+    let i = b .before .before .before .loop .inv in
+    let w = at-entry (b .before .before .turn .ensures) (b .t .given .1) in
+    let here = sizes-value w (sym (c .before .before .is-value .ensures) ∙ c .before .if1 .taken) in
+    let most = size-next w in
+    (omega (arith, i .0, c .size-of .ensures), omega (arith, i .1, c .size-of .ensures))
 
 loop-less-2 : tie.Need-loop-less-2 Inv-loop μ-loop
-loop-less-2 c =
-    let l = c .before .before .before .before .before .before in
-    let t = c .before .before .before .t .given in
-    let w = turned authenticated (now (l .before .before .args .region)) (l .loop .at) (t .0 .0) (t .0 .1 .0)
-    (sym (c .before .before .before .before .before .turn .ensures) ∙ t .1) in
-    omega arith
+loop-less-2 c = let b = c .before .before .before in at-entry (b .before .before .turn .ensures) (b .t .given .1) .less
 
 loop-again-2 : tie.Need-loop-again-2 Inv-loop μ-loop
 loop-again-2 c =
-    let l = c .before .before .before .before .before .before in
-    let r = now (l .before .before .args .region) in
-    let t = c .before .before .before .t .given in
-    let w = turned authenticated r (l .loop .at) (t .0 .0) (t .0 .1 .0) (sym (c .before .before .before .before .before .turn .ensures) ∙ t .1) in
-    let here = ap entrySizes (listed-next authenticated r (l .loop .at) (t .0 .0) (t .0 .1 .0) w (sym (c .before .is-value .ensures) ∙ c .if1 .left)) in
-    (omega (arith, l .loop .inv .0), omega (arith, l .loop .inv .1))
+    let b = c .before .before .before in
+    let i = b .before .before .before .loop .inv in
+    let w = at-entry (b .before .before .turn .ensures) (b .t .given .1) in
+    let here = ap entrySizes (listed-next w (sym (c .before .is-value .ensures) ∙ c .if1 .left)) in
+    (omega (arith, i .0), omega (arith, i .1))
 
 pub space-spec : {M : Type 1} → statement M
 space-spec =

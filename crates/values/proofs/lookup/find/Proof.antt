@@ -2,19 +2,17 @@
 -- the first from here on. What is left of the region falls.
 -- Assumes nothing.
 use Prim.Native.Nat.{_-_}
-use native.Mathlib.Omega.{arith}
-use mathlib.Core.Path.{_≡_, sym, ap, ap₂, _∙_}
+use mathlib.Core.Path.{_≡_, sym, ap₂, _∙_}
 use lib.ListN.{length}
 use denote.Ref.{now}
 use borrow.Author.Needs.{needs}
-use Rattle.model.specs.Layout.{authenticated}
 use Rattle.model.specs.Lists.{first}
 use Rattle.model.specs.Region.{entriesIn, entries, isEntry, added, replacing, standing}
-use Rattle.model.specs.Name.{keyed}
+use Rattle.model.specs.Name.{Key, keyed}
 use Rattle.model.specs.Beside.{from, fromIn}
-use Rattle.region.proofs.Turns.{turned, stopped}
+use Rattle.region.proofs.Turns.{at-entry, at-end}
 use Rattle.values.specs.Found.{foundOf, elseFound}
-use Rattle.values.proofs.Finds.{found-else, found-none, found-here, found-next, found-hit, found-miss, else-none}
+use Rattle.values.proofs.Finds.{found-else, found-none, found-here, found-next, found-hit, found-miss, else-none, else-found}
 use Rattle.values.proofs.lookup.find.Statement.{statement}
 use Rattle.values.proofs.lookup.find.Tie as tie
 
@@ -45,30 +43,18 @@ enum-told c = search needs
 
 returns : tie.Need-returns Inv-loop μ-loop
 returns c =
-    let l = c .before .before .before in
-    let a = l .before .before .before .before .args in
-    let r = now (a .region) in
-    let k = keyed (now (a .name)) (now (a .vendor)) in
-    let end = stopped authenticated r (l .loop .at) (sym (c .before .before .turn .ensures) ∙ c .enum-told .given .1) in
-    sym (l .loop .inv
-    ∙ ap (λ g. elseFound g (elseFound (l .loop .replacing) (foundOf (first (isEntry 0x3E k) (from r (l .loop .at)))))) (found-none authenticated r (l .loop .at)
-    (isEntry 0x3F k) end)
-    ∙ else-none authenticated r (l .loop .at) (isEntry 0x3E k) end (l .loop .replacing))
+    let b = c .before .before in
+    let z = at-end (b .turn .ensures) (c .enum-told .given .1) in
+    sym (b .before .loop .inv ∙ ap₂ elseFound (found-none z _) (else-none z _ _))
 
 is-entry-requires : tie.Need-is-entry-requires Inv-loop μ-loop
 is-entry-requires c κs = search needs
 
 returns-2 : tie.Need-returns-2 Inv-loop μ-loop
 returns-2 c =
-    let l = c .before .before .before .before .before .before in
-    let a = l .before .before .before .before .args in
-    let r = now (a .region) in
-    let k = keyed (now (a .name)) (now (a .vendor)) in
-    let t = c .before .before .before .t .given in
-    let w = turned authenticated r (l .loop .at) (t .0 .0) (t .0 .1 .0) (sym (c .before .before .before .before .before .turn .ensures) ∙ t .1) in
-    sym (l .loop .inv
-    ∙ ap (λ g. elseFound g (elseFound (l .loop .replacing) (foundOf (first (isEntry 0x3E k) (from r (l .loop .at))))))
-    (found-here authenticated r (l .loop .at) (t .0 .0) (t .0 .1 .0) w (isEntry 0x3F k) (sym (c .before .is-entry .ensures) ∙ c .if1 .taken)))
+    let b = c .before .before .before in
+    let w = at-entry (b .before .before .turn .ensures) (b .t .given .1) in
+    sym (b .before .before .before .loop .inv ∙ else-found (found-here w _ (sym (c .before .is-entry .ensures) ∙ c .if1 .taken)) _)
 
 is-entry-requires-2 : tie.Need-is-entry-requires-2 Inv-loop μ-loop
 is-entry-requires-2 c κs = search needs
@@ -76,54 +62,33 @@ is-entry-requires-2 c κs = search needs
 or-entry-requires : tie.Need-or-entry-requires Inv-loop μ-loop
 or-entry-requires c κs = search needs
 
+-- what is looked for
+abbrev key : tie.At-loop Inv-loop μ-loop → Key
+key l = let a = l .before .before .before .before .args in keyed (now (a .name)) (now (a .vendor))
+
 loop-less : tie.Need-loop-less Inv-loop μ-loop
-loop-less c =
-    let l = c .before .before .before .before .before .before .before .before .before in
-    let t = c .before .before .before .before .before .before .t .given in
-    let w = turned authenticated (now (l .before .before .before .before .args .region)) (l .loop .at) (t .0 .0) (t .0 .1 .0)
-    (sym (c .before .before .before .before .before .before .before .before .turn .ensures) ∙ t .1) in
-    omega arith
+loop-less c = let b = c .before .before .before .before .before .before in at-entry (b .before .before .turn .ensures) (b .t .given .1) .less
 
 loop-again : tie.Need-loop-again Inv-loop μ-loop
 loop-again c =
-    let l = c .before .before .before .before .before .before .before .before .before in
-    let a = l .before .before .before .before .args in
-    let r = now (a .region) in
-    let k = keyed (now (a .name)) (now (a .vendor)) in
-    let t = c .before .before .before .before .before .before .t .given in
-    let w = turned authenticated r (l .loop .at) (t .0 .0) (t .0 .1 .0) (sym (c .before .before .before .before .before .before .before .before .turn .ensures)
-    ∙ t .1) in
+    let b = c .before .before .before .before .before .before in
+    let l = b .before .before .before in
+    let w = at-entry (b .before .before .turn .ensures) (b .t .given .1) in
     l .loop .inv
-    ∙ ap₂ elseFound
-    (found-next authenticated r (l .loop .at) (t .0 .0) (t .0 .1 .0) w (isEntry 0x3F k) (sym (c .before .before .before .before .is-entry .ensures)
-    ∙ c .before .before .before .if1 .left))
-    (found-hit authenticated r (l .loop .at) (t .0 .0) (t .0 .1 .0) w (isEntry 0x3E k) (l .loop .replacing) (sym (c .before .before .is-entry2 .ensures)
-    ∙ c .before .if2 .taken)
-    ∙ ap (λ g. elseFound g (foundOf (first (isEntry 0x3E k) (from r (t .0 .1 .0))))) (sym (c .or-entry .ensures)))
+    ∙ ap₂ elseFound (found-next w _ (sym (c .before .before .before .before .is-entry .ensures) ∙ c .before .before .before .if1 .left))
+    (found-hit w (isEntry 0x3E (key l)) (l .loop .replacing) (c .or-entry .ensures) (sym (c .before .before .is-entry2 .ensures) ∙ c .before .if2 .taken))
 
 loop-less-2 : tie.Need-loop-less-2 Inv-loop μ-loop
-loop-less-2 c =
-    let l = c .before .before .before .before .before .before .before .before in
-    let t = c .before .before .before .before .before .t .given in
-    let w = turned authenticated (now (l .before .before .before .before .args .region)) (l .loop .at) (t .0 .0) (t .0 .1 .0)
-    (sym (c .before .before .before .before .before .before .before .turn .ensures) ∙ t .1) in
-    omega arith
+loop-less-2 c = let b = c .before .before .before .before .before in at-entry (b .before .before .turn .ensures) (b .t .given .1) .less
 
 loop-again-2 : tie.Need-loop-again-2 Inv-loop μ-loop
 loop-again-2 c =
-    let l = c .before .before .before .before .before .before .before .before in
-    let a = l .before .before .before .before .args in
-    let r = now (a .region) in
-    let k = keyed (now (a .name)) (now (a .vendor)) in
-    let t = c .before .before .before .before .before .t .given in
-    let w = turned authenticated r (l .loop .at) (t .0 .0) (t .0 .1 .0) (sym (c .before .before .before .before .before .before .before .turn .ensures)
-    ∙ t .1) in
+    let b = c .before .before .before .before .before in
+    let l = b .before .before .before in
+    let w = at-entry (b .before .before .turn .ensures) (b .t .given .1) in
     l .loop .inv
-    ∙ ap₂ elseFound
-    (found-next authenticated r (l .loop .at) (t .0 .0) (t .0 .1 .0) w (isEntry 0x3F k) (sym (c .before .before .before .is-entry .ensures)
-    ∙ c .before .before .if1 .left))
-    (found-miss authenticated r (l .loop .at) (t .0 .0) (t .0 .1 .0) w (isEntry 0x3E k) (l .loop .replacing)
-    (sym (c .before .is-entry2 .ensures) ∙ c .if2 .left))
+    ∙ ap₂ elseFound (found-next w _ (sym (c .before .before .before .is-entry .ensures) ∙ c .before .before .if1 .left))
+    (found-miss w (isEntry 0x3E (key l)) (l .loop .replacing) (sym (c .before .is-entry2 .ensures) ∙ c .if2 .left))
 
 pub find-spec : {M : Type 1} → statement M
 find-spec =

@@ -3,17 +3,15 @@
 -- Assumes nothing.
 use Prim.Native.Nat.{_-_}
 use native.Mathlib.Omega.{arith}
-use mathlib.Core.Path.{_≡_, refl, sym, ap, _∙_}
+use mathlib.Core.Path.{_≡_, refl, sym, _∙_}
 use lib.ListN.{length}
 use denote.Ref.{now}
 use borrow.Author.Needs.{needs}
-use Rattle.model.specs.Layout.{authenticated}
 use Rattle.model.specs.Lists.{first}
 use Rattle.model.specs.Region.{entriesIn, entries, isEntry, added, replacing}
-use Rattle.model.specs.Name.{keyed}
+use Rattle.model.specs.Name.{Key, keyed}
 use Rattle.model.specs.Beside.{from, fromIn}
-use Rattle.region.specs.Walk.{entryAt}
-use Rattle.region.proofs.Turns.{turned, stopped}
+use Rattle.region.proofs.Turns.{at-entry, at-end}
 use Rattle.values.specs.Found.{foundOf, elseFound}
 use Rattle.values.proofs.Finds.{found-hit, found-miss, else-none, one-state}
 use Rattle.values.proofs.lookup.places.Statement.{statement}
@@ -42,14 +40,10 @@ enum-told c = search needs
 
 returns : tie.Need-returns Inv-loop μ-loop
 returns c =
-    let l = c .before .before .before in
-    let a = l .before .before .before .before .args in
-    let r = now (a .region) in
-    let k = keyed (now (a .name)) (now (a .vendor)) in
-    let end = stopped authenticated r (l .loop .at) (sym (c .before .before .turn .ensures) ∙ c .enum-told .given .1) in (
-      sym (l .loop .inv .0 ∙ else-none authenticated r (l .loop .at) (isEntry 0x3F k) end (l .loop .added)),
-      sym (l .loop .inv .1 ∙ else-none authenticated r (l .loop .at) (isEntry 0x3E k) end (l .loop .replacing)),
-    )
+    let b = c .before .before in
+    let i = b .before .loop .inv in
+    let z = at-end (b .turn .ensures) (c .enum-told .given .1) in
+    (sym (i .0 ∙ else-none z _ _), sym (i .1 ∙ else-none z _ _))
 
 is-entry-requires : tie.Need-is-entry-requires Inv-loop μ-loop
 is-entry-requires c κs = search needs
@@ -63,74 +57,47 @@ is-entry-requires-2 c κs = search needs
 or-entry-requires-2 : tie.Need-or-entry-requires-2 Inv-loop μ-loop
 or-entry-requires-2 c κs = search needs
 
+-- what is looked for
+abbrev key : tie.At-loop Inv-loop μ-loop → Key
+key l = let a = l .before .before .before .before .args in keyed (now (a .name)) (now (a .vendor))
+
 loop-less : tie.Need-loop-less Inv-loop μ-loop
-loop-less c =
-    let l = c .before .before .before .before .before .before .before in
-    let t = c .before .before .before .before .t .given in
-    let w = turned authenticated (now (l .before .before .before .before .args .region)) (l .loop .at) (t .0 .0) (t .0 .1 .0)
-    (sym (c .before .before .before .before .before .before .turn .ensures) ∙ t .1) in
-    omega arith
+loop-less c = let b = c .before .before .before .before in at-entry (b .before .before .turn .ensures) (b .t .given .1) .less
 
 loop-again : tie.Need-loop-again Inv-loop μ-loop
 loop-again c =
-    let l = c .before .before .before .before .before .before .before in
-    let a = l .before .before .before .before .args in
-    let r = now (a .region) in
-    let k = keyed (now (a .name)) (now (a .vendor)) in
-    let t = c .before .before .before .before .t .given in
-    let w = turned authenticated r (l .loop .at) (t .0 .0) (t .0 .1 .0) (sym (c .before .before .before .before .before .before .turn .ensures) ∙ t .1) in
+    let b = c .before .before .before .before in
+    let l = b .before .before .before in
+    let w = at-entry (b .before .before .turn .ensures) (b .t .given .1) in
     let hit = sym (c .before .before .is-entry .ensures) ∙ c .before .if1 .taken in (
-      l .loop .inv .0 ∙ found-hit authenticated r (l .loop .at) (t .0 .0) (t .0 .1 .0) w (isEntry 0x3F k) (l .loop .added) hit
-          ∙ ap (λ g. elseFound g (foundOf (first (isEntry 0x3F k) (from r (t .0 .1 .0))))) (sym (c .or-entry .ensures)),
-      l .loop .inv .1 ∙ found-miss authenticated r (l .loop .at) (t .0 .0) (t .0 .1 .0) w (isEntry 0x3E k) (l .loop .replacing)
-          (one-state 0x3F 0x3E k (entryAt r (l .loop .at) (t .0 .0)) (λ q. omega arith) hit),
+      l .loop .inv .0 ∙ found-hit w (isEntry 0x3F (key l)) (l .loop .added) (c .or-entry .ensures) hit,
+      l .loop .inv .1 ∙ found-miss w (isEntry 0x3E (key l)) (l .loop .replacing) (one-state w 0x3F 0x3E (key l) (λ q. omega arith) hit),
     )
 
 loop-less-2 : tie.Need-loop-less-2 Inv-loop μ-loop
-loop-less-2 c =
-    let l = c .before .before .before .before .before .before .before .before .before in
-    let t = c .before .before .before .before .before .before .t .given in
-    let w = turned authenticated (now (l .before .before .before .before .args .region)) (l .loop .at) (t .0 .0) (t .0 .1 .0)
-    (sym (c .before .before .before .before .before .before .before .before .turn .ensures) ∙ t .1) in
-    omega arith
+loop-less-2 c = let b = c .before .before .before .before .before .before in at-entry (b .before .before .turn .ensures) (b .t .given .1) .less
 
 loop-again-2 : tie.Need-loop-again-2 Inv-loop μ-loop
 loop-again-2 c =
-    let l = c .before .before .before .before .before .before .before .before .before in
-    let a = l .before .before .before .before .args in
-    let r = now (a .region) in
-    let k = keyed (now (a .name)) (now (a .vendor)) in
-    let t = c .before .before .before .before .before .before .t .given in
-    let w = turned authenticated r (l .loop .at) (t .0 .0) (t .0 .1 .0) (sym (c .before .before .before .before .before .before .before .before .turn .ensures)
-    ∙ t .1) in (
-      l .loop .inv .0 ∙ found-miss authenticated r (l .loop .at) (t .0 .0) (t .0 .1 .0) w (isEntry 0x3F k) (l .loop .added)
+    let b = c .before .before .before .before .before .before in
+    let l = b .before .before .before in
+    let w = at-entry (b .before .before .turn .ensures) (b .t .given .1) in (
+      l .loop .inv .0 ∙ found-miss w (isEntry 0x3F (key l)) (l .loop .added)
           (sym (c .before .before .before .before .is-entry .ensures) ∙ c .before .before .before .if1 .left),
-      l .loop .inv .1 ∙ found-hit authenticated r (l .loop .at) (t .0 .0) (t .0 .1 .0) w (isEntry 0x3E k) (l .loop .replacing)
-          (sym (c .before .before .is-entry2 .ensures) ∙ c .before .if2 .taken)
-          ∙ ap (λ g. elseFound g (foundOf (first (isEntry 0x3E k) (from r (t .0 .1 .0))))) (sym (c .or-entry2 .ensures)),
+      l .loop .inv .1 ∙ found-hit w (isEntry 0x3E (key l)) (l .loop .replacing) (c .or-entry2 .ensures)
+          (sym (c .before .before .is-entry2 .ensures) ∙ c .before .if2 .taken),
     )
 
 loop-less-3 : tie.Need-loop-less-3 Inv-loop μ-loop
-loop-less-3 c =
-    let l = c .before .before .before .before .before .before .before .before in
-    let t = c .before .before .before .before .before .t .given in
-    let w = turned authenticated (now (l .before .before .before .before .args .region)) (l .loop .at) (t .0 .0) (t .0 .1 .0)
-    (sym (c .before .before .before .before .before .before .before .turn .ensures) ∙ t .1) in
-    omega arith
+loop-less-3 c = let b = c .before .before .before .before .before in at-entry (b .before .before .turn .ensures) (b .t .given .1) .less
 
 loop-again-3 : tie.Need-loop-again-3 Inv-loop μ-loop
 loop-again-3 c =
-    let l = c .before .before .before .before .before .before .before .before in
-    let a = l .before .before .before .before .args in
-    let r = now (a .region) in
-    let k = keyed (now (a .name)) (now (a .vendor)) in
-    let t = c .before .before .before .before .before .t .given in
-    let w = turned authenticated r (l .loop .at) (t .0 .0) (t .0 .1 .0) (sym (c .before .before .before .before .before .before .before .turn .ensures)
-    ∙ t .1) in (
-      l .loop .inv .0 ∙ found-miss authenticated r (l .loop .at) (t .0 .0) (t .0 .1 .0) w (isEntry 0x3F k) (l .loop .added)
-          (sym (c .before .before .before .is-entry .ensures) ∙ c .before .before .if1 .left),
-      l .loop .inv .1 ∙ found-miss authenticated r (l .loop .at) (t .0 .0) (t .0 .1 .0) w (isEntry 0x3E k) (l .loop .replacing)
-          (sym (c .before .is-entry2 .ensures) ∙ c .if2 .left),
+    let b = c .before .before .before .before .before in
+    let l = b .before .before .before in
+    let w = at-entry (b .before .before .turn .ensures) (b .t .given .1) in (
+      l .loop .inv .0 ∙ found-miss w (isEntry 0x3F (key l)) (l .loop .added) (sym (c .before .before .before .is-entry .ensures) ∙ c .before .before .if1 .left),
+      l .loop .inv .1 ∙ found-miss w (isEntry 0x3E (key l)) (l .loop .replacing) (sym (c .before .is-entry2 .ensures) ∙ c .if2 .left),
     )
 
 pub places-spec : {M : Type 1} → statement M
