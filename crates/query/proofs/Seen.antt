@@ -21,7 +21,7 @@ use Rattle.layout.specs.Head.{nameIn, Unlike}
 use Rattle.layout.specs.declared.Entry as numbers
 use Rattle.region.specs.Walk.{entryAt, entryAs}
 use Rattle.region.specs.Judge.{liveState}
-use Rattle.region.proofs.Turns.{rest, Turned}
+use Rattle.region.proofs.Turns.{rest, Turned, Ended}
 use Rattle.values.proofs.Listed.{value-other}
 use Rattle.query.specs.Query.{visible, isSeen, isSought, entryToGet, entryFollowing, goingOn, entryToName}
 
@@ -58,15 +58,6 @@ module _ (runtime : Bool) (r : List ℕ) (at : ℕ) (e : numbers.Entry) where
   unfolding isSought
   sought-other k h = rw (sym (own-state k) ∙ h)
 
-  other-name : (name : List ℕ) → Unlike (take (length r - at) (drop at r)) name → same (entryAt r at e .name) name ≡ false
-  unfolding entryAs nameIn walk.placed
-  other-name name u = ap (λ s. same (nameIn authenticated s e) name) (sym (rest r at)) ∙ u e
-
-  pub sought-unlike : (name vendor : List ℕ) → Unlike (take (length r - at) (drop at r)) name
-      → isSought runtime (keyed name vendor) (entries r) (entryAt r at e) ≡ false
-  unfolding isSought
-  sought-unlike name vendor u = rw (other-name name u)
-
   pub sought-named : (k : Key) → isEntry (e .state) k (entryAt r at e) ≡ true
       → isSought runtime k (entries r) (entryAt r at e) ≡ isSeen runtime (entries r) (entryAt r at e)
   unfolding isSought
@@ -84,16 +75,25 @@ unfolding entryToName seenFrom
 name-from runtime k r = ap (λ (es : List walk.Entry). goingOn (same (k .name) emptyName) k (keep (isSeen runtime (entries r)) es))
     (entries-from authenticated r)
 
-pub seen-none : (runtime : Bool) (r : List ℕ) (at : ℕ) → from r at ≡ [] → seenFrom runtime r at ≡ []
+pub seen-none : (runtime : Bool) {r : List ℕ} {at : ℕ} → Ended authenticated r at → seenFrom runtime r at ≡ []
 unfolding seenFrom
-seen-none runtime r at p = ap (keep (isSeen runtime (entries r))) p
+seen-none runtime {r} z = ap (keep (isSeen runtime (entries r))) (z .walk)
 
 pub going-none : (passed : Bool) (k : Key) {es : List walk.Entry} → es ≡ [] → goingOn passed k es ≡ none
 unfolding entryFollowing
 going-none true k p = rw p
 going-none false k p = rw p
 
-module _ (runtime : Bool) (r : List ℕ) (at : ℕ) (e : numbers.Entry) (n : ℕ) (w : Turned authenticated r at e n) where
+module _ {r : List ℕ} {at : ℕ} {e : numbers.Entry} {n : ℕ} (w : Turned authenticated r at e n) (runtime : Bool) where
+  other-name : (name : List ℕ) → Unlike (take (length r - at) (drop at r)) name → same (entryAt r at e .name) name ≡ false
+  unfolding entryAs nameIn walk.placed
+  other-name name u = ap (λ s. same (nameIn authenticated s e) name) (sym (rest r at)) ∙ u e
+
+  pub sought-unlike : (name vendor : List ℕ) → Unlike (take (length r - at) (drop at r)) name
+      → isSought runtime (keyed name vendor) (entries r) (entryAt r at e) ≡ false
+  unfolding isSought
+  sought-unlike name vendor u = rw (other-name name u)
+
   seen-here : isSeen runtime (entries r) (entryAt r at e) ≡ true → seenFrom runtime r at ≡ entryAt r at e ∷ seenFrom runtime r n
   unfolding seenFrom
   seen-here h = ap (keep (isSeen runtime (entries r))) (w .walk) ∙ rw h
@@ -123,18 +123,19 @@ module _ (runtime : Bool) (r : List ℕ) (at : ℕ) (e : numbers.Entry) (n : ℕ
       go false s = ap (first (λ y. sameKey (walk.entryKey y) k)) (seen-next s)
 
   -- the entry to name, behind the name
-  pub name-here : (k : Key) → isSeen runtime (entries r) (entryAt r at e) ≡ true → goingOn true k (seenFrom runtime r at) ≡ some (entryAt r at e)
-  name-here k h = ap head (seen-here h)
+  pub name-here : (k : Key) {p : Bool} → p ≡ true → isSeen runtime (entries r) (entryAt r at e) ≡ true
+      → goingOn p k (seenFrom runtime r at) ≡ some (entryAt r at e)
+  name-here k p h = rw p (ap head (seen-here h))
 
-  pub name-next : (k : Key) → isSeen runtime (entries r) (entryAt r at e) ≡ false → goingOn true k (seenFrom runtime r at) ≡ goingOn true k (seenFrom runtime r n)
-  name-next k h = ap head (seen-next h)
+  pub name-next : (k : Key) {p : Bool} → p ≡ true → isSeen runtime (entries r) (entryAt r at e) ≡ false
+      → goingOn p k (seenFrom runtime r at) ≡ goingOn p k (seenFrom runtime r n)
+  name-next k p h = rw p (ap head (seen-next h))
 
   -- and before it
-  pub name-before : (k : Key)
-      → goingOn false k (seenFrom runtime r at)
-      ≡ goingOn (isSought runtime k (entries r) (entryAt r at e)) k (seenFrom runtime r n)
+  pub name-before : (k : Key) {p q : Bool} → p ≡ false → q ≡ isSought runtime k (entries r) (entryAt r at e)
+      → goingOn p k (seenFrom runtime r at) ≡ goingOn q k (seenFrom runtime r n)
   unfolding entryFollowing isSought
-  name-before k = go (isSeen runtime (entries r) (entryAt r at e)) refl
+  name-before k p q = rw (p, q) (go (isSeen runtime (entries r) (entryAt r at e)) refl)
     where
       go : (t : Bool) → isSeen runtime (entries r) (entryAt r at e) ≡ t
           → goingOn false k (seenFrom runtime r at) ≡ goingOn (sameKey (walk.entryKey (entryAt r at e)) k && t) k (seenFrom runtime r n)

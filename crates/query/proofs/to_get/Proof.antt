@@ -6,12 +6,11 @@ use native.Mathlib.Omega.{arith}
 use mathlib.Core.Path.{_≡_, sym, ap, _∙_}
 use lib.ListN.{length}
 use denote.Ref.{now}
-use Rattle.model.specs.Layout.{authenticated}
 use Rattle.model.specs.Lists.{first}
 use Rattle.model.specs.Name.{keyed, sameKey}
 use Rattle.model.specs.Walk.{entryKey}
 use Rattle.model.specs.Region.{entries}
-use Rattle.region.proofs.Turns.{turned, stopped}
+use Rattle.region.proofs.Turns.{at-entry, at-end}
 use Rattle.query.specs.Query.{entryToGet}
 use Rattle.query.proofs.Seen.{seenFrom, get-from, seen-none, sought-unlike, get-here, get-next}
 use borrow.Author.Needs.{needs}
@@ -41,45 +40,17 @@ enum-told c = search needs
 
 returns : tie.Need-returns Inv-loop μ-loop
 returns c =
-    let l = c .before .before .before in
-    let a = l .before .before .before .args in
-    let r = now (a .region) in
-    let k = keyed (now (a .name)) (now (a .vendor)) in
-    sym (l .loop .inv ∙ ap (first (λ e. sameKey (entryKey e) k)) (seen-none (a .runtime) r (l .loop .at)
-    (stopped authenticated r (l .loop .at) (sym (c .before .before .turn .ensures) ∙ c .enum-told .given .1))))
+    let b = c .before .before in
+    sym (b .before .loop .inv ∙ ap (first _) (seen-none _ (at-end (b .turn .ensures) (c .enum-told .given .1))))
 
 sub-may-be : tie.Need-sub-may-be Inv-loop μ-loop
-sub-may-be c =
-    let b = c .before in
-    let l = b .before .before .before in
-    let a = l .before .before .before .args in
-    let r = now (a .region) in
-    let k = keyed (now (a .name)) (now (a .vendor)) in
-    let t = b .t .given in
-    let w = turned authenticated r (l .loop .at) (t .0 .0) (t .0 .1 .0) (sym (b .before .before .turn .ensures) ∙ t .1) in
-    omega arith
+sub-may-be c = let b = c .before in at-entry (b .before .before .turn .ensures) (b .t .given .1) .inside
 
 part-may-be-start : tie.Need-part-may-be-start Inv-loop μ-loop
-part-may-be-start c =
-    let b = c .before in
-    let l = b .before .before .before in
-    let a = l .before .before .before .args in
-    let r = now (a .region) in
-    let k = keyed (now (a .name)) (now (a .vendor)) in
-    let t = b .t .given in
-    let w = turned authenticated r (l .loop .at) (t .0 .0) (t .0 .1 .0) (sym (b .before .before .turn .ensures) ∙ t .1) in
-    omega arith
+part-may-be-start c = let b = c .before in let w = at-entry (b .before .before .turn .ensures) (b .t .given .1) in omega arith
 
 part-may-be-end : tie.Need-part-may-be-end Inv-loop μ-loop
-part-may-be-end c =
-    let b = c .before in
-    let l = b .before .before .before in
-    let a = l .before .before .before .args in
-    let r = now (a .region) in
-    let k = keyed (now (a .name)) (now (a .vendor)) in
-    let t = b .t .given in
-    let w = turned authenticated r (l .loop .at) (t .0 .0) (t .0 .1 .0) (sym (b .before .before .turn .ensures) ∙ t .1) in
-    omega arith
+part-may-be-end c = let b = c .before in let w = at-entry (b .before .before .turn .ensures) (b .t .given .1) in omega arith
 
 may-be-requires : tie.Need-may-be-requires Inv-loop μ-loop
 may-be-requires c κs = search needs
@@ -90,58 +61,26 @@ is-sought-requires c κs = search needs
 returns-2 : tie.Need-returns-2 Inv-loop μ-loop
 returns-2 c =
     let b = c .before .before .before .before .before .before .before in
-    let l = b .before .before .before in
-    let a = l .before .before .before .args in
-    let r = now (a .region) in
-    let k = keyed (now (a .name)) (now (a .vendor)) in
-    let t = b .t .given in
-    let w = turned authenticated r (l .loop .at) (t .0 .0) (t .0 .1 .0) (sym (b .before .before .turn .ensures) ∙ t .1) in
-    sym (l .loop .inv ∙ get-here (a .runtime) r (l .loop .at) (t .0 .0) (t .0 .1 .0) w k (sym (c .before .is-sought .ensures) ∙ c .if2 .taken))
+    let w = at-entry (b .before .before .turn .ensures) (b .t .given .1) in
+    sym (b .before .before .before .loop .inv ∙ get-here w _ _ (sym (c .before .is-sought .ensures) ∙ c .if2 .taken))
 
 loop-less : tie.Need-loop-less Inv-loop μ-loop
-loop-less c =
-    let b = c .before .before .before .before .before .before .before in
-    let l = b .before .before .before in
-    let a = l .before .before .before .args in
-    let r = now (a .region) in
-    let k = keyed (now (a .name)) (now (a .vendor)) in
-    let t = b .t .given in
-    let w = turned authenticated r (l .loop .at) (t .0 .0) (t .0 .1 .0) (sym (b .before .before .turn .ensures) ∙ t .1) in
-    omega arith
+loop-less c = let b = c .before .before .before .before .before .before .before in at-entry (b .before .before .turn .ensures) (b .t .given .1) .less
 
 loop-again : tie.Need-loop-again Inv-loop μ-loop
 loop-again c =
     let b = c .before .before .before .before .before .before .before in
-    let l = b .before .before .before in
-    let a = l .before .before .before .args in
-    let r = now (a .region) in
-    let k = keyed (now (a .name)) (now (a .vendor)) in
-    let t = b .t .given in
-    let w = turned authenticated r (l .loop .at) (t .0 .0) (t .0 .1 .0) (sym (b .before .before .turn .ensures) ∙ t .1) in
-    l .loop .inv ∙ get-next (a .runtime) r (l .loop .at) (t .0 .0) (t .0 .1 .0) w k (sym (c .before .is-sought .ensures) ∙ c .if2 .left)
+    let w = at-entry (b .before .before .turn .ensures) (b .t .given .1) in
+    b .before .before .before .loop .inv ∙ get-next w _ _ (sym (c .before .is-sought .ensures) ∙ c .if2 .left)
 
 loop-less-2 : tie.Need-loop-less-2 Inv-loop μ-loop
-loop-less-2 c =
-    let b = c .before .before .before .before in
-    let l = b .before .before .before in
-    let a = l .before .before .before .args in
-    let r = now (a .region) in
-    let k = keyed (now (a .name)) (now (a .vendor)) in
-    let t = b .t .given in
-    let w = turned authenticated r (l .loop .at) (t .0 .0) (t .0 .1 .0) (sym (b .before .before .turn .ensures) ∙ t .1) in
-    omega arith
+loop-less-2 c = let b = c .before .before .before .before in at-entry (b .before .before .turn .ensures) (b .t .given .1) .less
 
 loop-again-2 : tie.Need-loop-again-2 Inv-loop μ-loop
 loop-again-2 c =
     let b = c .before .before .before .before in
-    let l = b .before .before .before in
-    let a = l .before .before .before .args in
-    let r = now (a .region) in
-    let k = keyed (now (a .name)) (now (a .vendor)) in
-    let t = b .t .given in
-    let w = turned authenticated r (l .loop .at) (t .0 .0) (t .0 .1 .0) (sym (b .before .before .turn .ensures) ∙ t .1) in
-    let other = sought-unlike (a .runtime) r (l .loop .at) (t .0 .0) (now (a .name)) (now (a .vendor)) (c .before .may-be .ensures .1 (c .if1 .left)) in
-    l .loop .inv ∙ get-next (a .runtime) r (l .loop .at) (t .0 .0) (t .0 .1 .0) w k other
+    let w = at-entry (b .before .before .turn .ensures) (b .t .given .1) in
+    b .before .before .before .loop .inv ∙ get-next w _ _ (sought-unlike w _ _ _ (c .before .may-be .ensures .1 (c .if1 .left)))
 
 pub to-get-spec : {M : Type 1} → statement M
 to-get-spec =

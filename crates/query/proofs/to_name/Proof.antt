@@ -7,10 +7,9 @@ use mathlib.Core.Path.{_≡_, sym, ap, _∙_}
 use lib.ListN.{length}
 use denote.Ref.{now}
 use mathlib.Core.Bool.{Bool}
-use Rattle.model.specs.Layout.{authenticated}
 use Rattle.model.specs.Name.{keyed}
 use Rattle.model.specs.Region.{entries}
-use Rattle.region.proofs.Turns.{turned, stopped}
+use Rattle.region.proofs.Turns.{at-entry, at-end}
 use Rattle.query.specs.Query.{goingOn, entryToName}
 use Rattle.query.proofs.Seen.{seenFrom, name-from, seen-none, going-none, sought-unlike, name-here, name-next, name-before}
 use borrow.Author.Needs.{needs}
@@ -44,59 +43,26 @@ enum-told c = search needs
 
 returns : tie.Need-returns Inv-loop μ-loop
 returns c =
-    let l = c .before .before .before in
-    let a = l .before .before .before .before .args in
-    let r = now (a .region) in
-    let k = keyed (now (a .name)) (now (a .vendor)) in
-    sym (l .loop .inv ∙ going-none (l .loop .passed) k (seen-none (a .runtime) r (l .loop .here) (stopped authenticated r (l .loop .here)
-    (sym (c .before .before .turn .ensures) ∙ c .enum-told .given .1))))
+    let b = c .before .before in
+    sym (b .before .loop .inv ∙ going-none (b .before .loop .passed) _ (seen-none _ (at-end (b .turn .ensures) (c .enum-told .given .1))))
 
 is-seen-requires : tie.Need-is-seen-requires Inv-loop μ-loop
 is-seen-requires c κs = search needs
 
 returns-2 : tie.Need-returns-2 Inv-loop μ-loop
 returns-2 c =
-    let l = c .before .before .before .before .before .before .before in
-    let a = l .before .before .before .before .args in
-    let r = now (a .region) in
-    let k = keyed (now (a .name)) (now (a .vendor)) in
-    let t = c .before .before .before .before .t .given in
-    let w = turned authenticated r (l .loop .here) (t .0 .0) (t .0 .1 .0) (sym (c .before .before .before .before .before .before .turn .ensures) ∙ t .1) in
-    let here = name-here (a .runtime) r (l .loop .here) (t .0 .0) (t .0 .1 .0) w k (sym (c .before .is-seen .ensures) ∙ c .if2 .taken) in
-    sym (l .loop .inv ∙ ap (λ (p : Bool). goingOn p k (seenFrom (a .runtime) r (l .loop .here))) (c .before .before .if1 .taken) ∙ here)
+    let b = c .before .before .before .before in
+    let w = at-entry (b .before .before .turn .ensures) (b .t .given .1) in
+    sym (b .before .before .before .loop .inv ∙ name-here w _ _ (c .before .before .if1 .taken) (sym (c .before .is-seen .ensures) ∙ c .if2 .taken))
 
 sub-may-be : tie.Need-sub-may-be Inv-loop μ-loop
-sub-may-be c =
-    let b = c .before .before in
-    let l = b .before .before .before in
-    let a = l .before .before .before .before .args in
-    let r = now (a .region) in
-    let k = keyed (now (a .name)) (now (a .vendor)) in
-    let t = b .t .given in
-    let w = turned authenticated r (l .loop .here) (t .0 .0) (t .0 .1 .0) (sym (b .before .before .turn .ensures) ∙ t .1) in
-    omega arith
+sub-may-be c = let b = c .before .before in at-entry (b .before .before .turn .ensures) (b .t .given .1) .inside
 
 part-may-be-start : tie.Need-part-may-be-start Inv-loop μ-loop
-part-may-be-start c =
-    let b = c .before .before in
-    let l = b .before .before .before in
-    let a = l .before .before .before .before .args in
-    let r = now (a .region) in
-    let k = keyed (now (a .name)) (now (a .vendor)) in
-    let t = b .t .given in
-    let w = turned authenticated r (l .loop .here) (t .0 .0) (t .0 .1 .0) (sym (b .before .before .turn .ensures) ∙ t .1) in
-    omega arith
+part-may-be-start c = let b = c .before .before in let w = at-entry (b .before .before .turn .ensures) (b .t .given .1) in omega arith
 
 part-may-be-end : tie.Need-part-may-be-end Inv-loop μ-loop
-part-may-be-end c =
-    let b = c .before .before in
-    let l = b .before .before .before in
-    let a = l .before .before .before .before .args in
-    let r = now (a .region) in
-    let k = keyed (now (a .name)) (now (a .vendor)) in
-    let t = b .t .given in
-    let w = turned authenticated r (l .loop .here) (t .0 .0) (t .0 .1 .0) (sym (b .before .before .turn .ensures) ∙ t .1) in
-    omega arith
+part-may-be-end c = let b = c .before .before in let w = at-entry (b .before .before .turn .ensures) (b .t .given .1) in omega arith
 
 may-be-requires : tie.Need-may-be-requires Inv-loop μ-loop
 may-be-requires c κs = search needs
@@ -105,79 +71,33 @@ is-sought-requires : tie.Need-is-sought-requires Inv-loop μ-loop
 is-sought-requires c κs = search needs
 
 loop-less : tie.Need-loop-less Inv-loop μ-loop
-loop-less c =
-    let l = c .before .before .before .before .before .before .before in
-    let a = l .before .before .before .before .args in
-    let r = now (a .region) in
-    let k = keyed (now (a .name)) (now (a .vendor)) in
-    let t = c .before .before .before .before .t .given in
-    let w = turned authenticated r (l .loop .here) (t .0 .0) (t .0 .1 .0) (sym (c .before .before .before .before .before .before .turn .ensures) ∙ t .1) in
-    omega arith
+loop-less c = let b = c .before .before .before .before in at-entry (b .before .before .turn .ensures) (b .t .given .1) .less
 
 loop-again : tie.Need-loop-again Inv-loop μ-loop
 loop-again c =
-    let l = c .before .before .before .before .before .before .before in
-    let a = l .before .before .before .before .args in
-    let r = now (a .region) in
-    let k = keyed (now (a .name)) (now (a .vendor)) in
-    let t = c .before .before .before .before .t .given in
-    let w = turned authenticated r (l .loop .here) (t .0 .0) (t .0 .1 .0) (sym (c .before .before .before .before .before .before .turn .ensures) ∙ t .1) in
-    let more = name-next (a .runtime) r (l .loop .here) (t .0 .0) (t .0 .1 .0) w k (sym (c .before .is-seen .ensures) ∙ c .if2 .left) in
-    l .loop .inv
-    ∙ ap (λ (p : Bool). goingOn p k (seenFrom (a .runtime) r (l .loop .here))) (c .before .before .if1 .taken)
-    ∙ more
-    ∙ ap (λ (p : Bool). goingOn p k (seenFrom (a .runtime) r (t .0 .1 .0))) (sym (c .before .before .if1 .taken))
+    let b = c .before .before .before .before in
+    let w = at-entry (b .before .before .turn .ensures) (b .t .given .1) in
+    b .before .before .before .loop .inv ∙ name-next w _ _ (c .before .before .if1 .taken) (sym (c .before .is-seen .ensures) ∙ c .if2 .left)
 
 loop-less-2 : tie.Need-loop-less-2 Inv-loop μ-loop
-loop-less-2 c =
-    let b = c .before .before .before .before .before .before .before in
-    let l = b .before .before .before in
-    let a = l .before .before .before .before .args in
-    let r = now (a .region) in
-    let k = keyed (now (a .name)) (now (a .vendor)) in
-    let t = b .t .given in
-    let w = turned authenticated r (l .loop .here) (t .0 .0) (t .0 .1 .0) (sym (b .before .before .turn .ensures) ∙ t .1) in
-    omega arith
+loop-less-2 c = let b = c .before .before .before .before .before .before .before in at-entry (b .before .before .turn .ensures) (b .t .given .1) .less
 
 loop-again-2 : tie.Need-loop-again-2 Inv-loop μ-loop
 loop-again-2 c =
     let b = c .before .before .before .before .before .before .before in
-    let l = b .before .before .before in
-    let a = l .before .before .before .before .args in
-    let r = now (a .region) in
-    let k = keyed (now (a .name)) (now (a .vendor)) in
-    let t = b .t .given in
-    let w = turned authenticated r (l .loop .here) (t .0 .0) (t .0 .1 .0) (sym (b .before .before .turn .ensures) ∙ t .1) in
-    l .loop .inv
-    ∙ ap (λ (p : Bool). goingOn p k (seenFrom (a .runtime) r (l .loop .here))) (c .before .before .before .before .before .if1 .left)
-    ∙ name-before (a .runtime) r (l .loop .here) (t .0 .0) (t .0 .1 .0) w k
-    ∙ ap (λ (p : Bool). goingOn p k (seenFrom (a .runtime) r (t .0 .1 .0))) (sym (c .is-sought .ensures))
+    let w = at-entry (b .before .before .turn .ensures) (b .t .given .1) in
+    b .before .before .before .loop .inv ∙ name-before w _ _ (c .before .before .before .before .before .if1 .left) (c .is-sought .ensures)
 
 loop-less-3 : tie.Need-loop-less-3 Inv-loop μ-loop
-loop-less-3 c =
-    let b = c .before .before .before .before .before in
-    let l = b .before .before .before in
-    let a = l .before .before .before .before .args in
-    let r = now (a .region) in
-    let k = keyed (now (a .name)) (now (a .vendor)) in
-    let t = b .t .given in
-    let w = turned authenticated r (l .loop .here) (t .0 .0) (t .0 .1 .0) (sym (b .before .before .turn .ensures) ∙ t .1) in
-    omega arith
+loop-less-3 c = let b = c .before .before .before .before .before in at-entry (b .before .before .turn .ensures) (b .t .given .1) .less
 
 loop-again-3 : tie.Need-loop-again-3 Inv-loop μ-loop
 loop-again-3 c =
     let b = c .before .before .before .before .before in
-    let l = b .before .before .before in
-    let a = l .before .before .before .before .args in
-    let r = now (a .region) in
-    let k = keyed (now (a .name)) (now (a .vendor)) in
-    let t = b .t .given in
-    let w = turned authenticated r (l .loop .here) (t .0 .0) (t .0 .1 .0) (sym (b .before .before .turn .ensures) ∙ t .1) in
-    let other = sought-unlike (a .runtime) r (l .loop .here) (t .0 .0) (now (a .name)) (now (a .vendor)) (c .before .may-be .ensures .1 (c .if3 .left)) in
-    l .loop .inv
-    ∙ ap (λ (p : Bool). goingOn p k (seenFrom (a .runtime) r (l .loop .here))) (c .before .before .before .if1 .left)
-    ∙ name-before (a .runtime) r (l .loop .here) (t .0 .0) (t .0 .1 .0) w k
-    ∙ ap (λ (p : Bool). goingOn p k (seenFrom (a .runtime) r (t .0 .1 .0))) (other ∙ sym (c .before .before .before .if1 .left))
+    let w = at-entry (b .before .before .turn .ensures) (b .t .given .1) in
+    let other = sought-unlike w _ _ _ (c .before .may-be .ensures .1 (c .if3 .left)) in
+    let still = c .before .before .before .if1 .left in
+    b .before .before .before .loop .inv ∙ name-before w _ _ still (still ∙ sym other)
 
 pub to-name-spec : {M : Type 1} → statement M
 to-name-spec =
