@@ -70,35 +70,39 @@ module _ (y : Layout) where
         vendor = h .vendor;
       }) (q .numbers) (sym f)
 
-  -- ---- what a turn says of the walk
+-- ---- the law of a turn, as a loop cites it: by what the call answers and what the match tells of the answer. Layout, region, offset and numbers are read
+-- off the two.
 
-  -- at an entry the walk is that entry and the walk from the next offset on; the header found lies within the region, so offsets do not overflow, and what
-  -- is left of the region falls
-  pub record Turned (r : List ℕ) (at : ℕ) (e : numbers.Entry) (k : ℕ) : Type 0 where
-    pub walk : (fromIn y) r at ≡ (entryAs y) r at e ∷ (fromIn y) r k
-    pub fits : at + (headerLength y) ≤ length r
-    pub more : at + (headerLength y) ≤ k
-    pub next : (entryAs y) r at e .next ≡ k
-    pub inside : at ≤ length r
-    pub less : length r - k < length r - at
+-- at an entry the walk is that entry and the walk from the next offset on; the header found lies within the region, so offsets do not overflow, and what
+-- is left of the region falls
+pub record Turned (y : Layout) (r : List ℕ) (at : ℕ) (e : numbers.Entry) (k : ℕ) : Type 0 where
+  pub walk : fromIn y r at ≡ entryAs y r at e ∷ fromIn y r k
+  pub fits : at + headerLength y ≤ length r
+  pub more : at + headerLength y ≤ k
+  pub next : entryAs y r at e .next ≡ k
+  pub inside : at ≤ length r
+  pub less : length r - k < length r - at
 
-  -- an entry found is the first of the walk, which goes on at the offset found with it
-  pub turned : (r : List ℕ) (at : ℕ) (e : numbers.Entry) (k : ℕ) → (turnIn y) r at ≡ Entry e k → Turned r at e k
+-- at the end the walk is empty
+pub record Ended (y : Layout) (r : List ℕ) (at : ℕ) : Type 0 where
+  pub walk : fromIn y r at ≡ []
+
+module _ {y : Layout} {r : List ℕ} {at : ℕ} {t : Turn} (answer : t ≡ turnIn y r at) where
+  pub at-entry : {e : numbers.Entry} {k : ℕ} → t ≡ Entry e k → Turned y r at e k
   unfolding turnIn entryAs walk.placed
-  turned r at e k p = go ((headIn y) (drop at r)) refl p
+  at-entry {e} {k} told = go (headIn y (drop at r)) refl (sym answer ∙ told)
     where
-      go : (x : Head) → (headIn y) (drop at r) ≡ x → onHead x (λ n. Entry n (at + (strideIn y) n)) Stop ≡ Entry e k → Turned r at e k
+      go : (x : Head) → headIn y (drop at r) ≡ x → onHead x (λ n. Entry n (at + strideIn y n)) Stop ≡ Entry e k → Turned y r at e k
       go End h p = let z : _≡_ {A = ℕ} 0 1 = cc in absurd (omega arith)
       go (Present n) h p =
           let same : n ≡ e = cc in
-          let last : at + (strideIn y) e ≡ k = ap (λ (m : numbers.Entry). at + (strideIn y) m) (sym same) ∙ (cc) in
-          let q = present (drop at r) e (h ∙ ap Present same) in
-          let header = same-header (drop at r) e q in
+          let last : at + strideIn y e ≡ k = ap (λ (m : numbers.Entry). at + strideIn y m) (sym same) ∙ (cc) in
+          let q = present y (drop at r) e (h ∙ ap Present same) in
           let room = from-fits y r at (q .header) (q .read) in
-          let least = stride-least y ((headerAs y) e (drop at r)) in
+          let least = stride-least y (headerAs y e (drop at r)) in
           record {
-            walk = from-entry y r at ((headerAs y) e (drop at r)) (q .read ∙ ap some header)
-                ∙ ap (λ (j : ℕ). (entryAs y) r at e ∷ (fromIn y) r j) last;
+            walk = from-entry y r at (headerAs y e (drop at r)) (q .read ∙ ap some (same-header y (drop at r) e q))
+                ∙ ap (λ (j : ℕ). entryAs y r at e ∷ fromIn y r j) last;
             fits = room;
             more = omega arith;
             next = last;
@@ -106,28 +110,14 @@ module _ (y : Layout) where
             less = omega arith;
           }
 
-  pub stopped : (r : List ℕ) (at : ℕ) → (turnIn y) r at ≡ Stop → (fromIn y) r at ≡ []
+  pub at-end : t ≡ Stop → Ended y r at
   unfolding turnIn
-  stopped r at p = go ((headIn y) (drop at r)) refl p
+  at-end told = go (headIn y (drop at r)) refl (sym answer ∙ told)
     where
-      go : (x : Head) → (headIn y) (drop at r) ≡ x → onHead x (λ n. Entry n (at + (strideIn y) n)) Stop ≡ Stop → (fromIn y) r at ≡ []
-      go End h p = from-end y r at (ended (drop at r) h)
+      go : (x : Head) → headIn y (drop at r) ≡ x → onHead x (λ n. Entry n (at + strideIn y n)) Stop ≡ Stop → Ended y r at
+      go End h p = record { walk = from-end y r at (ended y (drop at r) h) }
       go (Present n) h p = let z : _≡_ {A = ℕ} 0 1 = cc in absurd (omega arith)
-
--- ---- the law of a turn, as a loop cites it: by what the call answers and what the match tells of the answer. Layout, region, offset and numbers are read
--- off the two.
-
--- at the end the walk is empty
-pub record Ended (y : Layout) (r : List ℕ) (at : ℕ) : Type 0 where
-  pub walk : fromIn y r at ≡ []
 
 -- past the end of the region nothing stands
 pub at-past : (y : Layout) (r : List ℕ) (at : ℕ) → length r ≤ at → Ended y r at
 at-past y r at h = record { walk = from-past y r at h }
-
-module _ {y : Layout} {r : List ℕ} {at : ℕ} {t : Turn} (answer : t ≡ turnIn y r at) where
-  pub at-entry : {e : numbers.Entry} {k : ℕ} → t ≡ Entry e k → Turned y r at e k
-  at-entry {e} {k} told = turned y r at e k (sym answer ∙ told)
-
-  pub at-end : t ≡ Stop → Ended y r at
-  at-end told = record { walk = stopped y r at (sym answer ∙ told) }
