@@ -40,6 +40,7 @@ unstamp-valid y z (v ∷ vs) h = (
     vendor = h .0 .vendor;
     stamp = refl;
     attributes = h .0 .attributes;
+    recorded = h .0 .recorded;
     stampless = λ e. refl;
     some-data = h .0 .some-data;
     few-data = h .0 .few-data;

@@ -12,17 +12,18 @@ use lib.ListN.{length, take, replicate, length-append, length-take}
 use lib.Dec.{eqb, leb, ltb}
 use borrow.Author.Tests.{ltb-false, leb-true, eqb-true, eqb-false, ne-eqb, not-false}
 use Rattle.model.specs.declared.Session.{Session}
+use Rattle.model.specs.declared.Terms.{Terms}
 use Rattle.model.specs.declared.Rule.{Rule}
 use Rattle.model.specs.Layout.{authenticated}
 use Rattle.model.specs.Lists.{allFF, among, isSome, onSome, orElse}
-use Rattle.model.specs.Name.{Key, wellNamed}
-use Rattle.model.specs.Image.{rightLength, regionSize, region, work, spare}
+use Rattle.model.specs.Name.{Key, wellNamed, recordName}
+use Rattle.model.specs.Image.{rightLength, regionHeaderSize, regionSize, region, work, spare}
 use Rattle.model.specs.Entry.{Value, keyOf}
-use Rattle.model.specs.Region.{maxData, storedAttributes, tail, sound, clean, cleanIn, valuesOf, valuesIn, find}
+use Rattle.model.specs.Region.{maxData, storedAttributes, recordBit, tail, sound, clean, cleanIn, valuesOf, valuesIn, find}
 use Rattle.model.specs.Work.{idle, readyForCall, readyIn, readyForStartUp}
 use Rattle.model.specs.Request.{Request, requestKey, stampSize, timeBased, appends, withoutAppend, dataProper, stampToStore, later, properAt, rightDescriptor}
-use Rattle.model.specs.Change.{nothing, remove, put, deletes, emptyAppend, equalTo, newData, laterOf, newStamp, newValue, changeOf, changeIn, step, steps, spaceOf}
-use Rattle.model.specs.Rules.{firstBroken, rule1, rule2In, rule2StartUp, rule3, rule4, rule8, rule11, rule12, rule13, termsOf, imageRulesIn, requestRules, standingRules, resultRules, itemRules, roomRules, setBroken, getBroken, nextBroken, startUpBroken}
+use Rattle.model.specs.Change.{nothing, remove, put, deletes, emptyAppend, equalTo, newData, laterOf, newStamp, newValue, changeOf, changeIn, step, steps, spaceOf, isErrorRecord, otherSizes}
+use Rattle.model.specs.Rules.{firstBroken, rule1, rule2In, rule2StartUp, rule3, rule4, rule8, rule11, rule12, rule13, rule17, termsOf, imageRulesIn, requestRules, standingRules, resultRules, itemRules, roomRules, setBroken, getBroken, nextBroken, startUpBroken}
 use Rattle.model.specs.Answers.{ruleNumber}
 use Rattle.model.specs.Beside.{Valid}
 use Rattle.model.proofs.Encode.{AllValid, sound-valid}
@@ -143,6 +144,27 @@ put-attributes runtime a size h d =
     let p = or-split _ _ (or-split _ _ h .0) in
     new-attributes a (not-false _ (p .0)) (p .1) (or-split _ _ d .0)
 
+-- 0x40 says nothing of error records, and an attribute 0x08 that rule 17 lets pass stands under a record's name
+pub record-append : (a : ℕ) → recordBit (withoutAppend a) ≡ recordBit a
+record-append a = go (appends a) refl
+  where
+    go : (t : Bool) → appends a ≡ t → recordBit (cond t (a - 0x40) a) ≡ recordBit a
+    go true e =
+        let x : a / 0x40 % 2 ≡ 1 = eqb-true (a / 0x40 % 2) 1 e in
+        let y : (a - 0x40) / 0x08 % 2 ≡ a / 0x08 % 2 = omega arith in
+        rw y
+    go false e = refl
+
+recorded-put : (k : Key) (a size : ℕ) → rule17 k a ≡ false → deletes a size ≡ false → (not (recordBit (withoutAppend a)) || recordName k) ≡ true
+unfolding rule17 deletes
+recorded-put k a size h d = rw (record-append a) (go (eqb a 0) (or-split _ _ d .0) (recordBit a) (recordName k) h)
+  where
+    go : (z : Bool) → z ≡ false → (b n : Bool) → (not z && cond b (not n) n) ≡ false → (not b || n) ≡ true
+    go true e b n h = absurd (true≢false e)
+    go false e true true h = refl
+    go false e true false h = absurd (true≢false h)
+    go false e false n h = refl
+
 -- a stamp is 16 bytes
 descriptor-length : (bytes : List ℕ) → rightDescriptor bytes ≡ true → stampSize ≤ length bytes
 unfolding rightDescriptor
@@ -188,6 +210,15 @@ stamp-length r h = go (timeBased (r .attributes)) (rightDescriptor (r .bytes)) r
     go true false e h = absurd (true≢false h)
     go false d e h = refl
 
+-- where there is room for a value, all values fit
+room-fits : (t : Terms) (size : ℕ) (v : Value) (vs : List Value) → rule13 t size (put v ∷ []) vs ≡ false → spaceOf (step (put v) vs) ≤ size
+unfolding rule13 steps
+room-fits t size v vs h =
+    ltb-false size (spaceOf (step (put v) vs))
+    (or-split
+    ((not (isErrorRecord v) || false) && ltb size (regionHeaderSize + otherSizes (step (put v) vs) + t .records + t .reserve))
+    (ltb size (spaceOf (step (put v) vs))) h .1)
+
 -- ---- a set that breaks no rule
 
 module _ (s : Session) (r : Request) (img : List ℕ) (accepted : setBroken s r img ≡ none) where
@@ -215,6 +246,7 @@ module _ (s : Session) (r : Request) (img : List ℕ) (accepted : setBroken s r 
       let n : rule3 (requestKey r) ≡ false = unbroken _ 3 accepted in
       let q : rule4 (termsOf s (requestKey r) .runtime) (r .attributes) ≡ false = unbroken _ 4 accepted in
       let d : rule8 (r .attributes) (r .bytes) ≡ false = unbroken _ 8 accepted in
+      let e : rule17 (requestKey r) (r .attributes) ≡ false = unbroken _ 17 accepted in
       let h : rule12 (changeIn r (valuesOf img)) ≡ false = unbroken _ 12 accepted in
       let few : length (v .bytes) ≤ maxData = ltb-false maxData (length (v .bytes)) (rw c at h) in
       rw (p .made)
@@ -224,16 +256,16 @@ module _ (s : Session) (r : Request) (img : List ℕ) (accepted : setBroken s r 
         stamp = new-stamp (λ (x : List ℕ). length x ≡ 16) r (find (requestKey r) (valuesOf img)) (stamp-length r d) old-stamp;
         stampless = λ e. absurd (true≢false e);
         attributes = put-attributes (termsOf s (requestKey r) .runtime) (r .attributes) (length (dataProper r)) q (p .kept);
+        recorded = recorded-put (requestKey r) (r .attributes) (length (dataProper r)) e (p .kept);
         some-data = some-new r (find (requestKey r) (valuesOf img)) (some-proper (r .attributes) (length (dataProper r)) (p .kept) (p .adds));
         few-data = rw (p .made) at few;
       })
 
   pub put-fits : (v : Value) → changeIn r (valuesOf img) ≡ put v → spaceOf (step (put v) (valuesOf img)) ≤ regionSize img
-  unfolding setBroken imageRulesIn itemRules requestRules standingRules resultRules roomRules rule13 steps
+  unfolding setBroken imageRulesIn itemRules requestRules standingRules resultRules roomRules
   put-fits v c =
-      let h : rule13 (termsOf s (requestKey r) .reserve) (regionSize img) (changeIn r (valuesOf img) ∷ []) (valuesOf img) ≡ false = unbroken _ 13 accepted in
-      let l : ltb (regionSize img) (spaceOf (step (put v) (valuesOf img)) + termsOf s (requestKey r) .reserve) ≡ false = rw c at h in
-      omega (arith, ltb-false)
+      let h : rule13 (termsOf s (requestKey r)) (regionSize img) (changeIn r (valuesOf img) ∷ []) (valuesOf img) ≡ false = unbroken _ 13 accepted in
+      room-fits (termsOf s (requestKey r)) (regionSize img) v (valuesOf img) (rw c at h)
 
   pub remove-present : (k : Key) → changeIn r (valuesOf img) ≡ remove k → isSome (find k (valuesOf img)) ≡ true
   unfolding setBroken imageRulesIn itemRules requestRules standingRules resultRules rule11 changeIn

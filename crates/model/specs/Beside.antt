@@ -1,7 +1,7 @@
 -- Not of document 01: what contracts cite.
 use Prim.Native.Nat.{ℕ, _≤_}
 use mathlib.Core.Path.{_≡_}
-use mathlib.Core.Bool.{true, false, cond, _&&_}
+use mathlib.Core.Bool.{true, false, not, cond, _&&_, _||_}
 use mathlib.Core.List.{List}
 use lib.ListN.{length, drop}
 use lib.Dec.{leb, ltb}
@@ -9,10 +9,10 @@ use Rattle.model.specs.declared.Layout.{Layout}
 use Rattle.model.specs.declared.Session.{Session}
 use Rattle.model.specs.Layout.{authenticated, headerLength, isStamped}
 use Rattle.model.specs.Lists.{among}
-use Rattle.model.specs.Name.{Key, wellNamed}
-use Rattle.model.specs.Entry.{Value, noStamp, readHeaderIn}
+use Rattle.model.specs.Name.{Key, wellNamed, recordName}
+use Rattle.model.specs.Entry.{Value, keyOf, noStamp, readHeaderIn}
 use Rattle.model.specs.Walk.{Entry, walk}
-use Rattle.model.specs.Region.{storedAttributes, maxData}
+use Rattle.model.specs.Region.{storedAttributes, recordBit, maxData}
 use Rattle.model.specs.Session.{lockSpace, nameSpace, withLock}
 use Rattle.model.specs.Answers.{Reply}
 
@@ -34,6 +34,7 @@ pub record ValidIn (y : Layout) (v : Value) : Type 0 where
   pub stamp : length (v .stamp) ≡ 16
   pub stampless : isStamped y ≡ false → v .stamp ≡ noStamp
   pub attributes : among storedAttributes (v .attributes) ≡ true
+  pub recorded : (not (recordBit (v .attributes)) || recordName (keyOf v)) ≡ true
   pub some-data : 1 ≤ length (v .bytes)
   pub few-data : length (v .bytes) ≤ maxData
 

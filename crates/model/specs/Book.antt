@@ -27,7 +27,7 @@ use Rattle.model.specs.StartUp.{startUpPlan, formatPlan}
 use Rattle.model.specs.Answers.{Outcome, done, stopped, refused, outcome, imageAfter, madeOf, pageOf, storesOf, decided, getPlan, nextPlan}
 use Rattle.model.specs.Move.{moveBroken, imageMoved}
 
--- "sets (deletes among them), gets, next-names and start-ups": each with its session and arguments, a start-up with custom mode and R
+-- "sets (deletes among them), gets, next-names and start-ups": each with its session and arguments, a start-up with custom mode, R and H
 pub data Call : Type 0 where
   set : Session → Request → Call
   get : Session → Key → List ℕ → Call
@@ -135,7 +135,7 @@ NoBitRises =
     → Bytes img
     → ((c : Call) → Sized c → Clears (storesOf w (planOf c img)) img) × Clears (storesOf w (formatPlan img)) img
 
--- the places of records, and of the states of entries, also of the next one
+-- the places of the work block's records, and of the states of entries, also of the next one
 unfoldable pub isRecord : List ℕ → ℕ → Bool
 isRecord img at = leb (workAt img) at && ltb at (workAt img + recordSpace)
 

@@ -1,4 +1,4 @@
--- 01, "What a set does", and 02 (b): the change that a call makes of the list of values, for the book, for rule 13 and for a compaction alike.
+-- 01, "What a set does", and 02 (b): the change that a call makes of the list of values, for the book, for rules 13 and 18 and for a compaction alike.
 use Prim.Native.Nat.{ℕ, _+_}
 use mathlib.Core.Bool.{Bool, false, not, cond, _&&_, _||_}
 use mathlib.Core.List.{List, [], _∷_, _++_}
@@ -11,7 +11,7 @@ use Rattle.model.specs.Layout.{authenticated}
 use Rattle.model.specs.Image.{regionHeaderSize}
 use Rattle.model.specs.Name.{Key, sameKey}
 use Rattle.model.specs.Entry.{Value, keyOf, entrySizeIn}
-use Rattle.model.specs.Region.{find}
+use Rattle.model.specs.Region.{recordBit, find}
 use Rattle.model.specs.Request.{Request, requestKey, timeBased, appends, withoutAppend, dataProper, stampToStore, later}
 
 pub data Change : Type 0 where
@@ -100,3 +100,13 @@ entrySizes = entrySizesIn authenticated
 
 abbrev pub spaceOf : List Value → ℕ
 spaceOf = spaceIn authenticated
+
+-- 02 (a): the error records among the values, and the others
+abbrev pub isErrorRecord : Value → Bool
+isErrorRecord v = recordBit (v .attributes)
+
+unfoldable pub recordSizes : List Value → ℕ
+recordSizes vs = entrySizes (keep isErrorRecord vs)
+
+unfoldable pub otherSizes : List Value → ℕ
+otherSizes vs = entrySizes (keep (λ v. not (isErrorRecord v)) vs)

@@ -1,4 +1,4 @@
--- 01, "Rules a call can break, in checking order". ruleN says whether rule N is broken.
+-- 01, "Rules a call can break, in checking order", with those of 02 in their places. ruleN says whether rule N is broken.
 use Prim.Native.Nat.{ℕ, _+_}
 use mathlib.Core.Bool.{Bool, true, false, not, cond, _&&_, _||_}
 use mathlib.Core.List.{List, [], _∷_, _++_}
@@ -9,17 +9,17 @@ use Rattle.model.specs.declared.Layout.{Layout}
 use Rattle.model.specs.declared.Session.{Session}
 use Rattle.model.specs.declared.Terms.{Terms}
 use Rattle.model.specs.declared.Rule.{Rule}
-use Rattle.model.specs.declared.Rule.the-variants.{Length, Unready, Name, Attributes, KeyAttributes, Locked, Standing, Descriptor, Verdict, Stamp, Absent, DataSize, Room, Buffer, LockPhase, LockSpace}
+use Rattle.model.specs.declared.Rule.the-variants.{Length, Unready, Name, Attributes, KeyAttributes, Locked, Standing, Descriptor, Verdict, Stamp, Absent, DataSize, Room, Buffer, LockPhase, LockSpace, RecordName, RecordSpace}
 use Rattle.model.specs.Layout.{authenticated}
 use Rattle.model.specs.Lists.{same, keep, any, among, isEmpty, isSome, onSome, head}
-use Rattle.model.specs.Image.{rightLength, regionSize}
-use Rattle.model.specs.Name.{Key, sameKey, wellNamed, emptyName}
+use Rattle.model.specs.Image.{rightLength, regionHeaderSize, regionSize}
+use Rattle.model.specs.Name.{Key, sameKey, wellNamed, emptyName, recordName}
 use Rattle.model.specs.Entry.{Value, keyOf}
-use Rattle.model.specs.Region.{maxData, storedAttributes, valuesOf, find}
+use Rattle.model.specs.Region.{maxData, storedAttributes, recordBit, valuesOf, find}
 use Rattle.model.specs.Work.{readyIn, readyForStartUp}
 use Rattle.model.specs.Session.{inBoot, atRuntime, customMode, reserved, countedLocks, lockSpace, locked}
 use Rattle.model.specs.Request.{Request, requestKey, runtimeAccess, timeBased, appends, withoutAppend, isKeyName, userMode, wantedVerdicts, rightDescriptor, stampToStore, later}
-use Rattle.model.specs.Change.{Change, nothing, remove, put, changeOf, changeIn, steps, spaceOf}
+use Rattle.model.specs.Change.{Change, nothing, remove, put, changeOf, changeIn, steps, spaceOf, isErrorRecord, recordSizes, otherSizes}
 
 -- "The first broken is the answer": of rules in checking order, each with whether it is broken
 unfoldable pub firstBroken : List (Rule × Bool) → Option Rule
@@ -48,8 +48,8 @@ rule3 k = not (wellNamed (k .name))
 unfoldable pub rule3Next : Key → Bool
 rule3Next k = not (wellNamed (k .name) || same (k .name) emptyName)
 
--- 4. "Attributes without 0x40 are none of 0, 0x03, 0x07, 0x23, 0x27, or are exactly 0x40, or at runtime are not 0 and lack RT."
---    By whether the phase is runtime, and attributes
+-- 4. "Attributes without 0x40 are none of 0, 0x03, 0x07, 0x23, 0x27, or are exactly 0x40, or at runtime are not 0 and lack RT."; 02 (a):
+--    "Attribute 0x0F becomes legal in rule 4". By whether the phase is runtime, and attributes
 unfoldable pub rule4 : Bool → ℕ → Bool
 rule4 runtime a =
     not (among (0 ∷ storedAttributes) (withoutAppend a))
@@ -59,6 +59,10 @@ rule4 runtime a =
 -- 5. "A key name has other attributes than 0x27 or 0x67."
 unfoldable pub rule5 : Key → ℕ → Bool
 rule5 k a = isKeyName k && not (among (0x27 ∷ 0x67 ∷ []) a)
+
+-- 17. 02 (a): "when a call with attributes other than 0 has attribute 0x08 without this GUID and name form, or both of those without 0x08, after 5"
+unfoldable pub rule17 : Key → ℕ → Bool
+rule17 k a = not (eqb a 0) && cond (recordBit a) (not (recordName k)) (recordName k)
 
 -- 6. "The name is locked and the phase is not boot."
 unfoldable pub rule6 : Session → Key → Bool
@@ -100,15 +104,22 @@ rule12 nothing = false
 rule12 (remove k) = false
 rule12 (put v) = ltb maxData (length (v .bytes))
 
--- 13. "28 plus the rounded entry sizes of all values after the change, plus R at runtime, exceeds L": of changes one after another, beside so many bytes kept back;
---     "a delete, or a set that stores nothing, never meets it"
-abbrev pub isPut : Change → Bool
-isPut nothing = false
-isPut (remove k) = false
-isPut (put v) = true
+-- a change puts a value of a kind; "a delete, or a set that stores nothing, never meets" 13, and 18 has "its exemptions"
+abbrev pub puts : (Value → Bool) → Change → Bool
+puts f nothing = false
+puts f (remove k) = false
+puts f (put v) = f v
 
-unfoldable pub rule13 : ℕ → ℕ → List Change → List Value → Bool
-rule13 reserve size cs vs = any isPut cs && ltb size (spaceOf (steps cs vs) + reserve)
+-- 18. 02 (a): "when after a set of one their rounded sizes exceed H, before 13 and with its exemptions": of changes one after another
+unfoldable pub rule18 : Terms → List Change → List Value → Bool
+rule18 t cs vs = any (puts isErrorRecord) cs && ltb (t .records) (recordSizes (steps cs vs))
+
+-- 13. "28 plus the rounded entry sizes of all values after the change, plus R at runtime, exceeds L", which 02 (a) reads: "a set of any other value meets 13 if 28, the
+--     other values, H and (at runtime) R exceed L; every set, if 28 and all values do"
+unfoldable pub rule13 : Terms → ℕ → List Change → List Value → Bool
+rule13 t size cs vs =
+    (any (puts (λ v. not (isErrorRecord v))) cs && ltb size (regionHeaderSize + otherSizes (steps cs vs) + t .records + t .reserve))
+    || (any (puts (λ v. true)) cs && ltb size (spaceOf (steps cs vs)))
 
 -- 15. "A lock is asked after the boot phase."
 unfoldable pub rule15 : Session → Bool
@@ -118,11 +129,17 @@ rule15 s = not (inBoot s)
 unfoldable pub rule16 : Session → Key → Bool
 rule16 s k = leb lockSpace (countedLocks s) && not (locked s k)
 
--- what a session says to a set of a name: whether the phase is runtime, whether the name is barred by rule 6, custom mode, the bytes kept back
+-- what a session says to a set of a name: whether the phase is runtime, whether the name is barred by rule 6, custom mode, the bytes kept back, and H
 unfoldable pub termsOf : Session → Key → Terms
-termsOf s k = record { runtime = atRuntime s; barred = rule6 s k; custom = customMode s; reserve = reserved s }
+termsOf s k = record {
+  runtime = atRuntime s;
+  barred = rule6 s k;
+  custom = customMode s;
+  reserve = reserved s;
+  records = s .setup .records;
+}
 
--- "Sets, deletes among them, meet 1 to 13": the image, the call itself, what stands, the result, room
+-- "Sets, deletes among them, meet 1 to 13", with 17 and 18 in their places: the image, the call itself, what stands, the result, room
 unfoldable pub imageRulesIn : Layout → List ℕ → List (Rule × Bool)
 imageRulesIn y img = (Length, rule1 img) ∷ (Unready, rule2In y img) ∷ []
 
@@ -134,6 +151,7 @@ requestRules t r =
     (Name, rule3 (requestKey r))
     ∷ (Attributes, rule4 (t .runtime) (r .attributes))
     ∷ (KeyAttributes, rule5 (requestKey r) (r .attributes))
+    ∷ (RecordName, rule17 (requestKey r) (r .attributes))
     ∷ (Locked, t .barred)
     ∷ []
 
@@ -161,7 +179,7 @@ itemRules t r vs =
 
 -- room for changes, in a region of so many bytes
 unfoldable pub roomRules : Terms → ℕ → List Change → List Value → List (Rule × Bool)
-roomRules t size cs vs = (Room, rule13 (t .reserve) size cs vs) ∷ []
+roomRules t size cs vs = (RecordSpace, rule18 t cs vs) ∷ (Room, rule13 t size cs vs) ∷ []
 
 unfoldable pub setBroken : Session → Request → List ℕ → Option Rule
 setBroken s r img =

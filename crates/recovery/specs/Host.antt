@@ -21,7 +21,7 @@ use Rattle.plan.specs.declared.HostPlan.{HostPlan}
 use Rattle.plan.specs.Told.{expandNumbers, Told}
 use Rattle.recovery.specs.Interface.{MoveReturned}
 
--- A start-up was planned over these bytes: the plan and the content tell what the definitions plan. Custom mode and R make its session and are no part of its plan.
+-- A start-up was planned over these bytes: the plan and the content tell what the definitions plan. Custom mode, R and H make its session and are no part of its plan.
 -- `vs_plan_start_up` of the C interface ensures it of its own arguments, for every image.
 abbrev pub StartUpPlanned : List ℕ → List ℕ → HostPlan → Type 0
 StartUpPlanned part content p = Told (startUpPlan part) content p
