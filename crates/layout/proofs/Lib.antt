@@ -5,3 +5,5 @@ pub mod Keys
 pub mod Bytes
 -- The name of an entry as a part of the bytes
 pub mod Named
+-- A record's name by its length and its bytes
+pub mod Records

@@ -1,13 +1,18 @@
-// The fixed byte strings of the format: vendor GUIDs, certificate GUID, key names, and the region's header.
+// The fixed byte strings of the format: vendor GUIDs, certificate GUID, key names, a record's name, and the region's header.
 ghost use mathlib.Core.Path.{_≡_};
 ghost use mathlib.Core.Bool.{_&&_, _||_};
-ghost use Prim.Native.Nat.{_%_};
+ghost use Prim.Native.Nat.{_+_, _≤_, _%_};
+ghost use lib.ListN.{length, take, drop};
 ghost use Rattle.model.specs.Lists.{same};
 ghost use Rattle.model.specs.Image.{regionHeader, regionHeaderIn};
 ghost use Rattle.model.specs.Region.{rightHeaderIn};
-ghost use Rattle.model.specs.Name.{keyed, sameKey};
+ghost use Rattle.model.specs.Name.{keyed, sameKey, recordVendor, recordFront, isDigit, digits, recordName};
 ghost use Rattle.model.specs.Request.{globalVendor, databaseVendor, certificate, keyPK, keyKEK, keydb, keydbx, keydbt, isDatabase, isKeyName};
+ghost use Rattle.layout.specs.Digits.{digitAt};
 use model::Layout;
+
+// The bytes of a record's name: eight characters, four digits and the zero character.
+const RECORD_NAME: usize = 26;
 
 pub fn global_vendor() -> [u8; 16]
     ensures { λ r. ⌜ r ≡ globalVendor ⌝ }
@@ -25,6 +30,19 @@ pub fn certificate() -> [u8; 16]
     ensures { λ r. ⌜ r ≡ certificate ⌝ }
 {
     *b"\x9D\xD2\xAF\x4A\xDF\x68\xEE\x49\x8A\xA9\x34\x7D\x37\x56\x65\xA7"
+}
+
+fn record_vendor() -> [u8; 16]
+    ensures { λ r. ⌜ r ≡ recordVendor ⌝ }
+{
+    *b"\xDD\x6B\x4E\x41\x7B\xE4\xCC\x47\xB2\x44\xBB\x61\x02\x0C\xF5\x16"
+}
+
+// The characters in front of a record's digits.
+fn record_front() -> [u8; 16]
+    ensures { λ r. ⌜ r ≡ recordFront ⌝ }
+{
+    *b"H\0w\0E\0r\0r\0R\0e\0c\0"
 }
 
 pub fn pk_name() -> [u8; 6]
@@ -180,4 +198,73 @@ pub fn is_key_name(name: &[u8], vendor: &[u8; 16]) -> bool
         return true;
     }
     is_database(name, vendor)
+}
+
+// Whether a byte is one of 0 to 9 and A to F.
+fn is_digit(c: u8) -> bool
+    ensures { λ r. ⌜ r ≡ isDigit c ⌝ }
+{
+    if c <= 0x39 {
+        return 0x30 <= c;
+    }
+    if c <= 0x46 {
+        return 0x41 <= c;
+    }
+    false
+}
+
+// Whether the character at an offset of a name is a digit.
+fn is_digit_at(name: &[u8], at: usize) -> bool
+    requires { ⌜ at + 2 ≤ length (now name) ⌝ }
+    ensures { λ r. ⌜ r ≡ digitAt (now (name .entry)) at ⌝ }
+{
+    if name[at + 1] == 0 {
+        return is_digit(name[at]);
+    }
+    false
+}
+
+// Whether four digits and the zero character stand behind a record's front.
+fn is_record_number(name: &[u8]) -> bool
+    requires { ⌜ length (now name) ≡ 26 ⌝ }
+    ensures { λ r. ⌜ r ≡ digits 4 (drop 16 (now (name .entry))) ⌝ }
+{
+    if is_digit_at(name, 16) {
+        if is_digit_at(name, 18) {
+            if is_digit_at(name, 20) {
+                if is_digit_at(name, 22) {
+                    if name[24] == 0 {
+                        return name[25] == 0;
+                    }
+                }
+            }
+        }
+    }
+    false
+}
+
+// Whether a name of this length is HwErrRec and four digits.
+fn is_record_form(name: &[u8]) -> bool
+    requires { ⌜ length (now name) ≡ 26 ⌝ }
+    ensures { λ r. ⌜ r ≡ (same (take 16 (now (name .entry))) recordFront && digits 4 (drop 16 (now (name .entry)))) ⌝ }
+{
+    let front = record_front();
+    if slices::equal(slices::cut(name, 0, 16), &front) {
+        return is_record_number(name);
+    }
+    false
+}
+
+// Whether a name and vendor are those of a hardware error record. Most names have another length, and cost no more.
+pub fn is_record_name(name: &[u8], vendor: &[u8]) -> bool
+    ensures { λ r. ⌜ r ≡ recordName (keyed (now (name .entry)) (now (vendor .entry))) ⌝ }
+{
+    if name.len() != RECORD_NAME {
+        return false;
+    }
+    if is_record_form(name) {
+        let of = record_vendor();
+        return slices::equal(vendor, &of);
+    }
+    false
 }

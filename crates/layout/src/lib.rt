@@ -6,6 +6,7 @@ ghost use Prim.Native.Nat.{_+_, _<_, _^_};
 ghost use lib.ListN.{getD};
 ghost use Rattle.model.specs.Lists.{u16At, u32At};
 ghost use Rattle.model.specs.Layout.{headerLength};
+ghost use Rattle.model.specs.Region.{recordBit};
 ghost use Rattle.model.specs.Entry.{headerSize, headerFields, headerFieldsIn, rounded};
 ghost use Rattle.layout.specs.Head.{headIn, nameIn, dataIn, mayBe, Unlike};
 use model::Layout;
@@ -113,6 +114,13 @@ pub fn entry_size(name: usize, size: usize) -> usize
     ensures { λ r. ⌜ r ≡ rounded (headerSize + name + size) ⌝ }
 {
     rounded(Layout::HEADER + name + size)
+}
+
+// Whether attributes are those of an error record.
+pub fn is_error_record(attributes: u32) -> bool
+    ensures { λ r. ⌜ r ≡ recordBit attributes ⌝ }
+{
+    attributes / 0x08 % 2 == 1
 }
 
 // The stamp of the entry at the front of `s`, in the form in which calls store.

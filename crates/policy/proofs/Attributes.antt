@@ -1,17 +1,18 @@
 -- A test that fails or holds leaves of a rule what the others say.
 -- Assumes nothing.
-use Prim.Native.Nat.{ℕ}
+use Prim.Native.Nat.{ℕ, _/_, _%_}
+use native.Mathlib.Omega.{arith}
 use mathlib.Core.Path.{_≡_, refl}
 use mathlib.Core.Logic.{_≢_}
 use mathlib.Core.Bool.{Bool, true, false, not, _&&_, _||_, and-true, and-false}
 use mathlib.Core.List.{[], _∷_}
 use lib.Dec.{eqb}
-use borrow.Author.Tests.{ne-eqb}
+use borrow.Author.Tests.{ne-eqb, eqb-true}
 use Rattle.model.specs.Lists.{among}
-use Rattle.model.specs.Name.{Key}
-use Rattle.model.specs.Region.{storedAttributes}
+use Rattle.model.specs.Name.{Key, recordName}
+use Rattle.model.specs.Region.{storedAttributes, recordBit}
 use Rattle.model.specs.Request.{runtimeAccess, timeBased, withoutAppend, isKeyName}
-use Rattle.model.specs.Rules.{rule4, rule5, unlikeStored}
+use Rattle.model.specs.Rules.{rule4, rule5, rule17, unlikeStored}
 
 pub rule4-exact : (runtime : Bool) (a : ℕ) → a ≡ 0x40 → rule4 runtime a ≡ true
 unfolding rule4
@@ -33,6 +34,22 @@ rule5-other k a h n = rw (ne-eqb a 0x27 h, ne-eqb a 0x67 n) (and-true (isKeyName
 pub rule5-suits : (k : Key) (a : ℕ) → among (0x27 ∷ 0x67 ∷ []) a ≡ true → rule5 k a ≡ false
 unfolding rule5
 rule5-suits k a h = rw h (and-false (isKeyName k))
+
+-- attributes with 0x08 are not 0
+pub rule17-record : (k : Key) (a : ℕ) → recordBit a ≡ true → rule17 k a ≡ not (recordName k)
+unfolding rule17
+rule17-record k a h =
+    let bit : a / 0x08 % 2 ≡ 1 = eqb-true (a / 0x08 % 2) 1 h in
+    let other : a ≢ 0 = λ e. omega arith in
+    rw (ne-eqb a 0 other, h)
+
+pub rule17-named : (k : Key) (a : ℕ) → recordBit a ≡ false → recordName k ≡ true → rule17 k a ≡ not (eqb a 0)
+unfolding rule17
+rule17-named k a h n = rw (h, n) (and-true (not (eqb a 0)))
+
+pub rule17-other : (k : Key) (a : ℕ) → recordBit a ≡ false → recordName k ≡ false → rule17 k a ≡ false
+unfolding rule17
+rule17-other k a h n = rw (h, n) (and-false (not (eqb a 0)))
 
 pub unlike-zero : (asked stored : ℕ) → asked ≡ 0 → unlikeStored asked stored ≡ timeBased stored
 unfolding unlikeStored

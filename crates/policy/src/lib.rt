@@ -9,7 +9,7 @@ ghost use Rattle.model.specs.Name.{keyed};
 ghost use Rattle.model.specs.Region.{storedAttributes};
 ghost use Rattle.model.specs.Request.{runtimeAccess, timeBased, appends, withoutAppend, rightDescriptor, later, keyVerdicts, properOf, inPerson, otherVerdicts};
 ghost use Rattle.model.specs.Change.{laterOf, deletes, emptyAppend, equalTo};
-ghost use Rattle.model.specs.Rules.{rule4, rule5, unlikeStored, rule7, rule8, rule9};
+ghost use Rattle.model.specs.Rules.{rule4, rule5, unlikeStored, rule7, rule8, rule9, rule17};
 ghost use Rattle.policy.specs.Descriptor.{noStamp, stampIn, stampOf, rightSize, rightKind};
 ghost use Rattle.policy.specs.Verdict.{verdictsOf};
 use layout::fixed;
@@ -59,6 +59,7 @@ fn is_known(attributes: u32) -> bool
         0x07 => true,
         0x23 => true,
         0x27 => true,
+        0x0F => true,
         _ => false,
     }
 }
@@ -92,6 +93,17 @@ pub fn key_attributes_broken(name: &[u8], vendor: &[u8; 16], attributes: u32) ->
         return false;
     }
     fixed::is_key_name(name, vendor)
+}
+
+// Rule 17: attributes other than 0 have 0x08 without a record's name and GUID, or lack it with both.
+pub fn record_broken(name: &[u8], vendor: &[u8; 16], attributes: u32) -> bool
+    ensures { λ r. ⌜ r ≡ rule17 (keyed (now (name .entry)) (now (vendor .entry))) attributes ⌝ }
+{
+    let named = fixed::is_record_name(name, vendor);
+    if layout::is_error_record(attributes) {
+        return !named;
+    }
+    if named { attributes != 0 } else { false }
 }
 
 // Whether attributes without 0x40 are neither 0 nor the stored ones, or are 0 over a stored 0x20.

@@ -2,12 +2,13 @@
 ghost use mathlib.Core.Path.{_≡_};
 ghost use mathlib.Core.Bool.{_&&_};
 ghost use lib.ListN.{length};
+ghost use lib.Dec.{eqb};
 ghost use Rattle.model.specs.Lists.{any, among};
 ghost use Rattle.model.specs.Name.{keyed};
 ghost use Rattle.model.specs.Entry.{states};
-ghost use Rattle.model.specs.Region.{entriesIn, storedAttributes, rightLive, isEntry, undoubled};
+ghost use Rattle.model.specs.Region.{entriesIn, rightLive, isEntry, undoubled};
 ghost use Rattle.region.specs.Walk.{entryAs};
-ghost use Rattle.region.specs.Judge.{liveState, entrySound, doubledIn, scanOf, judgedIn, judgedOf};
+ghost use Rattle.region.specs.Judge.{plainAttributes, liveState, rightName, entrySound, doubledIn, scanOf, judgedIn, judgedOf};
 ghost use Rattle.region.specs.Marks.{isNoted, upTo};
 use crate::Judged;
 use crate::Scan;
@@ -32,9 +33,9 @@ fn known_state(state: u8) -> bool
     }
 }
 
-// Whether attributes are among those that are stored.
-fn stored_attributes(attributes: u32) -> bool
-    ensures { λ r. ⌜ r ≡ among storedAttributes attributes ⌝ }
+// Whether attributes are among those that are stored, an error record's apart.
+fn plain_attributes(attributes: u32) -> bool
+    ensures { λ r. ⌜ r ≡ among plainAttributes attributes ⌝ }
 {
     match attributes {
         0x03 => true,
@@ -52,7 +53,30 @@ pub fn is_live(state: u8) -> bool
     if state == 0x3F { true } else { state == 0x3E }
 }
 
-// Whether the entry at the front of `s`, if it is live, has a well-formed name, data of a right size, and attributes that are stored.
+// Whether the entry at the front of `s` has a well-formed name, and with attribute 0x08 a record's.
+fn right_name(y: Layout, s: &[u8], e: Entry) -> bool
+    ensures { λ r. ⌜ r ≡ rightName (entryAs y (now (s .entry)) 0 e) ⌝ }
+{
+    if slices::is_named(layout::name_of(y, s, e)) {
+        if e.attributes / 0x08 % 2 == 1 {
+            return layout::fixed::is_record_name(layout::name_of(y, s, e), layout::vendor_of(y, s));
+        }
+        return true;
+    }
+    false
+}
+
+// Whether the entry at the front of `s` has the attributes and the name of an error record.
+fn right_record(y: Layout, s: &[u8], e: Entry) -> bool
+    ensures { λ r. ⌜ r ≡ (rightName (entryAs y (now (s .entry)) 0 e) && eqb (e .attributes) 0x0F) ⌝ }
+{
+    if e.attributes == 0x0F {
+        return right_name(y, s, e);
+    }
+    false
+}
+
+// Whether the entry at the front of `s`, if it is live, has a right name, data of a right size, and attributes that are stored.
 fn right_live(y: Layout, s: &[u8], e: Entry) -> bool
     ensures { λ r. ⌜ r ≡ rightLive (entryAs y (now (s .entry)) 0 e) ⌝ }
 {
@@ -63,10 +87,10 @@ fn right_live(y: Layout, s: &[u8], e: Entry) -> bool
         if layout::LARGEST_DATA < e.size {
             return false;
         }
-        if stored_attributes(e.attributes) {
+        if plain_attributes(e.attributes) {
             slices::is_named(layout::name_of(y, s, e))
         } else {
-            false
+            right_record(y, s, e)
         }
     } else {
         true

@@ -1,4 +1,4 @@
--- `policy::is_known` meets its contract: attributes are one of the five, or none of them. Assumes nothing.
+-- `policy::is_known` meets its contract: attributes are one of the six, or none of them. Assumes nothing.
 use borrow.Author.Tests.{ne-eqb}
 use Rattle.policy.proofs.is_known.Statement.{statement}
 use Rattle.policy.proofs.is_known.Tie as tie
@@ -19,7 +19,10 @@ returns-5 : tie.Need-returns-5
 returns-5 c = rw (c .match .keys5)
 
 returns-6 : tie.Need-returns-6
-returns-6 c =
+returns-6 c = rw (c .match .keys6)
+
+returns-7 : tie.Need-returns-7
+returns-7 c =
     let r = c .match .rest in
     simp (
       ne-eqb _ _ (r .1),
@@ -27,7 +30,8 @@ returns-6 c =
       ne-eqb _ _ (r .0 .0 .1),
       ne-eqb _ _ (r .0 .0 .0 .1),
       ne-eqb _ _ (r .0 .0 .0 .0 .1),
+      ne-eqb _ _ (r .0 .0 .0 .0 .0 .1),
     )
 
 pub is-known-spec : {M : Type 1} → statement M
-is-known-spec = tie.close (tie.spec returns returns-2 returns-3 returns-4 returns-5 returns-6)
+is-known-spec = tie.close (tie.spec returns returns-2 returns-3 returns-4 returns-5 returns-6 returns-7)

@@ -1,13 +1,11 @@
--- `region::judge::right_live` meets its contract: each test that fails decides, and where the others hold the name does.
+-- `region::judge::right_live` meets its contract: each test that fails decides, and where the others hold the name does, or an error record's attributes and name.
 -- Assumes nothing.
 use native.Mathlib.Omega.{arith}
 use mathlib.Core.Path.{sym, ap, _∙_}
-use mathlib.Core.Bool.{true, false, and-true, and-false}
 use denote.Ref.{now}
 use borrow.Author.Needs.{needs}
 use Rattle.model.specs.Name.{wellNamed}
-use Rattle.region.specs.Walk.{entryAs}
-use Rattle.region.proofs.Judging.{right-dead, right-empty, right-large, right-name, front-name}
+use Rattle.region.proofs.Judging.{right-dead, right-empty, right-large, right-plain, right-other, front-name}
 use Rattle.region.proofs.judge.right_live.Statement.{statement}
 use Rattle.region.proofs.judge.right_live.Tie as tie
 
@@ -26,8 +24,8 @@ returns-2 c =
     let live = sym (c .before .before .before .before .before .is-live .ensures) ∙ c .before .before .before .before .if1 .taken in
     sym (right-large (a .y) (now (a .s)) 0 (a .e) live (c .if3 .taken))
 
-stored-attributes-requires : tie.Need-stored-attributes-requires
-stored-attributes-requires c κs = search needs
+plain-attributes-requires : tie.Need-plain-attributes-requires
+plain-attributes-requires c κs = search needs
 
 name-of-requires : tie.Need-name-of-requires
 name-of-requires c κs = search needs
@@ -35,23 +33,24 @@ name-of-requires c κs = search needs
 is-named-requires : tie.Need-is-named-requires
 is-named-requires c κs = search needs
 
+right-record-requires : tie.Need-right-record-requires
+right-record-requires c κs = search needs
+
 returns-3 : tie.Need-returns-3
 returns-3 c =
     let a = c .before .before .before .before .before .before .before .before .before .before .before .args in
-    let name = entryAs (a .y) (now (a .s)) 0 (a .e) .name in
     let live = sym (c .before .before .before .before .before .before .before .before .before .is-live .ensures) ∙ c .before .before .before .before .before .before .before .before .if1 .taken in
-    let stored = sym (c .before .before .before .stored-attributes .ensures) ∙ c .before .before .if4 .taken in
+    let plain = sym (c .before .before .before .plain-attributes .ensures) ∙ c .before .before .if4 .taken in
     c .is-named .ensures
     ∙ ap wellNamed (c .before .name-of .ensures ∙ front-name (a .y) (now (a .s)) (a .e))
-    ∙ sym (right-name (a .y) (now (a .s)) 0 (a .e) live (omega arith) (omega arith) true stored ∙ and-true (wellNamed name))
+    ∙ sym (right-plain (a .y) (now (a .s)) 0 (a .e) live (omega arith) (omega arith) plain)
 
 returns-4 : tie.Need-returns-4
 returns-4 c =
-    let a = c .before .before .before .before .before .before .before .before .before .args in
-    let name = entryAs (a .y) (now (a .s)) 0 (a .e) .name in
-    let live = sym (c .before .before .before .before .before .before .before .is-live .ensures) ∙ c .before .before .before .before .before .before .if1 .taken in
-    let stored = sym (c .before .stored-attributes .ensures) ∙ c .if4 .left in
-    sym (right-name (a .y) (now (a .s)) 0 (a .e) live (omega arith) (omega arith) false stored ∙ and-false (wellNamed name))
+    let a = c .before .before .before .before .before .before .before .before .before .before .args in
+    let live = sym (c .before .before .before .before .before .before .before .before .is-live .ensures) ∙ c .before .before .before .before .before .before .before .if1 .taken in
+    let other = sym (c .before .before .plain-attributes .ensures) ∙ c .before .if4 .left in
+    c .right-record .ensures ∙ sym (right-other (a .y) (now (a .s)) 0 (a .e) live (omega arith) (omega arith) other)
 
 returns-5 : tie.Need-returns-5
 returns-5 c =
@@ -65,9 +64,10 @@ right-live-spec =
     is-live-requires
     returns
     returns-2
-    stored-attributes-requires
+    plain-attributes-requires
     name-of-requires
     is-named-requires
+    right-record-requires
     returns-3
     returns-4
     returns-5)

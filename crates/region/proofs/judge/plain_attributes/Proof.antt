@@ -1,8 +1,8 @@
--- `region::judge::stored_attributes` meets its contract: attributes are one of the four, or none of them.
+-- `region::judge::plain_attributes` meets its contract: attributes are one of the four, or none of them.
 -- Assumes nothing.
 use borrow.Author.Tests.{ne-eqb}
-use Rattle.region.proofs.judge.stored_attributes.Statement.{statement}
-use Rattle.region.proofs.judge.stored_attributes.Tie as tie
+use Rattle.region.proofs.judge.plain_attributes.Statement.{statement}
+use Rattle.region.proofs.judge.plain_attributes.Tie as tie
 
 returns : tie.Need-returns
 returns c = rw (c .match .keys1)
@@ -26,5 +26,5 @@ returns-5 c =
       ne-eqb _ _ (r .0 .0 .0 .1),
     )
 
-pub stored-attributes-spec : {M : Type 1} → statement M
-stored-attributes-spec = tie.close (tie.spec returns returns-2 returns-3 returns-4 returns-5)
+pub plain-attributes-spec : {M : Type 1} → statement M
+plain-attributes-spec = tie.close (tie.spec returns returns-2 returns-3 returns-4 returns-5)
