@@ -1,7 +1,7 @@
--- The decision by the parts in which it is judged. Rules 3 to 6 look at no more of a request than its name and attributes; rules 7 to 10 look at the
+-- The decision by the parts in which it is judged. Rules 3 to 5, 17 and 6 look at no more of a request than its name and attributes; rules 7 to 10 look at the
 -- value that stands by its entry, and at the stamp only where rule 8 is kept; the rest goes by what the set asks for, and by room last.
 -- Assumes nothing.
-use Prim.Native.Nat.{ℕ, _+_, _≤_}
+use Prim.Native.Nat.{ℕ, _+_, _-_, _≤_}
 use native.Mathlib.Omega.{arith}
 use mathlib.Core.Path.{_≡_, refl, sym, ap, ap₂, _∙_}
 use mathlib.Core.Bool.{Bool, true, false, not, cond, _&&_, _||_}
@@ -9,20 +9,19 @@ use mathlib.Core.List.{List, [], _∷_, _++_}
 use mathlib.Core.Option.{Option, none, some}
 use lib.ListN.{length, length-append}
 use lib.Dec.{ltb}
-use borrow.Author.Tests.{ltb-false}
 use Rattle.model.specs.Layout.{authenticated}
 use Rattle.model.specs.declared.Terms.{Terms}
 use Rattle.model.specs.declared.Rule.{Rule}
-use Rattle.model.specs.declared.Rule.the-variants.{Standing, Descriptor, Verdict, Stamp, Absent, DataSize, Room}
-use Rattle.model.specs.Lists.{isEmpty, isSome, onSome, orElse}
+use Rattle.model.specs.declared.Rule.the-variants.{Standing, Descriptor, Verdict, Stamp, Absent, DataSize}
+use Rattle.model.specs.Lists.{keep, isEmpty, isSome, onSome, orElse}
 use Rattle.model.specs.Name.{Key}
 use Rattle.model.specs.Entry.{Value, headerSize, rounded, entrySize}
 use Rattle.model.specs.Walk as walk
-use Rattle.model.specs.Region.{maxData, sound, entries, values, standing, find}
+use Rattle.model.specs.Region.{maxData, recordBit, sound, entries, values, standing, find}
 use Rattle.model.specs.Request.{Request, requestKey, appends, keyPK, userMode, wantedVerdicts, dataProper, stampToStore, later}
-use Rattle.model.specs.Change.{Change, nothing, remove, put, deletes, emptyAppend, equalTo, newData, newValue, changeOf, changeIn, step, steps, spaceOf}
-use Rattle.model.specs.Rules.{firstBroken, rule7, rule8, rule9, rule10, rule11, rule12, rule13, wantedOf, requestRules, standingRules, resultRules, itemRules, roomRules}
-use Rattle.model.proofs.Requests.{broken-append, unbroken}
+use Rattle.model.specs.Change.{Change, nothing, remove, put, deletes, emptyAppend, equalTo, newData, newValue, changeOf, changeIn, step, steps, entrySizes, isErrorRecord, recordSizes, otherSizes}
+use Rattle.model.specs.Rules.{firstBroken, rule7, rule8, rule9, rule10, rule11, rule12, rule13, rule18, wantedOf, requestRules, standingRules, resultRules, itemRules, roomRules}
+use Rattle.model.proofs.Requests.{broken-append, unbroken, record-append}
 use Rattle.model.proofs.Chunks.{sound-parts}
 use Rattle.model.proofs.Encode as encode
 use Rattle.region.specs.Walk.{entryAt, stampAt, entryAs}
@@ -34,12 +33,12 @@ use Rattle.policy.proofs.Descriptor.{stamp-right}
 use Rattle.decision.specs.declared.Decision.{Decision}
 use Rattle.decision.specs.declared.Decision.the-variants.{Broken, Nothing, Remove, Put}
 use Rattle.decision.specs.Decision.{requestOf, kindOf, decided, itemOf, decisionOf}
-use Rattle.decision.specs.Parts.{onFound, valueAt, stands, standingBy, notLater, verdictBy, equalBy, kindBy, newSize, oldSpace, roomBy, resultBy, outcomeBy, roomedBy}
+use Rattle.decision.specs.Parts.{onFound, valueAt, stands, standingBy, notLater, verdictBy, equalBy, kindBy, newSize, oldRecords, oldOthers, recordsAfter, othersAfter, roomBy, roomAfter, resultBy, outcomeBy, roomedBy}
 use Rattle.decision.proofs.Broken.{later-broken}
 use Rattle.decision.proofs.Old.{stands-some, old-value, mode-standing, stamp-read}
-use Rattle.decision.proofs.Space.{sizeOf, put-space, room-shift}
+use Rattle.decision.proofs.Space.{sizeIf, sizeOf, old-counts, put-sizes, all-sizes}
 
--- rules 3 to 6
+-- rules 3 to 5, 17 and 6
 pub request-fields : (t : Terms) (q : Request) → requestRules t q ≡ requestRules t (requestOf (q .name) (q .vendor) (q .attributes) [] 0 0)
 unfolding requestRules
 request-fields t q = refl
@@ -78,10 +77,20 @@ unfolding notLater stampAt entryAs walk.placed
 stamp-numbers r q k (found.At at e) h = ap₂ (λ (a b : List ℕ). not (later a b)) (stamp-right q k) (sym (stamp-read r (requestKey q) at e h))
 stamp-numbers r q k found.Nothing h = refl
 
-space-numbers : (r : List ℕ) (old : Found) → sizeOf (valueAt r old) ≡ oldSpace r old
-unfolding oldSpace
-space-numbers r (found.At at e) = refl
-space-numbers r found.Nothing = refl
+-- and of its size, by its class
+records-numbers : (r : List ℕ) (old : Found) → sizeOf isErrorRecord (valueAt r old) ≡ oldRecords r old
+unfolding oldRecords entryAs walk.placed
+records-numbers r (found.At at e) = refl
+records-numbers r found.Nothing = refl
+
+others-numbers : (r : List ℕ) (old : Found) → sizeOf (λ v. not (isErrorRecord v)) (valueAt r old) ≡ oldOthers r old
+unfolding oldOthers entryAs walk.placed
+others-numbers r (found.At at e) = go (recordBit (e .attributes))
+  where
+    go : (t : Bool) → cond (not t) (entrySize (walk.entryValue (entryAt r at e))) 0 ≡ cond t 0 (entrySize (walk.entryValue (entryAt r at e)))
+    go true = refl
+    go false = refl
+others-numbers r found.Nothing = refl
 
 -- what a change comes to: a delete by whether the value is there, a value to put by its size
 outcome-cases : (d n : Bool) (k : Key) (v : Value) (old : Option Value)
@@ -107,18 +116,23 @@ decided-else (some rule) b d = refl
 decided-else none b d = refl
 
 -- room is asked last, of a value to put
-room-cases : (o : Option Rule) (c : Change) (full : Bool) (vs : List Value) (size reserve : ℕ)
-    → ((v : Value) → c ≡ put v → full ≡ ltb size (spaceOf (step (put v) vs) + reserve))
-    → decided (orElse o (firstBroken ((Room, rule13 reserve size (c ∷ []) vs) ∷ []))) (kindOf c) ≡ roomedBy (decided o (kindOf c)) full
-unfolding firstBroken rule13 steps roomedBy
-room-cases (some rule) c full vs size reserve h = refl
-room-cases none nothing full vs size reserve h = refl
-room-cases none (remove k) full vs size reserve h = refl
-room-cases none (put v) full vs size reserve h = rw (h v refl) (go (ltb size (spaceOf (step (put v) vs) + reserve)))
+room-rules : (t : Terms) (size : ℕ) (v : Value) (vs : List Value)
+    → roomRules t size (put v ∷ []) vs ≡ roomBy t size (isErrorRecord v) (recordSizes (step (put v) vs)) (otherSizes (step (put v) vs))
+unfolding roomRules rule18 rule13 steps roomBy
+room-rules t size v vs = rw (all-sizes (step (put v) vs), or-none (isErrorRecord v), or-none (not (isErrorRecord v)))
   where
-    go : (b : Bool) → decided (cond b (some Room) none) Put ≡ cond b (Broken Room) Put
-    go true = refl
-    go false = refl
+    or-none : (b : Bool) → (b || false) ≡ b
+    or-none true = refl
+    or-none false = refl
+
+room-cases : (o : Option Rule) (c : Change) (full : Option Rule) (t : Terms) (size : ℕ) (vs : List Value)
+    → ((v : Value) → c ≡ put v → firstBroken (roomRules t size (put v ∷ []) vs) ≡ full)
+    → decided (orElse o (firstBroken (roomRules t size (c ∷ []) vs))) (kindOf c) ≡ roomedBy (decided o (kindOf c)) full
+unfolding firstBroken roomRules rule18 rule13 steps roomedBy
+room-cases (some rule) c full t size vs h = refl
+room-cases none nothing full t size vs h = refl
+room-cases none (remove k) full t size vs h = refl
+room-cases none (put v) full t size vs h = ap (λ (x : Option Rule). onSome x (λ rule. Broken rule) Put) (h v refl)
 
 module _ (t : Terms) (q : Request) (r : List ℕ) (sounds : sound r ≡ true) (old : Found) (h : old ≡ foundOf (standing (requestKey q) (entries r))) where
   abbrev vs : List Value
@@ -183,7 +197,7 @@ module _ (t : Terms) (q : Request) (r : List ℕ) (sounds : sound r ≡ true) (o
       (ap (λ (x : Option Value). onSome x (λ v. equalTo a (dataProper q) (v .attributes) (v .bytes)) false) (sym value) ∙ equal-numbers r q old)
       ∙ ap (resultBy (stands old) (kindBy r old a (dataProper q))) (sym new-size)
 
-  -- rules 3 to 12, and the change
+  -- rules 3 to 12 and 17, and the change
   item-here : itemOf t q vs
       ≡ decided (firstBroken (requestRules t q)) (decided (firstBroken parts) (outcomeBy r old (q .attributes) (dataProper q)))
   unfolding itemOf itemRules
@@ -211,21 +225,55 @@ module _ (t : Terms) (q : Request) (r : List ℕ) (sounds : sound r ≡ true) (o
 
   -- ---- room
 
-  new-space : spaceOf (step (put new) vs) + oldSpace r old ≡ spaceOf vs + entrySize new
+  distinct : encode.Distinct vs
+  distinct = encode.values-distinct (entries r) (encode.sound-parts (length r) (entries r) (sound-parts authenticated r sounds .1) .single)
+
+  -- the old value counts among the values
+  pub old-records : oldRecords r old ≤ recordSizes vs
+  unfolding recordSizes
+  old-records = rw (sym (ap (sizeOf isErrorRecord) (sym value) ∙ records-numbers r old)) (old-counts isErrorRecord (requestKey q) vs distinct)
+
+  pub old-others : oldOthers r old ≤ otherSizes vs
+  unfolding otherSizes
+  old-others =
+      rw (sym (ap (sizeOf (λ v. not (isErrorRecord v))) (sym value) ∙ others-numbers r old)) (old-counts (λ v. not (isErrorRecord v)) (requestKey q) vs distinct)
+
+  -- the size of the entry to write, and its class
+  abbrev size : ℕ
+  size = rounded (headerSize + length (q .name) + newSize r old (q .attributes) (length (dataProper q)))
+
+  new-entry : size ≡ entrySize new
   unfolding newValue
-  new-space =
-      let d = encode.values-distinct (entries r) (encode.sound-parts (length r) (entries r) (sound-parts authenticated r sounds .1) .single) in
-      ap (λ (n : ℕ). spaceOf (step (put new) vs) + n) (sym (ap sizeOf (sym value) ∙ space-numbers r old)) ∙ put-space new vs d
+  new-entry = ap (λ (n : ℕ). rounded (headerSize + length (q .name) + n)) new-size
 
-  -- the space for the new value, and the bytes kept back
-  abbrev need : ℕ
-  need = rounded (headerSize + length (q .name) + newSize r old (q .attributes) (length (dataProper q))) + t .reserve
+  new-class : recordBit (q .attributes) ≡ isErrorRecord new
+  unfolding newValue
+  new-class = sym (record-append (q .attributes))
 
-  room-here : roomBy r old need ≡ ltb (length r) (spaceOf (step (put new) vs) + t .reserve)
-  unfolding roomBy newValue
+  records-here : recordsAfter r old (recordBit (q .attributes)) size ≡ recordSizes (step (put new) vs)
+  unfolding recordsAfter recordSizes newValue
+  records-here =
+      let freed : sizeOf isErrorRecord (find (requestKey q) vs) ≡ oldRecords r old = ap (sizeOf isErrorRecord) (sym value) ∙ records-numbers r old in
+      rw (new-class, new-entry, sym freed) (sym (put-sizes isErrorRecord new vs distinct))
+
+  others-here : othersAfter r old (recordBit (q .attributes)) size ≡ otherSizes (step (put new) vs)
+  unfolding othersAfter otherSizes newValue
+  others-here =
+      let freed : sizeOf (λ v. not (isErrorRecord v)) (find (requestKey q) vs) ≡ oldOthers r old = ap (sizeOf (λ v. not (isErrorRecord v))) (sym value) ∙ others-numbers r old in
+      rw (new-class, new-entry, sym freed) (turned (isErrorRecord new) ∙ sym (put-sizes (λ v. not (isErrorRecord v)) new vs distinct))
+    where
+      turned : (b : Bool) → entrySizes (keep (λ v. not (isErrorRecord v)) vs) - sizeOf (λ v. not (isErrorRecord v)) (find (requestKey q) vs) + cond b 0 (entrySize new)
+          ≡ entrySizes (keep (λ v. not (isErrorRecord v)) vs) - sizeOf (λ v. not (isErrorRecord v)) (find (requestKey q) vs) + cond (not b) (entrySize new) 0
+      turned true = refl
+      turned false = refl
+
+  room-here : firstBroken (roomAfter t r old (recordBit (q .attributes)) size) ≡ firstBroken (roomRules t (length r) (put new ∷ []) vs)
+  unfolding roomAfter
   room-here =
-      ap (λ (n : ℕ). ltb (length r + oldSpace r old) (spaceOf vs + (rounded (headerSize + length (q .name) + n) + t .reserve))) new-size
-      ∙ sym (room-shift (length r) (oldSpace r old) (spaceOf vs) (entrySize new) (t .reserve) (spaceOf (step (put new) vs)) new-space)
+      ap firstBroken
+      (ap₂ (λ (x y : ℕ). roomBy t (length r) (recordBit (q .attributes)) x y) records-here others-here
+      ∙ ap (λ (b : Bool). roomBy t (length r) b (recordSizes (step (put new) vs)) (otherSizes (step (put new) vs))) new-class
+      ∙ sym (room-rules t (length r) new vs))
 
   -- a change that puts, puts the new value
   puts-new : (v : Value) → changeIn q vs ≡ put v → v ≡ new
@@ -239,9 +287,9 @@ module _ (t : Terms) (q : Request) (r : List ℕ) (sounds : sound r ≡ true) (o
       go false true e = let z : _≡_ {A = ℕ} 0 1 = cc in absurd (omega arith)
       go false false e = cc
 
-  pub decision-here : decisionOf t q (length r) vs ≡ roomedBy (itemOf t q vs) (roomBy r old need)
-  unfolding decisionOf itemOf roomRules
+  pub decision-here : decisionOf t q (length r) vs ≡ roomedBy (itemOf t q vs) (firstBroken (roomAfter t r old (recordBit (q .attributes)) size))
+  unfolding decisionOf itemOf
   decision-here =
       ap (λ (o : Option Rule). decided o (kindOf (changeIn q vs))) (broken-append (itemRules t q vs) (roomRules t (length r) (changeIn q vs ∷ []) vs))
-      ∙ room-cases (firstBroken (itemRules t q vs)) (changeIn q vs) (roomBy r old need) vs (length r) (t .reserve)
-      (λ v e. room-here ∙ ap (λ (w : Value). ltb (length r) (spaceOf (step (put w) vs) + t .reserve)) (sym (puts-new v e)))
+      ∙ room-cases (firstBroken (itemRules t q vs)) (changeIn q vs) (firstBroken (roomAfter t r old (recordBit (q .attributes)) size)) t (length r) vs
+      (λ v e. ap (λ (w : Value). firstBroken (roomRules t (length r) (put w ∷ []) vs)) (puts-new v e) ∙ sym room-here)

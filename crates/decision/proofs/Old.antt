@@ -1,8 +1,7 @@
 -- In a sound region the value that a name has is that of the entry found, the 3F entry, else the 3E entry; and its entry has a whole header, so a whole
 -- stamp.
 -- Assumes nothing.
-use Prim.Native.Nat.{ℕ, _+_, _≤_}
-use native.Mathlib.Omega.{arith}
+use Prim.Native.Nat.{ℕ}
 use mathlib.Core.Path.{_≡_, refl, sym, ap, _∙_}
 use mathlib.Core.Bool.{true}
 use mathlib.Core.List.{List}
@@ -22,11 +21,10 @@ use Rattle.region.specs.Walk.{stampAt}
 use Rattle.values.specs.Found.{foundOf}
 use Rattle.values.specs.declared.Found.{Found}
 use Rattle.values.specs.declared.Found.the-variants.{At, Nothing}
-use Rattle.values.proofs.Sizes.{lengths}
 use Rattle.values.proofs.Stands.{standing-stands, nothing-first}
 use Rattle.policy.specs.Descriptor.{stampIn}
 use Rattle.policy.proofs.Descriptor.{stamp-held}
-use Rattle.decision.specs.Parts.{valueAt, stands, oldSpace}
+use Rattle.decision.specs.Parts.{valueAt, stands}
 
 pub stands-some : (r : List ℕ) (old : Found) → stands old ≡ isSome (valueAt r old)
 stands-some r (At at e) = refl
@@ -61,9 +59,3 @@ module _ (r : List ℕ) (sounds : sound r ≡ true) where
 pub stamp-read : (r : List ℕ) (k : Key) (at : ℕ) (e : numbers.Entry) → At at e ≡ foundOf (standing k (entries r)) → stampIn (stampAt r at) ≡ stampAt r at
 unfolding stampAt headerFieldsIn
 stamp-read r k at e h = stamp-held r at (standing-stands authenticated r k at e (sym h) .fits)
-
--- an entry takes no more than the region and its header
-pub old-least : (r : List ℕ) (old : Found) → oldSpace r old ≤ length r + 63
-unfolding oldSpace
-old-least r (At at e) = let l = lengths authenticated r at e in omega arith
-old-least r Nothing = omega arith

@@ -1,65 +1,85 @@
--- No name stands twice among the values of a sound region: so what is dropped with the old value is its size alone, and the space after a change is the
--- space before it without the old value's and with the new one's.
+-- No name stands twice among the values of a sound region: so what is dropped with the old value is its size alone, and the sizes of a class after a change are
+-- those before it without the old value's and with the new one's, as far as these are of the class. All values are the error records and the others.
 -- Assumes nothing.
-use Prim.Native.Nat.{ℕ, _+_, _-_, _<_, _≤_}
+use Prim.Native.Nat.{ℕ, _+_, _-_, _≤_}
 use native.Mathlib.Omega.{arith}
 use mathlib.Core.Path.{_≡_, refl, sym, ap, _∙_}
 use mathlib.Core.Bool.{Bool, true, false, not, cond}
 use mathlib.Core.List.{List, [], _∷_, _++_}
 use mathlib.Core.Option.{Option, some}
-use lib.Dec.{ltb}
-use borrow.Author.Tests.{lt-ltb, ltb-true}
 use Rattle.model.specs.Lists.{any, keep, first, onSome}
 use Rattle.model.specs.Name.{Key, sameKey}
 use Rattle.model.specs.Entry.{Value, keyOf, entrySize}
 use Rattle.model.specs.Region.{find}
-use Rattle.model.specs.Change.{put, without, step, entrySizes, spaceOf, entrySizesIn, spaceIn}
-use Rattle.model.proofs.Tests.{or-split, both-ways, key-eq}
+use Rattle.model.specs.Image.{regionHeaderSize}
+use Rattle.model.specs.Change.{put, without, step, entrySizes, spaceOf, entrySizesIn, spaceIn, isErrorRecord, recordSizes, otherSizes}
+use Rattle.model.proofs.Tests.{or-split, key-eq}
 use Rattle.model.proofs.Encode.{Distinct}
 
--- the size that a value takes, if there is one
-abbrev pub sizeOf : Option Value → ℕ
-sizeOf o = onSome o (λ v. entrySize v) 0
+-- the size of a value of a class
+abbrev pub sizeIf : (Value → Bool) → Value → ℕ
+sizeIf p v = cond (p v) (entrySize v) 0
 
-sizes-last : (ws : List Value) (v : Value) → entrySizes (ws ++ (v ∷ [])) ≡ entrySizes ws + entrySize v
-unfolding entrySizesIn
-sizes-last [] v = omega arith
-sizes-last (w ∷ ws) v = omega (arith, sizes-last ws v)
+-- the same of a value, if there is one
+abbrev pub sizeOf : (Value → Bool) → Option Value → ℕ
+sizeOf p o = onSome o (sizeIf p) 0
 
-keep-whole : (f : Value → Bool) (vs : List Value) → any f vs ≡ false → keep (λ v. not (f v)) vs ≡ vs
-keep-whole f [] h = refl
-keep-whole f (v ∷ vs) h =
-    let p = or-split (f v) (any f vs) h in
-    rw (p .0) (ap (λ (l : List Value). v ∷ l) (keep-whole f vs (p .1)))
+-- the sizes of the values of a class
+abbrev pub sizes : (Value → Bool) → List Value → ℕ
+sizes p vs = entrySizes (keep p vs)
 
-without-sizes : (k : Key) (vs : List Value) → Distinct vs → entrySizes (without k vs) + sizeOf (find k vs) ≡ entrySizes vs
-unfolding without find entrySizesIn
-without-sizes k [] d = refl
-without-sizes k (v ∷ vs) d = go (sameKey (keyOf v) k) refl (without-sizes k vs (d .1))
+module _ (p : Value → Bool) where
+  sizes-cons : (v : Value) (vs : List Value) → sizes p (v ∷ vs) ≡ sizeIf p v + sizes p vs
+  unfolding entrySizesIn
+  sizes-cons v vs = go (p v)
+    where
+      go : (t : Bool) → entrySizes (cond t (v ∷ keep p vs) (keep p vs)) ≡ cond t (entrySize v) 0 + entrySizes (keep p vs)
+      go true = refl
+      go false = omega arith
+
+  sizes-last : (ws : List Value) (v : Value) → sizes p (ws ++ (v ∷ [])) ≡ sizes p ws + sizeIf p v
+  unfolding entrySizesIn
+  sizes-last [] v = omega (arith, sizes-cons v [])
+  sizes-last (w ∷ ws) v = omega (arith, sizes-last ws v, sizes-cons w ws, sizes-cons w (ws ++ (v ∷ [])))
+
+  keep-whole : (f : Value → Bool) (vs : List Value) → any f vs ≡ false → keep (λ v. not (f v)) vs ≡ vs
+  keep-whole f [] h = refl
+  keep-whole f (v ∷ vs) h =
+      let o = or-split (f v) (any f vs) h in
+      rw (o .0) (ap (λ (l : List Value). v ∷ l) (keep-whole f vs (o .1)))
+
+  without-sizes : (k : Key) (vs : List Value) → Distinct vs → sizes p (without k vs) + sizeOf p (find k vs) ≡ sizes p vs
+  unfolding without find entrySizesIn
+  without-sizes k [] d = refl
+  without-sizes k (v ∷ vs) d = go (sameKey (keyOf v) k) refl (without-sizes k vs (d .1))
+    where
+      go : (t : Bool) → sameKey (keyOf v) k ≡ t
+          → sizes p (keep (λ w. not (sameKey (keyOf w) k)) vs) + sizeOf p (first (λ w. sameKey (keyOf w) k) vs) ≡ sizes p vs
+          → sizes p (cond (not t) (v ∷ keep (λ w. not (sameKey (keyOf w) k)) vs) (keep (λ w. not (sameKey (keyOf w) k)) vs))
+          + sizeOf p (cond t (some v) (first (λ w. sameKey (keyOf w) k) vs)) ≡ sizes p (v ∷ vs)
+      go true h i =
+          let alone : any (λ w. sameKey (keyOf w) k) vs ≡ false = ap (λ (j : Key). any (λ w. sameKey (keyOf w) j) vs) (sym (key-eq (keyOf v) k h)) ∙ d .0 in
+          rw (keep-whole (λ w. sameKey (keyOf w) k) vs alone) (omega (arith, sizes-cons v vs))
+      go false h i = omega (arith, sizes-cons v vs, sizes-cons v (keep (λ w. not (sameKey (keyOf w) k)) vs))
+
+  -- the old value counts
+  pub old-counts : (k : Key) (vs : List Value) → Distinct vs → sizeOf p (find k vs) ≤ sizes p vs
+  old-counts k vs d = omega (arith, without-sizes k vs d)
+
+  pub put-sizes : (v : Value) (vs : List Value) → Distinct vs → sizes p (step (put v) vs) ≡ sizes p vs - sizeOf p (find (keyOf v) vs) + sizeIf p v
+  unfolding step
+  put-sizes v vs d = omega (arith, sizes-last (without (keyOf v) vs) v, without-sizes (keyOf v) vs d)
+
+-- all values are the records and the others
+pub all-sizes : (vs : List Value) → spaceOf vs ≡ regionHeaderSize + recordSizes vs + otherSizes vs
+unfolding spaceIn recordSizes otherSizes entrySizesIn
+all-sizes vs = omega (arith, go vs)
   where
-    go : (t : Bool) → sameKey (keyOf v) k ≡ t
-        → entrySizes (keep (λ w. not (sameKey (keyOf w) k)) vs) + sizeOf (first (λ w. sameKey (keyOf w) k) vs) ≡ entrySizes vs
-        → entrySizes (cond (not t) (v ∷ keep (λ w. not (sameKey (keyOf w) k)) vs) (keep (λ w. not (sameKey (keyOf w) k)) vs))
-        + sizeOf (cond t (some v) (first (λ w. sameKey (keyOf w) k) vs)) ≡ entrySize v + entrySizes vs
-    go true h i =
-        let alone : any (λ w. sameKey (keyOf w) k) vs ≡ false = ap (λ (j : Key). any (λ w. sameKey (keyOf w) j) vs) (sym (key-eq (keyOf v) k h)) ∙ d .0 in
-        rw (keep-whole (λ w. sameKey (keyOf w) k) vs alone) (omega arith)
-    go false h i = omega arith
+    one : (t : Bool) (n : ℕ) → n ≡ cond t n 0 + cond (not t) n 0
+    one true n = omega arith
+    one false n = omega arith
 
-pub put-space : (v : Value) (vs : List Value) → Distinct vs → spaceOf (step (put v) vs) + sizeOf (find (keyOf v) vs) ≡ spaceOf vs + entrySize v
-unfolding spaceIn step
-put-space v vs d = omega (arith, sizes-last (without (keyOf v) vs) v, without-sizes (keyOf v) vs d)
-
--- tests of sums that differ alike
-ltb-same : (a b x y : ℕ) → (a < b → x < y) → (x < y → a < b) → ltb a b ≡ ltb x y
-ltb-same a b x y f g = both-ways (ltb a b) (ltb x y) (λ h. lt-ltb x y (f (ltb-true a b h))) (λ h. lt-ltb a b (g (ltb-true x y h)))
-
--- the old value's space counts as free
-pub room-shift : (size old space entry reserve after : ℕ) → after + old ≡ space + entry
-    → ltb size (after + reserve) ≡ ltb (size + old) (space + (entry + reserve))
-room-shift size old space entry reserve after h =
-    ltb-same size (after + reserve) (size + old) (space + (entry + reserve)) (λ l. omega arith) (λ l. omega arith)
-
--- what is free, and what is needed of it
-pub room-left : (free need space : ℕ) → need ≤ free → ltb (free - need) space ≡ ltb free (space + need)
-room-left free need space h = ltb-same (free - need) space free (space + need) (λ l. omega arith) (λ l. omega arith)
+    go : (vs : List Value) → entrySizes vs ≡ sizes isErrorRecord vs + sizes (λ v. not (isErrorRecord v)) vs
+    go [] = refl
+    go (v ∷ vs) =
+        omega (arith, go vs, one (isErrorRecord v) (entrySize v), sizes-cons isErrorRecord v vs, sizes-cons (λ w. not (isErrorRecord w)) v vs)

@@ -1,18 +1,20 @@
 -- The parts in which a set is judged, by what each looks at: the value that stands is known by its entry's offset and numbers.
-use Prim.Native.Nat.{ℕ, _+_}
+use Prim.Native.Nat.{ℕ, _+_, _-_}
 use mathlib.Core.Bool.{Bool, true, false, not, cond, _&&_, _||_}
 use mathlib.Core.List.{List, [], _∷_}
 use mathlib.Core.Option.{Option, none, some}
 use lib.ListN.{length}
 use lib.Dec.{ltb}
 use Rattle.model.specs.declared.Rule.{Rule}
-use Rattle.model.specs.declared.Rule.the-variants.{Standing, Descriptor, Verdict, Stamp, Absent, DataSize, Room}
-use Rattle.model.specs.Lists.{isEmpty}
+use Rattle.model.specs.declared.Terms.{Terms}
+use Rattle.model.specs.declared.Rule.the-variants.{Standing, Descriptor, Verdict, Stamp, Absent, DataSize, Room, RecordSpace}
+use Rattle.model.specs.Lists.{isEmpty, onSome}
+use Rattle.model.specs.Image.{regionHeaderSize}
 use Rattle.model.specs.Entry.{Value, entrySize}
 use Rattle.model.specs.Walk.{entryValue}
-use Rattle.model.specs.Region.{maxData, entries, values}
+use Rattle.model.specs.Region.{maxData, recordBit, entries, values}
 use Rattle.model.specs.Request.{appends, later}
-use Rattle.model.specs.Change.{spaceOf, deletes, emptyAppend, equalTo}
+use Rattle.model.specs.Change.{deletes, emptyAppend, equalTo, recordSizes, otherSizes}
 use Rattle.model.specs.Rules.{rule7, rule8, rule9}
 use Rattle.layout.specs.declared.Entry as numbers
 use Rattle.region.specs.Walk.{entryAt, stampAt}
@@ -71,13 +73,29 @@ kindBy r old a proper =
 unfoldable pub newSize : List ℕ → Found → ℕ → ℕ → ℕ
 newSize r old a size = cond (appends a) (onFound old (λ at e. length (entryAt r at e .bytes)) 0 + size) size
 
--- the space that the value that stands takes
-unfoldable pub oldSpace : List ℕ → Found → ℕ
-oldSpace r old = onFound old (λ at e. entrySize (entryValue (entryAt r at e))) 0
+-- the size that the value that stands takes, where it is an error record, and where it is not
+unfoldable pub oldRecords : List ℕ → Found → ℕ
+oldRecords r old = onFound old (λ at e. cond (recordBit (e .attributes)) (entrySize (entryValue (entryAt r at e))) 0) 0
 
--- the region, and in it the space that the old value leaves, is smaller than all values and what is needed beside them
-unfoldable pub roomBy : List ℕ → Found → ℕ → Bool
-roomBy r old need = ltb (length r + oldSpace r old) (spaceOf (values (entries r)) + need)
+unfoldable pub oldOthers : List ℕ → Found → ℕ
+oldOthers r old = onFound old (λ at e. cond (recordBit (e .attributes)) 0 (entrySize (entryValue (entryAt r at e)))) 0
+
+-- the sizes of the records and of the other values after a value of a class and size has come in the place of the old one
+unfoldable pub recordsAfter : List ℕ → Found → Bool → ℕ → ℕ
+recordsAfter r old error size = recordSizes (values (entries r)) - oldRecords r old + cond error size 0
+
+unfoldable pub othersAfter : List ℕ → Found → Bool → ℕ → ℕ
+othersAfter r old error size = otherSizes (values (entries r)) - oldOthers r old + cond error 0 size
+
+-- rules 18 and 13 by the sums after a set, in a region of so many bytes
+unfoldable pub roomBy : Terms → ℕ → Bool → ℕ → ℕ → List (Rule × Bool)
+roomBy t size error records others =
+    (RecordSpace, error && ltb (t .records) records)
+    ∷ (Room, (not error && ltb size (regionHeaderSize + others + t .records + t .reserve)) || ltb size (regionHeaderSize + records + others))
+    ∷ []
+
+unfoldable pub roomAfter : Terms → List ℕ → Found → Bool → ℕ → List (Rule × Bool)
+roomAfter t r old error size = roomBy t (length r) error (recordsAfter r old error size) (othersAfter r old error size)
 
 -- rule 11 on a delete, rule 12 on a value to put
 unfoldable pub resultBy : Bool → Decision → ℕ → Decision
@@ -90,9 +108,9 @@ resultBy there Put size = cond (ltb maxData size) (Broken DataSize) Put
 unfoldable pub outcomeBy : List ℕ → Found → ℕ → List ℕ → Decision
 outcomeBy r old a proper = resultBy (stands old) (kindBy r old a proper) (newSize r old a (length proper))
 
--- rule 13 on a value to put
-unfoldable pub roomedBy : Decision → Bool → Decision
+-- room for a value to put
+unfoldable pub roomedBy : Decision → Option Rule → Decision
 roomedBy (Broken rule) full = Broken rule
 roomedBy Nothing full = Nothing
 roomedBy Remove full = Remove
-roomedBy Put full = cond full (Broken Room) Put
+roomedBy Put full = onSome full (λ rule. Broken rule) Put

@@ -1,14 +1,20 @@
-// What a set asks for, and rules 11 to 13 on its result.
+// What a set asks for, and rules 11, 12, 18 and 13 on its result.
 ghost use mathlib.Core.Path.{_≡_};
 ghost use mathlib.Core.Bool.{true};
 ghost use Prim.Native.Nat.{_+_, _<_, _≤_, _^_};
 ghost use lib.ListN.{length};
 ghost use Rattle.model.specs.Entry.{rounded};
-ghost use Rattle.decision.specs.Parts.{stands, equalBy, kindBy, newSize, oldSpace, roomBy, resultBy, outcomeBy, roomedBy};
+ghost use Rattle.model.specs.Region.{recordBit, entries, values};
+ghost use Rattle.model.specs.Change.{recordSizes, otherSizes};
+ghost use Rattle.model.specs.Rules.{firstBroken};
+ghost use Rattle.decision.specs.Parts.{judgedOf, stands, equalBy, kindBy, newSize, oldRecords, oldOthers, recordsAfter, othersAfter, roomBy, roomAfter, resultBy, outcomeBy, roomedBy};
 use crate::Decision;
+use crate::Judged;
 use model::Rule;
+use model::Terms;
 use region::walk;
 use values::Found;
+use values::Sums;
 use values::list;
 
 // Whether a value stands.
@@ -71,26 +77,75 @@ fn new_size(region: &[u8], old: Found, attributes: u32, size: usize) -> usize
     size
 }
 
-// The space that the value that stands takes.
-fn old_space(region: &[u8], old: Found) -> usize
-    ensures { λ r. ⌜ r ≡ oldSpace (now (region .entry)) old ⌝ }
+// The size that the value that stands takes, by its class.
+fn freed(region: &[u8], old: Found) -> Sums
+    ensures { λ r. ⌜ (r .records ≡ oldRecords (now (region .entry)) old) × (r .others ≡ oldOthers (now (region .entry)) old) ⌝ }
 {
     match old {
-        Found::At(at, e) => list::size_of(region, at, e),
-        Found::Nothing => 0,
+        Found::At(at, e) => {
+            let size = list::size_of(region, at, e);
+            if layout::is_error_record(e.attributes) {
+                return Sums {
+                    records: size,
+                    others: 0,
+                };
+            }
+            Sums {
+                records: 0,
+                others: size,
+            }
+        }
+        Found::Nothing => Sums {
+            records: 0,
+            others: 0,
+        },
     }
 }
 
-// Rule 13: the space of the value that stands is free, and all values with what is needed beside them exceed the region.
-fn is_full(region: &[u8], old: Found, need: usize) -> bool
-    requires { ⌜ length (now region) ≤ 28672 ⌝ }
-    ensures { λ r. ⌜ r ≡ roomBy (now (region .entry)) old need ⌝ }
+// The sums after a value of this class and size has come in the place of the old one.
+fn after(region: &[u8], old: Found, error: bool, size: usize) -> Sums
+    requires { ⌜ (length (now region) ≤ 28672) × (size < 2 ^ 63 + 2 ^ 12)
+        × (oldRecords (now region) old ≤ recordSizes (values (entries (now region))))
+        × (oldOthers (now region) old ≤ otherSizes (values (entries (now region)))) ⌝ }
+    ensures { λ r. ⌜ (r .records ≡ recordsAfter (now (region .entry)) old error size)
+        × (r .others ≡ othersAfter (now (region .entry)) old error size)
+        × (r .records + r .others < 2 ^ 63 + 2 ^ 16) ⌝ }
 {
-    let free = region.len() + old_space(region, old);
-    if free < need {
-        return true;
+    let sums = list::sums(region);
+    let old = freed(region, old);
+    if error {
+        return Sums {
+            records: sums.records - old.records + size,
+            others: sums.others - old.others,
+        };
     }
-    free - need < list::space(region)
+    Sums {
+        records: sums.records - old.records,
+        others: sums.others - old.others + size,
+    }
+}
+
+// Rules 18 and 13 on the sums after a set, in a region of so many bytes.
+fn room(t: Terms, size: usize, error: bool, records: usize, others: usize) -> Judged
+    requires { ⌜ records + others < 2 ^ 63 + 2 ^ 16 ⌝ }
+    ensures { λ r. ⌜ r ≡ judgedOf (firstBroken (roomBy t size error records others)) ⌝ }
+{
+    if error {
+        if (t.records as usize) < records {
+            return Judged::Breaks(Rule::RecordSpace);
+        }
+        if size < layout::REGION_HEADER + records + others {
+            return Judged::Breaks(Rule::Room);
+        }
+        return Judged::Kept;
+    }
+    if size < layout::REGION_HEADER + others + t.records as usize + t.reserve as usize {
+        return Judged::Breaks(Rule::Room);
+    }
+    if size < layout::REGION_HEADER + records + others {
+        return Judged::Breaks(Rule::Room);
+    }
+    Judged::Kept
 }
 
 // Rule 12 on data of this size.
@@ -126,29 +181,33 @@ pub fn outcome(region: &[u8], old: Found, attributes: u32, proper: &[u8]) -> Dec
     }
 }
 
-// And by room, where a value is to be put: the entry to write, and the reserve, are needed.
+// And by room, where a value is to be put.
 pub fn roomed(
     item: Decision,
-    reserve: u32,
+    t: Terms,
     region: &[u8],
     old: Found,
     name: usize,
     attributes: u32,
     size: usize,
 ) -> Decision
-    requires { ⌜ (length (now region) ≤ 28672) × (name < 2 ^ 63) × (size < 2 ^ 63) ⌝ }
+    requires { ⌜ (length (now region) ≤ 28672) × (name < 2 ^ 63) × (size < 2 ^ 63)
+        × (oldRecords (now region) old ≤ recordSizes (values (entries (now region))))
+        × (oldOthers (now region) old ≤ otherSizes (values (entries (now region)))) ⌝ }
     requires { ⌜ (item ≡ Decision.Put → newSize (now region) old attributes size ≤ 2048) ⌝ }
-    ensures { λ r. ⌜ r ≡ roomedBy item (roomBy (now (region .entry)) old
-        (rounded (60 + name + newSize (now (region .entry)) old attributes size) + reserve)) ⌝ }
+    ensures { λ r. ⌜ r ≡ roomedBy item (firstBroken (roomAfter t (now (region .entry)) old (recordBit attributes)
+        (rounded (60 + name + newSize (now (region .entry)) old attributes size)))) ⌝ }
 {
     match item {
         Decision::Put => {
             let new = new_size(region, old, attributes, size);
-            let need = layout::entry_size(name, new) + reserve as usize;
-            if is_full(region, old, need) {
-                return Decision::Broken(Rule::Room);
+            let error = layout::is_error_record(attributes);
+            let sums = after(region, old, error, layout::entry_size(name, new));
+            let j = room(t, region.len(), error, sums.records, sums.others);
+            match j {
+                Judged::Breaks(rule) => Decision::Broken(rule),
+                Judged::Kept => item,
             }
-            item
         }
         Decision::Remove => item,
         Decision::Nothing => item,

@@ -1,4 +1,4 @@
-// The decision on a set over a sound region: the first broken of rules 3 to 13, or what the set does to the values.
+// The decision on a set over a sound region: the first broken of rules 3 to 13, 17 and 18, or what the set does to the values.
 ghost use mathlib.Core.Path.{_≡_};
 ghost use mathlib.Core.Bool.{true};
 ghost use mathlib.Core.List.{_++_};
@@ -79,7 +79,7 @@ fn judge_standing(
     }
 }
 
-// Rules 3 to 12 in their order, then the change.
+// Rules 3 to 12 and 17 in their order, then the change.
 fn judge(
     t: Terms,
     region: &[u8],
@@ -154,7 +154,7 @@ pub fn decide(
     );
     let what = change::roomed(
         item,
-        t.reserve,
+        t,
         region,
         old,
         name.len(),

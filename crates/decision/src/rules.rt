@@ -1,4 +1,4 @@
-// Rules 3 to 10: on the call itself and on what stands.
+// Rules 3 to 10, and 17: on the call itself and on what stands.
 ghost use mathlib.Core.Path.{_≡_};
 ghost use mathlib.Core.Bool.{false};
 ghost use mathlib.Core.List.{[]};
@@ -19,7 +19,7 @@ use region::walk;
 use values::Found;
 use values::lookup;
 
-// Rules 3 to 6, on the call itself.
+// Rules 3 to 5, 17 and 6, on the call itself.
 pub(crate) fn request(t: Terms, name: &[u8], vendor: &[u8; 16], attributes: u32) -> Judged
     ensures { λ r. ⌜ r ≡ judgedOf (firstBroken (requestRules t (requestOf (now (name .entry)) (now (vendor .entry)) attributes [] 0 0))) ⌝ }
 {
@@ -31,6 +31,9 @@ pub(crate) fn request(t: Terms, name: &[u8], vendor: &[u8; 16], attributes: u32)
     }
     if policy::key_attributes_broken(name, vendor, attributes) {
         return Judged::Breaks(Rule::KeyAttributes);
+    }
+    if policy::record_broken(name, vendor, attributes) {
+        return Judged::Breaks(Rule::RecordName);
     }
     if t.barred {
         return Judged::Breaks(Rule::Locked);

@@ -97,6 +97,7 @@ pub fn terms(s: Session, name: &[u8], vendor: &[u8; 16]) -> Terms
         barred: is_barred(s, name, vendor),
         custom: s.setup.custom != 0,
         reserve: reserved(s.phase, s.setup.reserve),
+        records: s.setup.records,
     }
 }
 

@@ -14,17 +14,17 @@ use lib.Seq.{drop-drop}
 use lib.Dec.{eqb}
 use borrow.Author.Tests.{eq-eqb, ne-eqb, eqb-true, eqb-false}
 use Rattle.model.specs.declared.Layout.{Layout}
-use Rattle.model.specs.Layout.{headerLength}
+use Rattle.model.specs.Layout.{authenticated, headerLength}
 use Rattle.model.specs.Lists.{part}
-use Rattle.model.specs.Change.{entrySizesIn}
-use Rattle.model.specs.Entry.{entrySizeIn}
+use Rattle.model.specs.Change.{entrySizesIn, recordSizes, otherSizes}
+use Rattle.model.specs.Entry.{entrySizeIn, entrySize}
 use Rattle.model.specs.Walk as walk
-use Rattle.model.specs.Region.{entriesIn, isValue}
+use Rattle.model.specs.Region.{entriesIn, entries, isValue, recordBit}
 use Rattle.layout.specs.declared.Entry as numbers
-use Rattle.region.specs.Walk.{entryAs, strideIn}
+use Rattle.region.specs.Walk.{entryAs, entryAt, strideIn}
 use Rattle.region.proofs.Turns.{Turned}
 use Rattle.region.proofs.Entries.{unnamed, named}
-use Rattle.values.proofs.Listed.{listedIn, listed-value}
+use Rattle.values.proofs.Listed.{listedIn, listed, listed-value}
 
 part-fits : (r : List ℕ) (i n : ℕ) → (length (part i n r) ≤ n) × (length (part i n r) ≤ length r - i)
 part-fits r i n =
@@ -79,3 +79,18 @@ module _ {y : Layout} {r : List ℕ} {at : ℕ} {e : numbers.Entry} {k : ℕ} (w
       → entrySizesIn y (listedIn y r at) ≡ entrySizeIn y (walk.entryValue (entryAs y r at e)) + entrySizesIn y (listedIn y r k)
   unfolding entrySizesIn
   sizes-value h = ap (entrySizesIn y) (listed-value w h)
+
+-- an entry that is a value counts by its class
+module _ {r : List ℕ} {at : ℕ} {e : numbers.Entry} {k : ℕ} (w : Turned authenticated r at e k) (h : isValue (entries r) (entryAt r at e) ≡ true) where
+  abbrev size : ℕ
+  size = entrySize (walk.entryValue (entryAt r at e))
+
+  pub sums-record : recordBit (e .attributes) ≡ true
+      → (recordSizes (listed r at) ≡ size + recordSizes (listed r k)) × (otherSizes (listed r at) ≡ otherSizes (listed r k))
+  unfolding recordSizes otherSizes entrySizesIn entryAs walk.placed
+  sums-record b = rw (listed-value w h, b) (refl, refl)
+
+  pub sums-other : recordBit (e .attributes) ≡ false
+      → (recordSizes (listed r at) ≡ recordSizes (listed r k)) × (otherSizes (listed r at) ≡ size + otherSizes (listed r k))
+  unfolding recordSizes otherSizes entrySizesIn entryAs walk.placed
+  sums-other b = rw (listed-value w h, b) (refl, refl)

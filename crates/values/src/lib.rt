@@ -15,3 +15,9 @@ pub struct Places {
     pub added: Found,
     pub replacing: Found,
 }
+
+// The rounded entry sizes of values: those of the error records, and those of the others.
+pub struct Sums {
+    pub records: usize,
+    pub others: usize,
+}

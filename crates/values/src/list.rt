@@ -1,18 +1,19 @@
-// The values of a region in flash order, their number and their space. What ends in `_in` is given the stored form; the others are the same in the form in
+// The values of a region in flash order, their number and their sizes. What ends in `_in` is given the stored form; the others are the same in the form in
 // which calls store.
 ghost use mathlib.Core.Path.{_≡_};
-ghost use Prim.Native.Nat.{_+_, _^_, _<_};
+ghost use Prim.Native.Nat.{_+_, _^_, _<_, _≤_};
 ghost use lib.ListN.{length};
 ghost use Rattle.model.specs.Layout.{headerLength};
 ghost use Rattle.model.specs.Lists.{first};
 ghost use Rattle.model.specs.Entry.{rounded, headerSize, entrySize};
 ghost use Rattle.model.specs.Walk.{entryValue};
 ghost use Rattle.model.specs.Region.{entries, entriesIn, isValue, values};
-ghost use Rattle.model.specs.Change.{spaceOf};
+ghost use Rattle.model.specs.Change.{recordSizes, otherSizes};
 ghost use Rattle.model.specs.Beside.{from, fromIn};
 ghost use Rattle.region.specs.Walk.{entryAs, entryAt};
 ghost use Rattle.values.specs.Found.{foundOf};
 use crate::Found;
+use crate::Sums;
 use crate::lookup;
 use layout::Entry;
 use model::Layout;
@@ -109,19 +110,27 @@ pub fn size_of(region: &[u8], at: usize, e: Entry) -> usize
     layout::entry_size(name.len(), data.len())
 }
 
-// The space that the values take: the region's header and their rounded entry sizes.
-pub fn space(region: &[u8]) -> usize
-    ensures { λ r. ⌜ r ≡ spaceOf (values (entries (now (region .entry)))) ⌝ }
+// The rounded entry sizes of the values: those of the error records, and those of the others.
+pub fn sums(region: &[u8]) -> Sums
+    ensures { λ r. ⌜ (r .records ≡ recordSizes (values (entries (now (region .entry)))))
+        × (r .others ≡ otherSizes (values (entries (now (region .entry)))))
+        × (r .records + r .others ≤ length (now (region .entry)) + 3) ⌝ }
 {
-    let mut sum: usize = layout::REGION_HEADER;
+    let mut records: usize = 0;
+    let mut others: usize = 0;
     let mut at: usize = layout::REGION_HEADER;
     loop {
         let t = walk::turn(region, at);
         let Turn::Entry(e, next) = t else {
-            return sum;
+            return Sums { records, others };
         };
         if is_value(region, at, e) {
-            sum += size_of(region, at, e);
+            let size = size_of(region, at, e);
+            if layout::is_error_record(e.attributes) {
+                records += size;
+            } else {
+                others += size;
+            }
         }
         at = next;
     }

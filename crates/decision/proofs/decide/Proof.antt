@@ -7,13 +7,14 @@ use lib.ListN.{length}
 use denote.Ref.{now}
 use Rattle.model.specs.Name.{keyed}
 use Rattle.model.specs.Entry.{rounded}
-use Rattle.model.specs.Region.{entries, values, added, replacing, standing}
+use Rattle.model.specs.Region.{recordBit, entries, values, added, replacing, standing}
+use Rattle.model.specs.Rules.{firstBroken}
 use Rattle.values.specs.Found.{elseFound}
 use Rattle.values.proofs.Finds.{found-else}
 use Rattle.decision.specs.Decision.{requestOf, itemOf}
 use Rattle.decision.specs.declared.Decision.{Decision}
-use Rattle.decision.specs.Parts.{newSize, roomBy, roomedBy}
-use Rattle.decision.proofs.Assembled.{new-size, decision-here}
+use Rattle.decision.specs.Parts.{newSize, roomAfter, roomedBy}
+use Rattle.decision.proofs.Assembled.{new-size, old-records, old-others, decision-here}
 use Rattle.decision.proofs.Accepted.{item-small}
 use borrow.Author.Needs.{needs}
 use Rattle.decision.proofs.decide.Statement.{statement}
@@ -49,7 +50,10 @@ roomed-requires c κs =
     let old = c .before .before .standing .ensures ∙ ap₂ elseFound (l .0) (l .1) ∙ sym (found-else (added k es) (replacing k es)) in
     let size = ap (λ (b : List ℕ). newSize (now (a .region)) (c .before .before .standing .result) (a .attributes) (length b)) (c .proper .ensures) in
     let new = new-size (a .t) q (now (a .region)) (p .0) (c .before .before .standing .result) old in
-    (search needs, λ e. omega (arith, size, new, item-small (a .t) q (values es) (sym (c .before .judge .ensures) ∙ e)))
+    let found = c .before .before .standing .result in (
+      (p .1, search needs, search needs, old-records (a .t) q (now (a .region)) (p .0) found old, old-others (a .t) q (now (a .region)) (p .0) found old),
+      λ e. omega (arith, size, new, item-small (a .t) q (values es) (sym (c .before .judge .ensures) ∙ e)),
+    )
 
 returns : tie.Need-returns
 unfolding standing
@@ -63,10 +67,13 @@ returns c =
     let l = c .before .before .before .before .places .ensures in
     let found = c .before .before .before .standing .result in
     let old = c .before .before .before .standing .ensures ∙ ap₂ elseFound (l .0) (l .1) ∙ sym (found-else (added k es) (replacing k es)) in
-    let need : ℕ → ℕ = λ n. rounded (60 + length (now (a .name)) + newSize r found (a .attributes) n) + a .t .reserve in
-    (c .roomed .ensures
-    ∙ ap₂ (λ (d : Decision) (b : List ℕ). roomedBy d (roomBy r found (need (length b)))) (c .before .before .judge .ensures) (c .before .proper .ensures)
-    ∙ sym (decision-here (a .t) q r (p .0) found old), l .0, l .1)
+    let size : ℕ → ℕ = λ n. rounded (60 + length (now (a .name)) + newSize r found (a .attributes) n) in (
+      c .roomed .ensures
+          ∙ ap₂ (λ (d : Decision) (b : List ℕ). roomedBy d (firstBroken (roomAfter (a .t) r found (recordBit (a .attributes)) (size (length b))))) (c .before .before .judge .ensures) (c .before .proper .ensures)
+          ∙ sym (decision-here (a .t) q r (p .0) found old),
+      l .0,
+      l .1,
+    )
 
 pub decide-spec : {M : Type 1} → statement M
 decide-spec = tie.close (tie.spec places-requires standing-requires judge-requires proper-requires roomed-requires returns)

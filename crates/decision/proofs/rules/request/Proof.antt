@@ -38,25 +38,40 @@ returns-3 c =
     ∙ kept-here _ _ _ (sym (c .before .before .before .attributes-broken .ensures) ∙ c .before .before .if2 .left)
     ∙ broken-here _ _ _ (sym (c .before .key-attributes-broken .ensures) ∙ c .if3 .taken)))
 
+record-broken-requires : tie.Need-record-broken-requires
+record-broken-requires c κs = search needs
+
 returns-4 : tie.Need-returns-4
 unfolding requestRules rule3
 returns-4 c =
     ap judgedOf
     (sym
-    (kept-here _ _ _ (rw (sym (c .before .before .before .before .before .before .is-named .ensures)) (c .before .before .before .before .before .if1 .left))
-    ∙ kept-here _ _ _ (sym (c .before .before .before .before .attributes-broken .ensures) ∙ c .before .before .before .if2 .left)
-    ∙ kept-here _ _ _ (sym (c .before .before .key-attributes-broken .ensures) ∙ c .before .if3 .left)
-    ∙ broken-here _ _ _ (c .if4 .taken)))
+    (kept-here _ _ _ (rw (sym (c .before .before .before .before .before .before .before .is-named .ensures)) (c .before .before .before .before .before .before .if1 .left))
+    ∙ kept-here _ _ _ (sym (c .before .before .before .before .before .attributes-broken .ensures) ∙ c .before .before .before .before .if2 .left)
+    ∙ kept-here _ _ _ (sym (c .before .before .before .key-attributes-broken .ensures) ∙ c .before .before .if3 .left)
+    ∙ broken-here _ _ _ (sym (c .before .record-broken .ensures) ∙ c .if4 .taken)))
 
 returns-5 : tie.Need-returns-5
 unfolding requestRules rule3
 returns-5 c =
     ap judgedOf
     (sym
-    (kept-here _ _ _ (rw (sym (c .before .before .before .before .before .before .is-named .ensures)) (c .before .before .before .before .before .if1 .left))
-    ∙ kept-here _ _ _ (sym (c .before .before .before .before .attributes-broken .ensures) ∙ c .before .before .before .if2 .left)
-    ∙ kept-here _ _ _ (sym (c .before .before .key-attributes-broken .ensures) ∙ c .before .if3 .left)
-    ∙ kept-here _ _ _ (c .if4 .left)
+    (kept-here _ _ _ (rw (sym (c .before .before .before .before .before .before .before .before .is-named .ensures)) (c .before .before .before .before .before .before .before .if1 .left))
+    ∙ kept-here _ _ _ (sym (c .before .before .before .before .before .before .attributes-broken .ensures) ∙ c .before .before .before .before .before .if2 .left)
+    ∙ kept-here _ _ _ (sym (c .before .before .before .before .key-attributes-broken .ensures) ∙ c .before .before .before .if3 .left)
+    ∙ kept-here _ _ _ (sym (c .before .before .record-broken .ensures) ∙ c .before .if4 .left)
+    ∙ broken-here _ _ _ (c .if5 .taken)))
+
+returns-6 : tie.Need-returns-6
+unfolding requestRules rule3
+returns-6 c =
+    ap judgedOf
+    (sym
+    (kept-here _ _ _ (rw (sym (c .before .before .before .before .before .before .before .before .is-named .ensures)) (c .before .before .before .before .before .before .before .if1 .left))
+    ∙ kept-here _ _ _ (sym (c .before .before .before .before .before .before .attributes-broken .ensures) ∙ c .before .before .before .before .before .if2 .left)
+    ∙ kept-here _ _ _ (sym (c .before .before .before .before .key-attributes-broken .ensures) ∙ c .before .before .before .if3 .left)
+    ∙ kept-here _ _ _ (sym (c .before .before .record-broken .ensures) ∙ c .before .if4 .left)
+    ∙ kept-here _ _ _ (c .if5 .left)
     ∙ none-here))
 
 pub request-spec : {M : Type 1} → statement M
@@ -69,5 +84,7 @@ request-spec =
     returns-2
     key-attributes-broken-requires
     returns-3
+    record-broken-requires
     returns-4
-    returns-5)
+    returns-5
+    returns-6)
