@@ -6,17 +6,17 @@ use Prim.Native.Nat.{ℕ, _+_, _-_, _≤_}
 use native.Mathlib.Nat.{min-le-left}
 use native.Mathlib.Omega.{arith}
 use mathlib.Core.Path.{_≡_, refl, sym, ap, _∙_}
-use mathlib.Core.Bool.{Bool, true, false, not, cond, _&&_, false≢true}
+use mathlib.Core.Bool.{Bool, true, false, not, cond, _&&_, false≢true, _||_}
 use mathlib.Core.List.{List, [], _∷_, _++_, map, append-assoc, append-nil}
 use lib.ListN.{length, drop, length-take}
 use lib.Dec.{leb}
 use borrow.Author.Tests.{eq-eqb}
 use Rattle.model.specs.Layout.{authenticated}
 use Rattle.model.specs.Lists.{part, same, all, keep, among}
-use Rattle.model.specs.Name.{Key, keyed, sameKey, zeroEnded, wellNamed}
+use Rattle.model.specs.Name.{Key, keyed, sameKey, zeroEnded, wellNamed, recordName}
 use Rattle.model.specs.Entry.{rounded, Value, keyOf, entrySize, entryBytes}
 use Rattle.model.specs.Walk as walk
-use Rattle.model.specs.Region.{entries, live, rightHeader, knownState, within, rightLive, isEntry, undoubled, sound, isValue, values, storedAttributes, maxData, soundIn}
+use Rattle.model.specs.Region.{entries, live, rightHeader, knownState, within, rightLive, isEntry, undoubled, sound, isValue, values, storedAttributes, maxData, soundIn, recordBit}
 use Rattle.model.specs.Change.{without}
 use Rattle.model.specs.Compact.{joined, joinedIn}
 use Rattle.model.proofs.Tests.{and-split}
@@ -135,13 +135,17 @@ carried-all {r} {k} w p = wrote-as (sym (w .whole ∙ rw (p, append-nil))) (w .w
 
 well-named : (e : walk.Entry) → live e ≡ true → rightLive e ≡ true → same (e .name) [] ≡ false
 unfolding rightLive wellNamed zeroEnded same
-well-named e l h = go (e .name) (and-split (wellNamed (e .name) && sized) stored (rw l at h) .0)
+well-named e l h =
+    go (e .name) (and-split (wellNamed (e .name) && sized) stored (and-split (wellNamed (e .name) && sized && stored) recorded (rw l at h) .0) .0)
   where
     sized : Bool
     sized = leb 1 (e .header .dataSize) && leb (e .header .dataSize) maxData
 
     stored : Bool
     stored = among storedAttributes (e .header .attributes)
+
+    recorded : Bool
+    recorded = not (recordBit (e .header .attributes)) || recordName (walk.entryKey e)
 
     go : (name : List ℕ) → (wellNamed name && sized) ≡ true → same name [] ≡ false
     go [] h = absurd (false≢true h)
