@@ -102,7 +102,7 @@ tied-holds = held tied refl refl tt tt refl refl
 
 -- in custom mode with presence no verdict is wanted, and the same is stored
 abbrev custom : Session
-custom = record { phase = 0; setup = record { custom = 1; reserve = 0 }; count = 0; sizes = zeros 16; locks = zeros 2304 }
+custom = record { phase = 0; setup = record { custom = 1; reserve = 0; records = 0 }; count = 0; sizes = zeros 16; locks = zeros 2304 }
 
 abbrev inPerson : Row
 inPerson = joined autumn (revoking custom 0x67 spring more 1 0) autumn

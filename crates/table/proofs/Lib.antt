@@ -21,3 +21,5 @@ pub mod Moves
 pub mod Replies
 -- Cases of 02 (h)
 pub mod Worn
+-- 02 (a): hardware error records
+pub mod Records

@@ -258,7 +258,7 @@ allRecords-holds = held allRecords refl refl tt tt refl refl
 abbrev inPhase : ℕ → Call
 inPhase phase =
     set
-    (record { phase = phase; setup = record { custom = 0; reserve = 1 }; count = 0; sizes = replicate 16 0; locks = replicate 2304 0 })
+    (record { phase = phase; setup = record { custom = 0; reserve = 1; records = 0 }; count = 0; sizes = replicate 16 0; locks = replicate 2304 0 })
     (record { name = nameB; vendor = guid; attributes = 0x07; bytes = replicate 1892 0x22; presence = 0; verdict = 0 })
 
 abbrev reserveKept : Row

@@ -57,7 +57,7 @@ computed = tt
 
 -- no custom mode, no reserve
 abbrev pub plain : Setup
-plain = record { custom = 0; reserve = 0 }
+plain = record { custom = 0; reserve = 0; records = 0 }
 
 -- boot phase, so set up, no locks
 abbrev pub boot : Session
