@@ -1,4 +1,5 @@
-"""For the tests of tools/volume and tools/convert: volumes, stores and images made byte by byte, with nothing from the tools' own code; a tool run on them."""
+"""For the tests of tools/volume, tools/convert and tools/records: volumes, stores and images made byte by byte, with nothing from the tools' own code; a tool
+run on them."""
 import os
 import struct
 import subprocess

@@ -3,7 +3,7 @@
 //
 // A script is binary: steps one behind another. A step is its kind (an ASCII letter), limit u32 (n; 0xFFFFFFFF never stops), then by kind
 //   F  format      b u8: the image becomes the first 4,096 * (2b + 1) bytes of the buffer, as they stand, and is formatted
-//   U  start-up    custom u8, reserve u32
+//   U  start-up    custom u8, reserve u32, records u32
 //   S  set         attributes u32, presence u8, verdict u8, vendor 16, name size u16, data size u32, name, data
 //   G  get         buffer size u16, vendor 16, name size u16, name
 //   N  next-name   the same
@@ -91,8 +91,18 @@ fn format(c: Context, image: &mut [u8]) {
 fn start_up(c: Context, step: &[u8], image: &mut [u8]) -> Session {
     let custom = fields::byte(step, 5) as u32;
     let reserve = fields::long(step, 6) as u32;
+    let records = fields::long(step, 10) as u32;
     let mut content = content();
-    let started = engine::start::start_up(c, image, Setup { custom, reserve }, &mut content);
+    let started = engine::start::start_up(
+        c,
+        image,
+        Setup {
+            custom,
+            reserve,
+            records,
+        },
+        &mut content,
+    );
     let answer = started.answer;
     print_answer(b"start-up", answer);
     started.session
@@ -299,7 +309,7 @@ fn step_size(step: &[u8]) -> usize
 {
     match fields::byte(step, 0) {
         b'F' => 6,
-        b'U' => 10,
+        b'U' => 14,
         b'S' => 33 + fields::short(step, 27) + fields::long(step, 29),
         b'G' => 25 + fields::short(step, 23),
         b'N' => 25 + fields::short(step, 23),
@@ -353,6 +363,7 @@ fn nothing() -> Carried {
     let session = Session::fresh(Setup {
         custom: 0,
         reserve: 0,
+        records: 0,
     });
     let context = Context {
         limit: 0,
