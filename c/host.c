@@ -1,6 +1,6 @@
 /* A host of the variable store.
  *
- *   host         a small flash part: set, append, delete, power cuts in a compaction, a byte that dies, and pages
+ *   host         a small flash part: set, append, delete, power cuts in a compaction, a byte that dies, pages, and hardware error records
  *   host IMAGE   lists the variables of an image file
  *
  * It shows how a firmware's variable driver is built on varstore.h: start up at every power-on, keep the session, ask with an empty buffer first, and carry
@@ -12,12 +12,12 @@
 
 #include "varstore.h"
 
-#if VS_INTERFACE != 4
-#error "this host knows the operations of interface 4"
+#if VS_INTERFACE != 5
+#error "this host knows the operations of interface 5"
 #endif
 
 static const vs_context no_limit = {.limit = VS_NO_LIMIT};
-static const vs_setup setup = {0, 0}; /* no custom mode, no reserve */
+static vs_setup setup = {0, 0, 0}; /* no custom mode, no reserve, and bytes for error records where the story comes to them */
 
 static const char *rule_text(uint32_t rule)
 {
@@ -39,6 +39,8 @@ static const char *rule_text(uint32_t rule)
         [VS_BUFFER] = "buffer too short",
         [VS_LOCK_PHASE] = "lock after the boot phase",
         [VS_LOCK_SPACE] = "lock list full",
+        [VS_RECORD_NAME] = "an error record's attribute or name without the other",
+        [VS_RECORD_SPACE] = "no room for error records",
         [VS_SOURCE] = "source not fit for a move",
         [VS_TIME_BASED_VALUE] = "a value with time-based authentication",
         [VS_WORN] = "a byte no longer clears",
@@ -88,7 +90,8 @@ static int print_value(vs_session session, const uint8_t *image, size_t length, 
     return 0;
 }
 
-static int list(vs_session session, const uint8_t *image, size_t length)
+/* The variables of a vendor, or with NULL all of them, in flash order. */
+static int list_of(const uint8_t *vendor, vs_session session, const uint8_t *image, size_t length)
 {
     /* a vendor GUID and a name; the empty name begins */
     uint8_t named[VS_LARGEST_NAMED] = {0};
@@ -104,11 +107,13 @@ static int list(vs_session session, const uint8_t *image, size_t length)
         }
         size = reply.size;
         memcpy(named, next, size);
-        if (print_value(session, image, length, named, size)) {
+        if ((vendor == NULL || memcmp(named, vendor, 16) == 0) && print_value(session, image, length, named, size)) {
             return 1;
         }
     }
 }
+
+static int list(vs_session session, const uint8_t *image, size_t length) { return list_of(NULL, session, image, length); }
 
 static int list_file(const char *path)
 {
@@ -311,6 +316,7 @@ static vs_answer power_on(vs_session *session)
 }
 
 static const uint8_t our_vendor[16] = {0x01, 0x02, 0x03, 0x04, 0x05, 0x06, 0x07, 0x08, 0x09, 0x0A, 0x0B, 0x0C, 0x0D, 0x0E, 0x0F, 0x10};
+static const uint8_t record_vendor[16] = {0xDD, 0x6B, 0x4E, 0x41, 0x7B, 0xE4, 0xCC, 0x47, 0xB2, 0x44, 0xBB, 0x61, 0x02, 0x0C, 0xF5, 0x16};
 
 static size_t utf16(const char *text, uint8_t *name)
 {
@@ -324,13 +330,18 @@ static size_t utf16(const char *text, uint8_t *name)
     }
 }
 
-/* A variable of ours, its name in ASCII. */
-static vs_answer set(const vs_session *session, const char *text, uint32_t attributes, const void *data, size_t size)
+/* A variable, its name in ASCII. */
+static vs_answer set_of(const uint8_t *vendor, const vs_session *session, const char *text, uint32_t attributes, const void *data, size_t size)
 {
     uint8_t name[VS_LARGEST_NAME];
     size_t name_size = utf16(text, name);
-    vs_plan plan = vs_plan_set(*session, image, PART, name, name_size, our_vendor, attributes, data, size, 0, VS_BY_NONE, content);
+    vs_plan plan = vs_plan_set(*session, image, PART, name, name_size, vendor, attributes, data, size, 0, VS_BY_NONE, content);
     return carry_out(&plan);
+}
+
+static vs_answer set(const vs_session *session, const char *text, uint32_t attributes, const void *data, size_t size)
+{
+    return set_of(our_vendor, session, text, attributes, data, size);
 }
 
 /* ---- a small story */
@@ -468,6 +479,60 @@ static void pages(vs_session *session)
     print_answer("set RATE", set(session, "RATE", PLAIN, old_rate, sizeof old_rate));
 }
 
+/* A memory fault is logged as a hardware error record: here its address, the bits that were wrong, and the number of the record. With a name of 26 bytes and
+ * 12 of data it takes 60 + 26 + 12 = 98, rounded 100. */
+static vs_answer log_fault(const vs_session *session, unsigned number)
+{
+    char text[16];
+    const uint8_t fault[12] = {0x00, 0x10, 0x32, 0x54, 0x76, 0x00, 0x00, 0x00, 0x40, 0x00, 0x00, (uint8_t)number};
+    snprintf(text, sizeof text, "HwErrRec%04X", number % 0x10000);
+    return set_of(record_vendor, session, text, PLAIN | VS_ERROR_RECORD, fault, sizeof fault);
+}
+
+/* The power fails in the compaction that logging makes, when so many stores are complete, or inside the next one; then it comes back, and the records are read. */
+static void cut_log(const uint8_t *before, unsigned number, uint64_t complete, int inside)
+{
+    vs_session session;
+    memcpy(part.bytes, before, PART);
+    power_on(&session);
+    part.power = complete;
+    part.inside = inside;
+    vs_answer answer = log_fault(&session, number);
+    part.power = UINT64_MAX;
+    vs_answer started = power_on(&session);
+    printf("power fails %s store %llu of it (%s): stores of the start-up %llu\n", inside ? "in" : "after", (unsigned long long)(complete + (inside ? 1 : 0)),
+           answer.kind == VS_STOPPED ? "stopped" : "not stopped", (unsigned long long)started.stores);
+    list_of(record_vendor, session, image, PART);
+}
+
+/* Two records of 100 bytes take all that there is for them; settings may take the rest of the region, and no more: TRACE takes 2,120 and NOTES with 1,677 bytes
+ * 1,752, and 28 + 2,120 + 1,752 + 200 = 4,100 is more than the block has, with a byte less 4,096 is not. What is logged is there when the station is opened after
+ * its death; tools/records reads it from a dump. */
+static void records(vs_session *session)
+{
+    static const uint8_t trace[2048] = {1}, notes[1677] = {2};
+    static uint8_t kept[PART];
+    part.width = 1;
+    setup.records = 200;
+    printf("%u bytes for hardware error records\n", (unsigned)setup.records);
+    print_answer("format", format());
+    print_answer("start-up", power_on(session));
+    print_answer("set TRACE", set(session, "TRACE", PLAIN, trace, sizeof trace));
+    print_answer("set NOTES", set(session, "NOTES", PLAIN, notes, sizeof notes));
+    print_answer("set NOTES, one byte less", set(session, "NOTES", PLAIN, notes, sizeof notes - 1));
+    print_answer("log fault 0", log_fault(session, 0));
+    print_answer("log fault 1", log_fault(session, 1));
+    printf("free from %u\n", (unsigned)vs_check(image, PART).tail);
+    print_answer("log fault 2", log_fault(session, 2));
+    print_answer("set HwErrRec0002 as a setting", set_of(record_vendor, session, "HwErrRec0002", PLAIN, notes, 12));
+    list_of(record_vendor, *session, image, PART);
+    print_answer("delete HwErrRec0000", set_of(record_vendor, session, "HwErrRec0000", 0, notes, 0));
+    memcpy(kept, part.bytes, PART);
+    print_answer("log fault 2", log_fault(session, 2));
+    cut_log(kept, 2, 4097, 1);
+    cut_log(kept, 2, 4098, 0);
+}
+
 /* A compaction of one block makes 8,197 stores; number 4,098 decides. */
 static int story(void)
 {
@@ -487,6 +552,7 @@ static int story(void)
     worn_tail(&session);
     worn_region(&session, full);
     pages(&session);
+    records(&session);
     printf("dead bytes found: %u, at %u and %u\n", (unsigned)known.count, (unsigned)known.dead[0], (unsigned)known.dead[1]);
     return memcmp(image, part.bytes, PART) != 0;
 }
@@ -500,7 +566,7 @@ int main(int argc, char **argv)
         fprintf(stderr,
                 "usage: host [IMAGE]\n"
                 "  with IMAGE: lists the variables of an image file: name, attributes, data\n"
-                "  without: a small flash part, power cuts in a compaction, a byte that dies, and pages\n");
+                "  without: a small flash part, power cuts in a compaction, a byte that dies, pages, and hardware error records\n");
         return 2;
     }
     return list_file(argv[1]);

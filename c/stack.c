@@ -2,7 +2,7 @@
  *
  *   own     from the return address that the call instruction pushes, which is counted in, down to the deepest byte that was written
  *   total   the same with the frame of a caller on top that does nothing else: what it holds for the call are arguments and results that go by value (a session
- *           is 2,384 bytes, a result with a session 2,400, a plan 400), and arguments that found no register
+ *           is 2,388 bytes, a result with a session 2,408, a plan 400), and arguments that found no register
  *
  * The caller's frame is measured, not reckoned: the same caller calls, on a stack of the same kind, a function that only returns.
  * Exit status 1 if a call's own stack is more than it may be.
@@ -19,7 +19,7 @@
 enum { BLOCKS = 7, IMAGE = VS_LARGEST_IMAGE, STACK = 1 << 18, PAINT = 0xC5, ADDRESS = 8, ALLOWED = 6 * 1024, PLAIN = VS_NV | VS_BOOT_ACCESS };
 
 static const vs_context no_limit = {.limit = VS_NO_LIMIT};
-static const vs_setup setup = {0, 0}; /* no custom mode, no reserve */
+static const vs_setup setup = {0, 0, 0}; /* no custom mode, no reserve, no bytes for error records */
 static const uint8_t vendor[16] = {1}, zeros[2048];
 static uint8_t image[IMAGE], plain[IMAGE], buffer[2048], content[VS_CONTENT], stack[STACK];
 static vs_session session, made;
