@@ -1,11 +1,15 @@
-"""A reader of images that follows document 01, "Flash image" and rules 1 and 2, sentence by sentence, and document 02, request (d), for the plain form;
-nothing in it comes from the store's own code."""
+"""A reader of images that follows document 01, "Flash image" and rules 1 and 2, sentence by sentence, and document 02, requests (d), for the plain form, and
+(a), for hardware error records; nothing in it comes from the store's own code."""
+import re
 import struct
 
 BLOCK = 4096
 HEADER = 28
 STATES = (0xFF, 0x7F, 0x3F, 0x3E, 0x3D, 0x3C)
 RECORDS = (0xFF, 0xFE, 0xFC, 0xF8)
+ATTRIBUTES = (0x03, 0x07, 0x23, 0x27, 0x0F)
+ERROR_RECORD = 0x08
+RECORD_VENDOR = bytes.fromhex("DD6B4E417BE4CC47B244BB61020CF516")
 
 
 class Form:
@@ -80,6 +84,16 @@ def well_named(name):
     return characters[-1] == 0 and 0 not in characters[:-1]
 
 
+def has_record_name(e):
+    """"under GUID DD 6B 4E 41 .. only, with the name HwErrRec and four digits 0 to F in upper case" """
+    return e.vendor == RECORD_VENDOR and re.fullmatch(rb"H\0w\0E\0r\0r\0R\0e\0c\0(?:[0-9A-F]\0){4}\0\0", e.name, re.S) is not None
+
+
+def is_error_record(e):
+    """a value with attribute 0x08"""
+    return bool(e.attributes & ERROR_RECORD)
+
+
 def is_sound(region, entries, form=NEW):
     if region[:HEADER] != header_of(len(region), form):
         return False
@@ -89,7 +103,9 @@ def is_sound(region, entries, form=NEW):
         if e.state != 0xFF and e.end > len(region):
             return False
         if e.is_live():
-            if not well_named(e.name) or not 1 <= e.data_size <= 2048 or e.attributes not in (0x03, 0x07, 0x23, 0x27):
+            if not well_named(e.name) or not 1 <= e.data_size <= 2048 or e.attributes not in ATTRIBUTES:
+                return False
+            if is_error_record(e) and not has_record_name(e):
                 return False
     for state in (0x3F, 0x3E):
         keys = [e.key() for e in entries if e.state == state]
@@ -103,14 +119,27 @@ def is_clean(region, form=NEW):
     return is_sound(region, entries, form) and is_blank(region[tail:])
 
 
-def is_idle(work):
-    """well formed, and not ending in FC"""
+def used_records(work):
+    """of a work block that is well formed its used records, else None"""
     records, rest = work[:64], work[64:]
     used = records.rstrip(b"\xFF")
-    return (is_blank(rest)
-            and all(r in RECORDS for r in records)
-            and 0xFF not in used        # "no used record after an unused one"
-            and 0xFC not in used)       # in the last used it would end in FC, before that it is not well formed
+    right = (is_blank(rest)
+             and all(r in RECORDS for r in records)
+             and 0xFF not in used           # "no used record after an unused one"
+             and 0xFC not in used[:-1])     # "FC only in the last used"
+    return used if right else None
+
+
+def is_idle(work):
+    """well formed, and not ending in FC"""
+    used = used_records(work)
+    return used is not None and not used.endswith(b"\xFC")
+
+
+def is_pending(work, spare, form=NEW):
+    """"well formed, last used is FC, and the spare is a clean region" """
+    used = used_records(work)
+    return used is not None and used.endswith(b"\xFC") and is_clean(spare, form)
 
 
 def values_of(entries):

@@ -1,10 +1,10 @@
-"""What tools/volume and tools/convert share: the variable store in a firmware volume or SPI dump, what keeps a region from being sound in words, images made
-of entries, and files that are never overwritten."""
+"""What tools/volume, tools/convert and tools/records share: the variable store in a firmware volume or SPI dump, what keeps a region from being sound in words,
+images made of entries, and files that are never overwritten."""
 import os
 import struct
 import sys
 
-from reader import BLOCK, FORMS, HEADER, NEW, STATES, blocks_of, header_of, is_blank, is_clean, is_idle, walk, well_named
+from reader import ATTRIBUTES, BLOCK, FORMS, HEADER, NEW, STATES, blocks_of, has_record_name, header_of, is_blank, is_clean, is_error_record, is_idle, walk, well_named
 
 MOST_BLOCKS = 7
 # file system GUID of volumes for variables, as in EFI_FIRMWARE_VOLUME_HEADER
@@ -125,8 +125,10 @@ def fault_of(entries, length):
             return "an entry's name is not 1 to 63 characters and a zero character"
         if not 1 <= e.data_size <= 2048:
             return "%s has %d bytes of data, and 1 to 2,048 are allowed" % (named(e), e.data_size)
-        if e.attributes not in (0x03, 0x07, 0x23, 0x27):
-            return "%s has attributes 0x%02X, and 0x03, 0x07, 0x23, 0x27 are allowed" % (named(e), e.attributes)
+        if e.attributes not in ATTRIBUTES:
+            return "%s has attributes 0x%02X, and %s are allowed" % (named(e), e.attributes, ", ".join("0x%02X" % one for one in sorted(ATTRIBUTES)))
+        if is_error_record(e) and not has_record_name(e):
+            return "%s has attributes 0x%02X, and is by name and vendor no hardware error record" % (named(e), e.attributes)
         if (e.state, e.key()) in seen:
             return "%s stands twice" % named(e)
         seen.add((e.state, e.key()))
@@ -141,19 +143,30 @@ def form_of(image):
     return next((form for form in FORMS if image.startswith(form.signature)), None)
 
 
-def ready_region(image):
-    """the form of an image that a call would accept, its region, and the entries with the offset of the tail"""
+def parts_of(image):
+    """region, work block and spare"""
     blocks = blocks_of(len(image))
     if blocks is None:
         raise Refused("the image has %d bytes, and an image has 4,096 * (2b + 1) with b from 1 to 7" % len(image))
-    region, work, spare = image[:BLOCK * blocks], image[BLOCK * blocks:BLOCK * (blocks + 1)], image[BLOCK * (blocks + 1):]
-    form = form_of(image)
+    return image[:BLOCK * blocks], image[BLOCK * blocks:BLOCK * (blocks + 1)], image[BLOCK * (blocks + 1):]
+
+
+def sound_region(region):
+    """the form of a region that is sound, and its entries with the offset of the tail"""
+    form = form_of(region)
     if form is None or region[:HEADER] != header_of(len(region), form):
         raise Refused("the image has no region's header")
     entries, tail = walk(region, form)
     fault = fault_of(entries, len(region))
     if fault:
         raise Refused("the image: " + fault)
+    return form, entries, tail
+
+
+def ready_region(image):
+    """the form of an image that a call would accept, its region, and the entries with the offset of the tail"""
+    region, work, spare = parts_of(image)
+    form, entries, tail = sound_region(region)
     if not (is_clean(region, form) and is_idle(work) and is_blank(spare)):
         raise Refused("the image is as a power cut left it: " + ("start up first" if form is NEW else "let its station start up first"))
     return form, region, entries, tail
