@@ -78,13 +78,13 @@ macro_rules! laid_out {
 
 const _: () = assert!(size_of::<usize>() == 8 && size_of::<*const u8>() == 8);
 laid_out!(Context 80 limit 0 count 8 dead 12 width 76);
-laid_out!(Setup 8 custom 0 reserve 4);
-laid_out!(Session 2384 phase 0 setup 4 count 12 sizes 16 locks 80);
+laid_out!(Setup 12 custom 0 reserve 4 records 8);
+laid_out!(Session 2388 phase 0 setup 4 count 16 sizes 20 locks 84);
 laid_out!(RawAnswer 16 kind 0 rule 4 stores 8);
 laid_out!(RawReply 32 answer 0 size 16 attributes 20 needed 24);
-laid_out!(RawListed 2400 answer 0 session 16);
+laid_out!(RawListed 2408 answer 0 session 16);
 laid_out!(RawChecked 24 answer 0 blocks 16 tail 20);
-laid_out!(RawStarted 2400 answer 0 session 16);
+laid_out!(RawStarted 2408 answer 0 session 16);
 laid_out!(RawOperation 32 kind 0 at 8 from 16 len 24);
 laid_out!(RawPlan 400 rule 0 deciding 8 operations 16);
 

@@ -2,7 +2,8 @@
 
 pub type Guid = [u8; 16];
 
-/// Rules a call can break, by their numbers. Those of 01 are in checking order; 02's are not: a move tries 1, 19, 20, 13, and 23 is met by a store.
+/// Rules a call can break, by their numbers. Those of 01 are in checking order; 02's are not: 17 is tried after 5 and 18 before 13, a move tries 1, 19, 20, 13, and
+/// 23 is met by a store.
 #[derive(Clone, Copy, PartialEq, Eq, PartialOrd, Ord, Debug)]
 #[repr(u32)]
 pub enum Rule {
@@ -22,13 +23,15 @@ pub enum Rule {
     Buffer,
     LockPhase,
     LockSpace,
-    Source = 19,
+    Record,
+    RecordRoom,
+    Source,
     TimeBased,
     Worn = 23,
 }
 
 impl Rule {
-    pub const ALL: [Rule; 19] = [
+    pub const ALL: [Rule; 21] = [
         Rule::Length,
         Rule::Unready,
         Rule::Name,
@@ -45,6 +48,8 @@ impl Rule {
         Rule::Buffer,
         Rule::LockPhase,
         Rule::LockSpace,
+        Rule::Record,
+        Rule::RecordRoom,
         Rule::Source,
         Rule::TimeBased,
         Rule::Worn,
@@ -110,17 +115,21 @@ pub const RUNTIME: u32 = 2;
 pub const PLACES: usize = 16;
 pub const PLACE: usize = 144;
 
-/// What a start-up is given, and its session keeps: custom mode and the run-time reserve R.
+/// What a start-up is given, and its session keeps: custom mode, the run-time reserve R, and 02 (a)'s H, the bytes that hardware error records have of their own.
 #[derive(Clone, Copy, PartialEq, Eq, Debug)]
 #[repr(C)]
 pub struct Setup {
     pub custom: u32,
     pub reserve: u32,
+    pub records: u32,
 }
 
 impl Setup {
-    /// No custom mode, no reserve.
-    pub const PLAIN: Setup = Setup { custom: 0, reserve: 0 };
+    /// No custom mode, no reserve, no room for records.
+    pub const PLAIN: Setup = Setup { custom: 0, reserve: 0, records: 0 };
+
+    /// Custom mode, else the same.
+    pub const CUSTOM: Setup = Setup { custom: 1, ..Setup::PLAIN };
 }
 
 /// Phase, what the start-up was given, and the lock list. A place of the list holds the name, zeros up to 128 bytes, then the GUID.

@@ -13,7 +13,7 @@ use common::cuts::places;
 use common::generate::{self, Asked, Name, BLOCK};
 use common::random::Random;
 use common::stored::{carry_out, Call};
-use common::{same_bytes, stamped};
+use common::{same_bytes, stamped, RECORDS};
 use varstore::calls::{Read, ENGINE, PAPER};
 use varstore::interface::{Answer, Context, Reply, Rule, Session, Setup};
 use varstore::paper;
@@ -142,8 +142,19 @@ impl<'t> Pair<'t> {
         }
     }
 
+    /// Another H from here on, once in some times, with an eye to the next set.
+    fn other_space(&mut self, r: &mut Random, next: &Asked) {
+        if r.once_in(3) {
+            self.session.setup.records = generate::record_space_for(r, &self.session, &self.image, next);
+        }
+    }
+
     fn set(&mut self, asked: &Asked, limit: u64) -> Answer {
-        self.store("set", &Call::Set(asked.clone()), limit)
+        let answer = self.store("set", &Call::Set(asked.clone()), limit);
+        if asked.name.vendor == RECORDS && asked.attributes & 0x08 != 0 {
+            self.count("set of a record", answer);
+        }
+        answer
     }
 
     fn format(&mut self, limit: u64) {
@@ -176,7 +187,7 @@ impl<'t> Pair<'t> {
 
     fn start_up_with_stops(&mut self, r: &mut Random) {
         self.store_with_stops(r, "startup", &Call::StartUp(Setup::PLAIN));
-        self.start_up(u64::MAX, Setup { custom: 1, reserve: 100 });
+        self.start_up(u64::MAX, Setup { custom: 1, reserve: 100, records: 500 });
     }
 
     /// Leaves the image as before, and a chip that stores bytes, none of them dead.
@@ -223,7 +234,7 @@ fn limits(r: &mut Random, list: &paper::Stores) -> Vec<u64> {
 }
 
 fn same_session(ours: &Session, theirs: &Session) {
-    let numbers = |session: &Session| (session.phase, session.setup.custom, session.setup.reserve, session.count, session.sizes);
+    let numbers = |session: &Session| (session.phase, session.setup, session.count, session.sizes);
     assert_eq!(numbers(ours), numbers(theirs), "session");
     same_bytes("lock list", &ours.locks, &theirs.locks);
 }
@@ -289,7 +300,7 @@ fn random_call(pair: &mut Pair, r: &mut Random) {
         0..=2 => random_get(pair, r),
         3..=5 => random_next(pair, r),
         6 => {
-            let setup = Setup { custom: r.pick(&[0, 1, 2, u32::MAX]), reserve: r.pick(&[0, 1, 4096, 4097, u32::MAX]) };
+            let setup = generate::setup(r);
             pair.other_chip(r, &Call::StartUp(setup));
             pair.start_up(limit(r), setup);
         }
@@ -302,6 +313,7 @@ fn random_call(pair: &mut Pair, r: &mut Random) {
         10 => pair.phase(r.pick(&[0, 1, 2, 3, u32::MAX])),
         _ => {
             let asked = generate::asked_on(r, &pair.image);
+            pair.other_space(r, &asked);
             pair.other_chip(r, &Call::Set(asked.clone()));
             pair.set(&asked, limit(r));
         }
@@ -321,7 +333,8 @@ fn any_call() {
         enumerate(&mut pair, r);
     });
     expect_seen(&tally, "set", &["done", "done without stores", "stopped", "refused 23"]);
-    for rule in 2..=13 {
+    expect_seen(&tally, "set of a record", &["done", "done without stores", "stopped", "refused 12", "refused 13", "refused 18", "refused 23"]);
+    for rule in (2..=13).chain([17, 18]) {
         expect_seen(&tally, "set", &[&format!("refused {rule}")]);
     }
     expect_seen(&tally, "get", &["done without stores", "refused 2", "refused 3", "refused 11", "refused 14"]);
@@ -366,11 +379,12 @@ fn stops() {
     let tally = rounds(200, |r, tally| {
         let blocks = if r.once_in(4) { 2 } else { 1 };
         let image = if r.once_in(2) { generate::filled(r, blocks) } else { generate::crafted::<Authenticated>(r, blocks) };
-        let mut pair = Pair::new(image, (PAPER.session_new)(Setup { custom: 1, reserve: 0 }), tally);
+        let mut pair = Pair::new(image, (PAPER.session_new)(Setup::CUSTOM), tally);
         pair.start_up_with_stops(r);
         for _ in 0..6 {
             let mut asked = generate::asked_on(r, &pair.image);
             asked.presence = 1;
+            pair.other_space(r, &asked);
             pair.set_with_stops(r, &asked);
             let cut = generate::asked_on(r, &pair.image);
             if pair.set(&cut, limit(r)) == Answer::Stopped {
@@ -445,7 +459,7 @@ fn appends_at_each_byte_of_a_stamp() {
     let names = [(*DB.vendor, DB.name), (*KEK.vendor, KEK.name), ([7; 16], &b"S\0\0\0"[..])];
     for (vendor, name) in names {
         for custom in [0, 1] {
-            let setup = Setup { custom, reserve: 0 };
+            let setup = Setup { custom, ..Setup::PLAIN };
             let mut pair = Pair::new(generate::empty(1), (PAPER.session_new)(setup), &mut tally);
             let name = Name { name: name.to_vec(), vendor };
             let mut given = [0; 16];
@@ -493,7 +507,7 @@ fn lengths() {
             for _ in 0..5 {
                 pair.set(&generate::asked(&mut r), u64::MAX);
             }
-            pair.start_up(u64::MAX, Setup { custom: 3, reserve: 5000 });
+            pair.start_up(u64::MAX, Setup { custom: 3, reserve: 5000, records: 70_000 });
             for n in (0..=44).chain([u64::MAX]) {
                 pair.image.fill(0);
                 pair.format(n);
@@ -528,7 +542,8 @@ fn sessions() {
             }
             pair.lock(&generate::name(&mut r));
         }
-        let setup = Setup { custom: r.number() as u32 >> r.below(32), reserve: r.number() as u32 >> r.below(32) };
+        let [custom, reserve, records] = [(); 3].map(|_| r.number() as u32 >> r.below(32));
+        let setup = Setup { custom, reserve, records };
         same_session(&(PAPER.session_new)(setup), &(ENGINE.session_new)(setup));
     }
     expect_seen(&tally, "lock", &["done without stores", "refused 3", "refused 15", "refused 16"]);

@@ -34,7 +34,7 @@ fn texts(printed: &str) -> BTreeMap<String, String> {
 fn listed_and_started_up() {
     let printed = std::fs::read_to_string(folder().join("stdout")).expect("what cases prints");
     let images: Vec<_> = texts(&printed).into_iter().filter(|(file, _)| file.ends_with(".img")).collect();
-    assert_eq!(images.len(), 79);
+    assert_eq!(images.len(), 82);
     for (file, text) in images {
         let image = std::fs::read(folder().join("data").join(&file)).expect("an image");
         assert_eq!(paper::varlist(&image), text, "{file}");

@@ -604,7 +604,7 @@ fn runs_begin_on_moved_images() {
     common::rounds::rounds(2, 300, |r| {
         for calls in BOTH {
             let mut image = generate::moved(r);
-            let started = (calls.start_up)(Context::NO_LIMIT, &mut image, Setup { custom: 1, reserve: 0 });
+            let started = (calls.start_up)(Context::NO_LIMIT, &mut image, generate::lenient(r));
             assert_eq!(started.answer, Answer::Done(0), "start-up on a moved image by {}", calls.who);
             let mut book = Book::of(&image);
             for _ in 0..r.below(20) {

@@ -3,14 +3,14 @@
 
 mod common;
 
-use common::cases::{asked, being_replaced, compacting, crowded, delete, empty, set, with_dirty_tail, with_leftover};
+use common::cases::{asked, being_replaced, compacting, crowded, delete, empty, record, set, with_dirty_tail, with_leftover};
 use common::cuts::{begun, places, Begun, Cut, Run, Way, START_UP};
 use common::failing::{fail_at, WORN};
 use common::generate::{self, BLOCK};
 use common::random::Random;
 use common::rounds::{once, rounds};
 use common::stored::Call;
-use common::{signed, A, B, NEW, OLD, RATE};
+use common::{signed, A, B, NEW, OLD, RATE, RECORD};
 use varstore::calls::{lent, BOTH, ENGINE};
 use varstore::interface::{Answer, Context, Setup};
 use varstore::paper::layout::Authenticated;
@@ -131,6 +131,7 @@ fn cases() -> Vec<(Run, Call)> {
         (empty(1).with(RATE, OLD), delete(RATE)),
         (with_leftover(), delete(RATE)),
         (empty(1).with(A, &[1; 2048]), set(B, &[2; 1892])),
+        (empty(1).with(A, OLD).with_space(1000), record(RECORD, OLD)),
     ];
     // a tail at each place of a page
     cases.extend((1..5).map(|count| (entries(count), set(RATE, &[0x5A; 23]))));
@@ -370,7 +371,7 @@ fn widths_that_change_in_a_run() {
         let mut run = Run::new(image, former);
         for _ in 0..r.below(30) {
             (run.way, run.width) = (r.pick(&Way::BOTH), generate::width(r));
-            run.session = (ENGINE.session_new)(Setup { custom: 1, reserve: 0 });
+            run.session = (ENGINE.session_new)(generate::lenient(r));
             let mut asked = generate::asked_on(r, &run.image);
             asked.presence = 1;
             let call = if r.once_in(4) { START_UP } else { Call::Set(asked) };

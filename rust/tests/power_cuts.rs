@@ -9,13 +9,13 @@ mod common;
 use std::collections::BTreeMap;
 
 use common::book::Value;
-use common::cases::{asked, being_replaced, compacting, crowded, decided, delete, empty, set, with_dirty_tail, with_leftover};
+use common::cases::{asked, being_replaced, compacting, crowded, decided, delete, empty, record, set, with_dirty_tail, with_leftover};
 use common::cuts::{begun, places, Begun, Cut, Garbage, Run, Way, START_UP};
 use common::generate::{self, Asked, Name, BLOCK};
 use common::random::Random;
 use common::rounds::{once, rounds};
 use common::stored::Call;
-use common::{same_bytes, signed, stamped, A, AUTUMN, B, NEW, OLD, RATE, SPRING};
+use common::{same_bytes, signed, stamped, A, AUTUMN, B, NEW, OLD, RATE, RECORD, RECORDS, SPRING};
 use varstore::calls::{lent, Calls, Read, BOTH, ENGINE, PAPER};
 use varstore::interface::{Answer, Context, Key, Reply, Rule, Setup};
 use varstore::paper::image::Parts;
@@ -142,6 +142,29 @@ fn tail_write_that_appends_to_a_value_being_replaced() {
 /// What the book has of a name.
 fn value(run: &Run, key: Key) -> Value {
     run.book.values.iter().find(|value| value.name.key() == key).expect("a value").clone()
+}
+
+/// 02 (a): a hardware error record, new, appended to, replaced and deleted.
+#[test]
+fn tail_writes_of_a_record() {
+    let run = empty(1).with(RATE, OLD).with_space(1000);
+    cut_everywhere(&run, &record(RECORD, OLD), 91);
+    let run = run.with_record(RECORD, OLD).with(A, OLD);
+    cut_everywhere(&run, &Call::Set(asked(RECORD, 0x4F, NEW)), 97);
+    cut_everywhere(&run, &record(RECORD, NEW), 93);
+    cut_everywhere(&run, &delete(RECORD), 1);
+}
+
+/// A region full of records and other values: a record is replaced, and another value is while the records stand.
+fn full_of_records() -> Run {
+    empty(1).with_space(2136).with_record(RECORD, &[1; 2048]).with(B, &[2; 1868])
+}
+
+/// At the ends of the compaction's operations and many places between them.
+#[test]
+fn compactions_of_records() {
+    cut_after(&full_of_records(), &record(RECORD, &[3; 2048]), 8197, |list, r| places(list, 61, r));
+    cut_after(&full_of_records(), &set(B, &[4; 1868]), 8197, |list, r| places(list, 61, r));
 }
 
 #[test]
@@ -338,6 +361,8 @@ fn cases() -> Vec<(Run, Call)> {
         (with_dirty_tail(2).recorded(63), START_UP),
         (crowded(1).stopped(&compacting(), decided(1)), START_UP),
         (crowded(2).stopped(&compacting(), decided(2)), START_UP),
+        (empty(1).with(A, OLD).with_space(1000).with_record(RECORD, OLD), record(RECORD, NEW)),
+        (full_of_records(), record(RECORD, &[3; 2048])),
     ];
     for (first, second) in [(AUTUMN, SPRING), (SPRING, AUTUMN)] {
         cases.push((with_revocations(1, &first), revoked(0x67, &second, NEW)));
@@ -444,14 +469,15 @@ fn some_set(run: &mut Run, r: &mut Random) -> Call {
     let mut asked = generate::asked_on(r, &run.image);
     run.session = generate::session(r);
     if !r.once_in(4) {
-        run.session = (ENGINE.session_new)(Setup { custom: 1, reserve: 0 });
+        run.session = (ENGINE.session_new)(Setup::CUSTOM);
+        run.session.setup.records = generate::record_space_for(r, &run.session, &run.image, &asked);
         asked.presence = 1;
     }
     Call::Set(asked)
 }
 
 fn some_start_up(r: &mut Random) -> Call {
-    Call::StartUp(Setup { custom: r.pick(&[0, 1, 2, u32::MAX]), reserve: r.pick(&[0, 1, 4096, 4097, u32::MAX]) })
+    Call::StartUp(generate::setup(r))
 }
 
 /// An image as a done start-up left it, and its b; or one that a move has left, where a start-up finds nothing to do.
@@ -486,6 +512,7 @@ fn random_step(run: &mut Run, r: &mut Random, tally: &mut Tally) {
         _ => some_set(run, r),
     };
     let what = if matches!(call, Call::Set(_)) { "set" } else { "start-up" };
+    let of_record = matches!(&call, Call::Set(asked) if asked.name.vendor == RECORDS && asked.attributes & 0x08 != 0);
     other_chip(run, &call, r);
     let stores: Vec<Store> = run.stores(&call).map_or(vec![], |list| list.iter().collect());
     let has_stores = !stores.is_empty();
@@ -498,10 +525,17 @@ fn random_step(run: &mut Run, r: &mut Random, tally: &mut Tally) {
         if what == "set" {
             *tally.entry(if before == run.book { "set cut before deciding" } else { "set cut when decided" }).or_default() += 1;
         }
+        if of_record && has_stores {
+            *tally.entry(if before == run.book { "set of a record cut before deciding" } else { "set of a record cut when decided" }).or_default() +=
+                1;
+        }
         return;
     }
     let answer = run.make(&call, u64::MAX);
     *tally.entry(kind(what, answer, programs && erases)).or_default() += 1;
+    if of_record && matches!(answer, Answer::Done(_)) && has_stores {
+        *tally.entry(if erases { "set of a record done by compaction" } else { "set of a record done" }).or_default() += 1;
+    }
     match answer {
         Answer::Done(_) if what == "start-up" => run.check_book(),
         Answer::Refused(Rule::Worn) => run.cuts.clear(),
@@ -553,7 +587,9 @@ fn any_call_of_a_run() {
     let read = ["get done", "get refused", "next-name done", "next-name refused"];
     let cut = ["store begun", "cut between stores", "set cut before deciding", "set cut when decided"];
     let failed = ["set failed", "start-up failed"];
-    for thing in [&whole[..], &started, &read, &cut, &failed].concat() {
+    let records = ["set of a record done", "set of a record done by compaction"];
+    let cut_records = ["set of a record cut before deciding", "set of a record cut when decided"];
+    for thing in [&whole[..], &started, &read, &cut, &failed, &records, &cut_records].concat() {
         assert!(tally.contains_key(thing), "no {thing} in the runs");
     }
 }

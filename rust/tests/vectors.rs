@@ -5,6 +5,7 @@
 //!     set name guid attrs data presence verdict n      get/next name guid buflen fill n (buffer of buflen bytes, all fill)
 //!     startup custom reserve n · format n · lock name guid · phase to · varlist
 //!     set, startup and format also dead (02 (h): addresses joined by `,`, which may be more than 16; `-` none) and w (02 (i))
+//!     session and startup also hw (02 (a): H)
 //!     move src to (02 (d): from the image in slot src into the current one; to is `new` or `plain`)
 //!
 //! A line that a request of document 02 has changed says `why`: the sentence, with `_` for a space; also where only the image is another than it was.
@@ -33,9 +34,9 @@ struct Line<'a> {
 
 /// What a line may give; every field that is not an argument is checked.
 const ARGUMENTS: &str =
-    "why op len rle off slot phase custom reserve count sizes locks name guid attrs data presence verdict dead w n buflen fill to src";
+    "why op len rle off slot phase custom reserve count sizes locks name guid attrs data presence verdict dead w hw n buflen fill to src";
 const EXPECTED: &str =
-    "answer rule stores list deciding made size attrs_out buf_sha256 text sha256 crc32 s_phase s_custom s_reserve s_count s_sizes s_locks";
+    "answer rule stores list deciding made size attrs_out buf_sha256 text sha256 crc32 s_phase s_custom s_reserve s_hw s_count s_sizes s_locks";
 
 impl<'a> Line<'a> {
     fn new(place: String, text: &'a str) -> Line<'a> {
@@ -55,6 +56,11 @@ impl<'a> Line<'a> {
         self.text(key).parse().unwrap_or_else(|_| panic!("{}: {key} is not a number", self.place))
     }
 
+    /// A field that only the lines of some files have.
+    fn number_or(&self, key: &str, absent: u32) -> u32 {
+        self.fields.get(key).map_or(absent, |_| self.number(key))
+    }
+
     fn bytes(&self, key: &str) -> Vec<u8> {
         unpacked(self.text(key)).unwrap_or_else(|| panic!("{}: {key} is not bytes", self.place))
     }
@@ -67,8 +73,7 @@ impl<'a> Line<'a> {
     fn context(&self) -> Context {
         let dead = self.fields.get("dead").filter(|&&text| text != "-");
         let dead: Vec<u32> = dead.map_or(vec![], |text| text.split(',').map(|address| address.parse().expect("an address")).collect());
-        let width = self.fields.get("w").map_or(1, |_| self.number("w"));
-        Context::worn(self.number("n").into(), &dead).paged(width)
+        Context::worn(self.number("n").into(), &dead).paged(self.number_or("w", 1))
     }
 
     /// Checks a field if the line gives it.
@@ -214,6 +219,7 @@ impl Player {
         line.expect("s_phase", &self.session.phase.to_string());
         line.expect("s_custom", &self.session.setup.custom.to_string());
         line.expect("s_reserve", &self.session.setup.reserve.to_string());
+        line.expect("s_hw", &self.session.setup.records.to_string());
         line.expect("s_count", &self.session.count.to_string());
         line.expect("s_sizes", &self.session.sizes.map(|size| size.to_string()).join(","));
         line.expect_bytes("s_locks", &self.session.locks);
@@ -221,7 +227,7 @@ impl Player {
 }
 
 fn setup(line: &Line) -> Setup {
-    Setup { custom: line.number("custom"), reserve: line.number("reserve") }
+    Setup { custom: line.number("custom"), reserve: line.number("reserve"), records: line.number_or("hw", 0) }
 }
 
 fn session(line: &Line) -> Session {
@@ -294,7 +300,7 @@ fn run_file(name: &str, lines: usize, changed: usize) {
 
 #[test]
 fn directed() {
-    run_file("directed.txt", 1400, 0);
+    run_file("directed.txt", 1400, 8);
 }
 
 #[test]
@@ -324,6 +330,12 @@ fn flash_bytes_that_have_died() {
 #[test]
 fn chips_that_program_a_page() {
     run_file("i.txt", 512, 0);
+}
+
+/// 02 (a): hardware error records.
+#[test]
+fn hardware_error_records() {
+    run_file("a.txt", 444, 0);
 }
 
 #[test]

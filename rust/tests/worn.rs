@@ -8,14 +8,14 @@ mod common;
 
 use std::collections::BTreeMap;
 
-use common::cases::{asked, being_replaced, compacting, crowded, decided, delete, empty, set, with_dirty_tail, with_leftover};
+use common::cases::{asked, being_replaced, compacting, crowded, decided, delete, empty, record, set, with_dirty_tail, with_leftover};
 use common::cuts::{places, Run, Way, START_UP};
 use common::failing::{fail_at, one_by_one, WORN};
 use common::generate::{self, BLOCK};
 use common::random::Random;
 use common::rounds::{once, rounds};
 use common::stored::{carry_out, Call};
-use common::{signed, A, B, NEW, OLD, RATE, VENDOR};
+use common::{signed, A, B, NEW, OLD, RATE, RECORD, VENDOR};
 use varstore::calls::{lent, Calls, BOTH, ENGINE};
 use varstore::interface::{Answer, Context, Key, Rule, Setup, DEAD};
 use varstore::paper::layout::Authenticated;
@@ -42,6 +42,7 @@ fn tail_writes() {
     fail_everywhere(&empty(1).with(A, OLD), &Call::Set(asked(request::PK, 0x27, &signed(2024, OLD))), 71);
     fail_everywhere(&with_leftover(), &set(RATE, OLD), 78);
     fail_everywhere(&being_replaced(), &set(RATE, NEW), 76);
+    fail_everywhere(&empty(1).with(A, OLD).with_space(1000), &record(RECORD, OLD), 91);
 }
 
 /// "Name size 4 with 2,048 data, then another with 1,892: the region is exactly full".
@@ -254,10 +255,11 @@ fn marks_on_a_dead_state() {
 #[test]
 fn session_of_a_failed_start_up() {
     let dirty = with_dirty_tail(1).image;
+    let given = Setup { custom: 7, reserve: 5000, records: u32::MAX };
     for calls in BOTH {
-        let started = (calls.start_up)(Context::worn(u64::MAX, &[BLOCK as u32]), &mut dirty.clone(), Setup { custom: 7, reserve: 5000 });
+        let started = (calls.start_up)(Context::worn(u64::MAX, &[BLOCK as u32]), &mut dirty.clone(), given);
         assert_eq!(started.answer, WORN, "{}", calls.who);
-        assert!(started.session == (calls.session_new)(Setup { custom: 1, reserve: 4096 }), "{}", calls.who);
+        assert!(started.session == (calls.session_new)(Setup { custom: 1, reserve: 4096, records: u32::MAX }), "{}", calls.who);
     }
 }
 
@@ -334,7 +336,7 @@ fn some_call(run: &mut Run, r: &mut Random) -> Call {
     if r.once_in(4) {
         return START_UP;
     }
-    run.session = (ENGINE.session_new)(Setup { custom: 1, reserve: 0 });
+    run.session = (ENGINE.session_new)(generate::lenient(r));
     let mut asked = generate::asked_on(r, &run.image);
     asked.presence = 1;
     Call::Set(asked)

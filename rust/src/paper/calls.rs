@@ -104,7 +104,7 @@ pub fn width(context: &Context) -> usize {
     }
 }
 
-/// Sets, appends to or deletes a value. Rules 1 to 13, and 23.
+/// Sets, appends to or deletes a value. Rules 1 to 13, 17, 18 and 23.
 pub fn set(context: Context, session: &Session, image: &mut [u8], request: &Request) -> Answer {
     made(set_stores(width(&context), session, image, request), context, image)
 }

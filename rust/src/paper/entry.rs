@@ -19,11 +19,12 @@ pub const GONE: u8 = 0x3C;
 
 /// Attribute bits.
 pub const RT: u32 = 0x04;
+pub const ERROR_RECORD: u32 = 0x08;
 pub const TIME_BASED: u32 = 0x20;
 pub const APPEND: u32 = 0x40;
 
-/// The attributes that a value can have.
-pub const STORABLE: [u32; 4] = [0x03, 0x07, 0x23, 0x27];
+/// The attributes that a value can have; the last are a hardware error record's.
+pub const STORABLE: [u32; 5] = [0x03, 0x07, 0x23, 0x27, 0x0F];
 
 pub const MOST_DATA: usize = 2048;
 

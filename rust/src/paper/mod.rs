@@ -6,6 +6,7 @@ pub mod entry;
 pub mod image;
 pub mod layout;
 pub mod moves;
+pub mod records;
 pub mod region;
 pub mod request;
 pub mod rules;

@@ -5,6 +5,7 @@ use std::marker::PhantomData;
 use super::entry::{well_formed, write, Contents, Entry, ADDED, DELETED, GONE, HEADER_VALID, MOST_DATA, REPLACED, STORABLE, UNFINISHED};
 use super::image::blank;
 use super::layout::{Authenticated, Layout};
+use super::records::{is_record, record_name};
 use crate::interface::Key;
 
 pub const REGION_HEADER: usize = 28;
@@ -60,13 +61,19 @@ pub fn clean<F: Layout>(region: &[u8]) -> Option<usize> {
     sound::<F>(region).filter(|&tail| blank(&region[tail..]))
 }
 
-/// The state is one of the six; a 3F or 3E entry has a well-formed name, data size 1 to 2,048 and attributes that can be stored.
+/// The state is one of the six; a 3F or 3E entry has a well-formed name, data size 1 to 2,048 and attributes that can be stored under that name.
 fn allowed<F: Layout>(entry: &Entry<F>) -> bool {
     match entry.state() {
         UNFINISHED | HEADER_VALID | DELETED | GONE => true,
-        ADDED | REPLACED => STORABLE.contains(&entry.attributes()) && (1..=MOST_DATA).contains(&entry.data_size()) && well_formed(entry.name()),
+        ADDED | REPLACED => storable(entry) && (1..=MOST_DATA).contains(&entry.data_size()) && well_formed(entry.name()),
         _ => false,
     }
+}
+
+/// 02 (a): 0x0F under a record's name only; other attributes under any name, a record's too.
+fn storable<F: Layout>(entry: &Entry<F>) -> bool {
+    let attributes = entry.attributes();
+    STORABLE.contains(&attributes) && (!is_record(attributes) || record_name(entry.key()))
 }
 
 /// Whether a 3F or 3E entry has the state, name and GUID of one before it.

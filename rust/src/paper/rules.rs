@@ -1,11 +1,12 @@
 //! Rules a call can break, in checking order. The first broken is the answer.
 
-use super::entry::{well_formed, Entry, APPEND, MOST_DATA, RT, STORABLE, TIME_BASED};
+use super::entry::{well_formed, Contents, Entry, APPEND, MOST_DATA, RT, STORABLE, TIME_BASED};
 use super::image::{blank, Parts};
 use super::layout::{Authenticated, Layout};
+use super::records::{is_record, record_name};
 use super::region::{self, REGION_HEADER};
 use super::request::{is_later, key_name, payload, wanted, Change, Payload};
-use super::session::{is_boot, is_locked, is_runtime, reserve};
+use super::session::{is_boot, is_locked, is_runtime, record_space, reserve};
 use super::work;
 use crate::interface::{Key, Request, Rule, Session};
 
@@ -34,7 +35,7 @@ pub fn ready<F: Layout>(image: &[u8]) -> Result<Ready<'_>, Rule> {
     Ok(Ready { parts, tail, records: records.used })
 }
 
-/// Rules 3 to 6: the call by itself.
+/// Rules 3 to 5, 17 and 6: the call by itself.
 pub fn of_the_call(session: &Session, request: &Request) -> Result<(), Rule> {
     let attributes = request.attributes;
     let without_append = attributes & !APPEND;
@@ -43,6 +44,8 @@ pub fn of_the_call(session: &Session, request: &Request) -> Result<(), Rule> {
     broken(Rule::Name, !well_formed(request.key.name))?;
     broken(Rule::Attributes, !known || attributes == APPEND || hidden)?;
     broken(Rule::KeyAttributes, key_name(request.key).is_some() && attributes != 0x27 && attributes != 0x67)?;
+    // 02 (a): "17 when a call with attributes other than 0 has attribute 0x08 without this GUID and name form, or both of those without 0x08, after 5"
+    broken(Rule::Record, attributes != 0 && is_record(attributes) != record_name(request.key))?;
     broken(Rule::Locked, !is_boot(session) && is_locked(session, request.key))
 }
 
@@ -67,16 +70,38 @@ pub fn of_what_stands<'a>(session: &Session, region: &[u8], request: &Request<'a
     Ok(payload)
 }
 
-/// Rules 11 to 13: what the change would leave.
+/// Rules 11, 12, 18 and 13: what the change would leave.
 pub fn of_the_change(session: &Session, region: &[u8], key: Key, value: Option<&Entry>, change: &Change) -> Result<(), Rule> {
     match change {
         Change::Nothing => Ok(()),
         Change::Delete => broken(Rule::Absent, value.is_none()),
         Change::Put(contents) => {
             broken(Rule::DataSize, contents.data_size() > MOST_DATA)?;
-            let others: usize = region::values::<Authenticated>(region).filter(|other| !other.is_for(key)).map(|other| other.size()).sum();
-            let wanted = REGION_HEADER + others + contents.entry_size::<Authenticated>(key) + reserve(session);
-            broken(Rule::Room, wanted > region.len())
+            let Sizes { records, others } = sizes_after(region, key, contents);
+            let (header, length) = (REGION_HEADER as u64, region.len() as u64);
+            // 02 (a): "18 when after a set of one their rounded sizes exceed H, before 13 and with its exemptions"; "a set of any other value meets 13 if 28, the
+            // other values, H and (at runtime) R exceed L; every set, if 28 and all values do"
+            if is_record(contents.attributes) {
+                broken(Rule::RecordRoom, records > record_space(session))?;
+            } else {
+                broken(Rule::Room, header + others + record_space(session) + reserve(session) > length)?;
+            }
+            broken(Rule::Room, header + records + others > length)
         }
     }
+}
+
+/// The rounded entry sizes of all records, and of all other values.
+struct Sizes {
+    records: u64,
+    others: u64,
+}
+
+/// Those after the change. H is added to them, which may be any u32, and R: 64 bits hold the sums.
+fn sizes_after(region: &[u8], key: Key, contents: &Contents) -> Sizes {
+    let mut sizes = Sizes { records: 0, others: 0 };
+    let mut add = |attributes, size: usize| *(if is_record(attributes) { &mut sizes.records } else { &mut sizes.others }) += size as u64;
+    region::values::<Authenticated>(region).filter(|value| !value.is_for(key)).for_each(|value| add(value.attributes(), value.size()));
+    add(contents.attributes, contents.entry_size::<Authenticated>(key));
+    sizes
 }

@@ -1,4 +1,4 @@
-//! Session: phase, custom mode, run-time reserve and the lock list, by value.
+//! Session: phase, custom mode, run-time reserve, the records' bytes and the lock list, by value.
 
 use super::entry::well_formed;
 use crate::interface::{Answer, Key, Listed, Rule, Session, Setup, BOOT, PLACE, PLACES, RUNTIME};
@@ -6,11 +6,11 @@ use crate::interface::{Answer, Key, Listed, Rule, Session, Setup, BOOT, PLACE, P
 const MOST_RESERVE: u32 = 4096;
 const VENDOR_IN_PLACE: usize = 128;
 
-/// A start-up's fresh session: boot, no locks, list bytes zero. R above 4,096 is kept as 4,096.
+/// A start-up's fresh session: boot, no locks, list bytes zero. R above 4,096 is kept as 4,096, and any H as it is.
 pub fn session_new(setup: Setup) -> Session {
     Session {
         phase: BOOT,
-        setup: Setup { custom: (setup.custom != 0) as u32, reserve: setup.reserve.min(MOST_RESERVE) },
+        setup: Setup { custom: (setup.custom != 0) as u32, reserve: setup.reserve.min(MOST_RESERVE), records: setup.records },
         count: 0,
         sizes: [0; PLACES],
         locks: [0; PLACES * PLACE],
@@ -72,12 +72,17 @@ pub fn is_runtime(session: &Session) -> bool {
 }
 
 /// R, which counts at runtime only; above 4,096 it counts as 4,096.
-pub fn reserve(session: &Session) -> usize {
+pub fn reserve(session: &Session) -> u64 {
     if is_runtime(session) {
-        session.setup.reserve.min(MOST_RESERVE) as usize
+        session.setup.reserve.min(MOST_RESERVE).into()
     } else {
         0
     }
+}
+
+/// H, which nothing caps: it may be above L.
+pub fn record_space(session: &Session) -> u64 {
+    session.setup.records.into()
 }
 
 /// A lock count above 16 counts as 16.

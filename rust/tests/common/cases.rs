@@ -17,6 +17,11 @@ pub fn set(key: Key, data: &[u8]) -> Call {
     Call::Set(asked(key, 0x07, data))
 }
 
+/// A set of a hardware error record.
+pub fn record(key: Key, data: &[u8]) -> Call {
+    Call::Set(asked(key, 0x0F, data))
+}
+
 pub fn delete(key: Key) -> Call {
     Call::Set(asked(key, 0, &[]))
 }
@@ -42,6 +47,17 @@ impl Run {
 
     pub fn with(mut self, key: Key, data: &[u8]) -> Run {
         self.whole(&set(key, data));
+        self
+    }
+
+    /// The same in a session with so many bytes for records.
+    pub fn with_space(mut self, records: u32) -> Run {
+        self.session.setup.records = records;
+        self
+    }
+
+    pub fn with_record(mut self, key: Key, data: &[u8]) -> Run {
+        self.whole(&record(key, data));
         self
     }
 

@@ -6,6 +6,7 @@ use varstore::calls::PAPER;
 use varstore::interface::{Answer, Context, Guid, Key, Request, Session, Setup, PLACE, PLACES};
 use varstore::paper::image::Parts;
 use varstore::paper::layout::{Authenticated, Layout, Plain};
+use varstore::paper::records::{self, is_record, record_name};
 use varstore::paper::region::{self, values};
 use varstore::paper::request::{DB, DBT, DBX, KEK, PK};
 use varstore::paper::{Store, Stores};
@@ -14,6 +15,7 @@ const PLAIN_VENDOR: Guid = [1, 2, 3, 4, 5, 6, 7, 8, 9, 10, 11, 12, 13, 14, 15, 1
 const OTHER_VENDOR: Guid = [1, 2, 3, 4, 5, 6, 7, 8, 9, 10, 11, 12, 13, 14, 15, 17];
 const KEYS: [Key; 5] = [PK, KEK, DB, DBX, DBT];
 const ATTRIBUTES: [u32; 4] = [0x03, 0x07, 0x23, 0x27];
+const RECORD: u32 = 0x0F;
 pub const CERTIFICATE: Guid = [0x9D, 0xD2, 0xAF, 0x4A, 0xDF, 0x68, 0xEE, 0x49, 0x8A, 0xA9, 0x34, 0x7D, 0x37, 0x56, 0x65, 0xA7];
 
 pub const BLOCK: usize = 4096;
@@ -72,13 +74,36 @@ impl Name {
     }
 }
 
+/// 02 (a): a record's name most often; else a digit in lower case or past F, a digit less or more, one character off, or another GUID.
+fn near_record(r: &mut Random) -> Name {
+    let digits = match r.once_in(4) {
+        true => r.pick(&["000a", "f001", "00G0", "000:", "00/1", "@001", "001", "00010", ""]),
+        false => r.pick(&["0001", "0001", "0001", "09AF", "FFFF"]),
+    };
+    let mut characters: Vec<u16> = "HwErrRec".chars().chain(digits.chars()).map(|character| character as u16).collect();
+    if r.once_in(12) {
+        let length = characters.len();
+        characters[r.below(length)] ^= r.pick(&[0x01, 0x08, 0x20, 0x100, 0x8000]);
+    }
+    let mut vendor = records::VENDOR;
+    match r.below(12) {
+        0 => vendor = PLAIN_VENDOR,
+        1 => vendor[r.below(16)] ^= 1 << r.below(8),
+        _ => {}
+    }
+    Name { name: spelt(&characters), vendor }
+}
+
 pub fn name(r: &mut Random) -> Name {
     if r.once_in(4) {
         let key = r.pick(&KEYS);
         return Name { name: key.name.to_vec(), vendor: *key.vendor };
     }
+    if r.once_in(4) {
+        return near_record(r);
+    }
     let name = if r.once_in(16) { bad_name(r) } else { good_name(r) };
-    let vendor = r.pick(&[PLAIN_VENDOR, PLAIN_VENDOR, PLAIN_VENDOR, OTHER_VENDOR, *PK.vendor, *DB.vendor, [0xFF; 16]]);
+    let vendor = r.pick(&[PLAIN_VENDOR, PLAIN_VENDOR, PLAIN_VENDOR, OTHER_VENDOR, *PK.vendor, *DB.vendor, records::VENDOR, [0xFF; 16]]);
     Name { name, vendor }
 }
 
@@ -174,10 +199,13 @@ impl std::fmt::Debug for Asked {
 pub fn asked(r: &mut Random) -> Asked {
     let name = name(r);
     let is_key = KEYS.contains(&name.key());
+    let near_record = name.vendor == records::VENDOR || record_name(Key { vendor: &records::VENDOR, ..name.key() });
     let attributes = match r.below(20) {
         0 => r.number() as u32,
-        1 => r.pick(&[0x13, 0x40, 0x01, 0x02, 0x04, 0x05, 0x06, 0x0F, 0x20, 0x60, 0x80, 0x83, 0x8000_0007]),
+        1 if near_record || r.once_in(2) => r.pick(&[0x08, 0x09, 0x0B, 0x0C, 0x0D, 0x0E, 0x0F, 0x1F, 0x2B, 0x2F, 0x48, 0x4B, 0x4F, 0x6F, 0x8F]),
+        1 => r.pick(&[0x13, 0x40, 0x01, 0x02, 0x04, 0x05, 0x06, 0x20, 0x60, 0x80, 0x83, 0x8000_0007]),
         2 | 3 => 0,
+        4..=16 if near_record => r.pick(&[RECORD, RECORD, RECORD, RECORD | 0x40]),
         4..=6 => r.pick(&ATTRIBUTES) | 0x40,
         7..=15 if is_key => r.pick(&[0x27, 0x27, 0x27, 0x67]),
         _ => r.pick(&ATTRIBUTES),
@@ -209,12 +237,54 @@ pub fn asked_on(r: &mut Random, image: &[u8]) -> Asked {
     asked
 }
 
-/// Any session: counts above 16, sizes above 128, phases above 2, reserves above 4,096.
+/// H: none, room for a few records, most of a region, or more than any.
+pub fn record_space(r: &mut Random) -> u32 {
+    r.pick(&[0, 0, 0, 0, 87, 88, 176, 500, 500, 1000, 1000, 2000, 4068, 4069, 28_644, 70_000, u32::MAX])
+}
+
+/// The same with an eye to a set: what the records take before it or after it, what the other values then leave of L, one byte less or more; or any.
+pub fn record_space_for(r: &mut Random, session: &Session, image: &[u8], asked: &Asked) -> u32 {
+    let region = match Parts::of(image) {
+        Some(parts) if !r.once_in(3) && (PAPER.check)(image).answer == Answer::Done(0) => parts.region,
+        _ => return record_space(r),
+    };
+    let old = values::<Authenticated>(region).find(|value| value.key() == asked.name.key());
+    let joined = old.filter(|_| asked.attributes & 0x40 != 0).map_or(0, |value| value.data_size());
+    let given = if asked.attributes & 0x20 != 0 { asked.data.len().saturating_sub(40) } else { asked.data.len() };
+    let size = (60 + asked.name.name.len() + joined + given).next_multiple_of(4);
+    let sum = |records| -> usize {
+        values::<Authenticated>(region).filter(|value| is_record(value.attributes()) == records).map(|value| value.size()).sum()
+    };
+    let sum_after = |records| {
+        let kept = sum(records) - old.filter(|value| is_record(value.attributes()) == records).map_or(0, |value| value.size());
+        kept + if is_record(asked.attributes) == records { size } else { 0 }
+    };
+    let reserve = if session.phase >= 2 { session.setup.reserve.min(4096) as usize } else { 0 };
+    let space = match r.below(4) {
+        0 => sum(true),
+        1 | 2 if is_record(asked.attributes) => sum_after(true),
+        _ => region.len().saturating_sub(28 + sum_after(false) + reserve),
+    };
+    (space as u32).saturating_add_signed(r.pick(&[-1, 0, 0, 0, 1]))
+}
+
+/// What a start-up is given.
+pub fn setup(r: &mut Random) -> Setup {
+    Setup { custom: r.pick(&[0, 1, 2, u32::MAX]), reserve: r.pick(&[0, 1, 4096, 4097, u32::MAX]), records: record_space(r) }
+}
+
+/// The same where little is to be refused: custom mode, and room for some records.
+pub fn lenient(r: &mut Random) -> Setup {
+    Setup { records: r.pick(&[0, 500, 1000]), ..Setup::CUSTOM }
+}
+
+/// Any session: counts above 16, sizes above 128, phases above 2, reserves above 4,096, any H.
 pub fn session(r: &mut Random) -> Session {
     let mut session = (PAPER.session_new)(Setup::PLAIN);
     session.phase = r.pick(&[0, 0, 0, 1, 1, 2, 2, 3, 0x100, u32::MAX]);
     session.setup.custom = r.pick(&[0, 0, 0, 1, 2, 0x100, u32::MAX]);
     session.setup.reserve = r.pick(&[0, 0, 1, 100, 2000, 4095, 4096, 4097, 0x1_0000, u32::MAX]);
+    session.setup.records = record_space(r);
     session.count = r.pick(&[0, 0, 1, 2, 3, 15, 16, 17, 0x100, 0x1_0000, u32::MAX]);
     for place in 0..PLACES {
         let locked = name(r);
@@ -283,7 +353,7 @@ pub fn empty(blocks: usize) -> Vec<u8> {
 pub fn filled(r: &mut Random, blocks: usize) -> Vec<u8> {
     let mut image = empty(blocks);
     for _ in 0..r.below(30 * blocks) {
-        let session = (PAPER.session_new)(Setup { custom: r.below(2) as u32, reserve: 0 });
+        let session = (PAPER.session_new)(Setup { custom: r.below(2) as u32, records: r.pick(&[0, 500, 2000]), ..Setup::PLAIN });
         let mut asked = asked(r);
         asked.presence = 1;
         let limit = if r.once_in(10) { r.below(300) as u64 } else { u64::MAX };
@@ -337,7 +407,12 @@ fn crafted_region<F: Layout>(r: &mut Random, blocks: usize, small: bool) -> Vec<
 /// Count, stamp and key index stand in one form only.
 fn crafted_header<F: Layout>(r: &mut Random, state: u8, name: &Name, size: usize) -> Vec<u8> {
     let mut header = vec![0xAA, 0x55, state, r.pick(&[0, 0, 0xFF])];
-    header.extend_from_slice(&r.pick(&ATTRIBUTES).to_le_bytes());
+    let attributes = match record_name(name.key()) {
+        true if !r.once_in(4) => RECORD,
+        false if r.once_in(if name.vendor == records::VENDOR { 3 } else { 40 }) => RECORD,
+        _ => r.pick(&ATTRIBUTES),
+    };
+    header.extend_from_slice(&attributes.to_le_bytes());
     if F::STAMP.is_some() {
         header.extend_from_slice(&r.pick(&[0, u64::MAX, 5]).to_le_bytes());
         header.extend_from_slice(&stored_stamp(r));
@@ -349,9 +424,10 @@ fn crafted_header<F: Layout>(r: &mut Random, state: u8, name: &Name, size: usize
     header
 }
 
-/// The crafted region with doubled names, bad names and empty data deleted, so that it is sound; sometimes one entry is then doubled in the tail.
+/// The crafted region with doubled names, bad names, empty data and records under other names deleted, so that it is sound; sometimes these records stay, or one
+/// entry is then doubled in the tail.
 fn sound_region<F: Layout>(r: &mut Random, blocks: usize) -> Vec<u8> {
-    let small = r.once_in(4);
+    let (small, any_record) = (r.once_in(4), r.once_in(16));
     let mut region = crafted_region::<F>(r, blocks, small);
     let (mut seen, mut live) = (Vec::new(), Vec::new());
     let mut at = 28;
@@ -362,8 +438,9 @@ fn sound_region<F: Layout>(r: &mut Random, blocks: usize) -> Vec<u8> {
         let size = if state == 0xFF { F::HEADER } else { (F::HEADER + name_size + data_size).next_multiple_of(4) };
         if state == 0x3F || state == 0x3E {
             let name = region[at + F::HEADER..][..name_size].to_vec();
-            let key = (state, name, region[at + F::VENDOR..][..16].to_vec());
-            let named = varstore::paper::entry::well_formed(&key.1);
+            let key: (u8, Vec<u8>, Guid) = (state, name, region[at + F::VENDOR..][..16].try_into().expect("16 bytes"));
+            let fits = any_record || region[at + 4] != RECORD as u8 || record_name(Key { name: &key.1, vendor: &key.2 });
+            let named = varstore::paper::entry::well_formed(&key.1) && fits;
             if seen.contains(&key) || !named || data_size == 0 {
                 region[at + 2] = 0x3C;
             } else {
@@ -429,6 +506,7 @@ pub fn damage<F: Layout>(r: &mut Random, image: &mut [u8], blocks: usize) {
                 [0, 1, 2048, 2049, old ^ 1, old.wrapping_add(4), (length - F::HEADER) as u32, u32::MAX, u32::MAX - F::HEADER as u32 + 1, 1 << 31];
             image[field..field + 4].copy_from_slice(&r.pick(&sizes).to_le_bytes());
         }
+        4 if r.once_in(2) => image[at + 4] = r.pick(&[RECORD as u8, RECORD as u8, 0x07, 0x0B, 0x2F]),
         4 => image[at + 4 + r.below(4)] = r.byte(),
         5 => image[(at + F::VENDOR + r.below(40)).min(base + length - 1)] ^= 1 << r.below(8),
         6 => image[at + r.below(2)] ^= 1 << r.below(8),

@@ -18,6 +18,9 @@ pub const VENDOR: Guid = [1, 2, 3, 4, 5, 6, 7, 8, 9, 10, 11, 12, 13, 14, 15, 16]
 pub const RATE: Key = Key { name: b"R\0A\0T\0E\0\0\0", vendor: &VENDOR };
 pub const A: Key = Key { name: b"A\0\0\0", vendor: &VENDOR };
 pub const B: Key = Key { name: b"B\0\0\0", vendor: &VENDOR };
+/// 02 (a): the GUID of hardware error records, and one of them.
+pub const RECORDS: Guid = [0xDD, 0x6B, 0x4E, 0x41, 0x7B, 0xE4, 0xCC, 0x47, 0xB2, 0x44, 0xBB, 0x61, 0x02, 0x0C, 0xF5, 0x16];
+pub const RECORD: Key = Key { name: b"H\0w\0E\0r\0r\0R\0e\0c\x000\x000\x000\x001\0\0\0", vendor: &RECORDS };
 pub const OLD: &[u8] = &[0x64, 0, 0, 0];
 pub const NEW: &[u8] = &[0x65, 0, 0, 0];
 
