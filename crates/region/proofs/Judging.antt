@@ -1,55 +1,55 @@
 -- What the tests of one entry decide of it. Each test that fails makes its conjunction false, whatever the others say, and where all but one hold the
 -- conjunction is that one.
 -- Assumes nothing.
-use Prim.Native.Nat.{ℕ, _+_, _-_, _/_, _%_, _≤_, _<_}
+use Prim.Native.Nat.{ℕ, _+_, _-_, _≤_, _<_}
 use native.Mathlib.Omega.{arith}
 use mathlib.Core.Path.{_≡_, refl, sym, ap, ap₂, _∙_}
 use mathlib.Core.Logic.{_≢_}
-use mathlib.Core.Bool.{Bool, true, false, not, cond, _&&_, _||_, and-true, and-false, true≢false, false≢true}
+use mathlib.Core.Bool.{Bool, true, false, not, cond, _&&_, _||_, and-true, and-false, and-assoc, true≢false, false≢true}
 use mathlib.Core.List.{List}
 use lib.ListN.{length, take, drop, length-drop}
 use lib.Dec.{eqb, leb}
-use borrow.Author.Tests.{eq-eqb, eqb-true, ne-eqb, le-leb, lt-leb, leb-true, leb-false}
+use borrow.Author.Tests.{eqb-true, ne-eqb, le-leb, lt-leb, leb-true, leb-false}
 use Rattle.model.specs.declared.Layout.{Layout}
 use Rattle.model.specs.Layout.{headerLength}
 use Rattle.model.specs.Lists.{among}
-use Rattle.model.specs.Name.{wellNamed, recordName}
+use Rattle.model.specs.Name.{Key, wellNamed, recordName}
 use Rattle.model.specs.Entry.{states, headerFieldsIn}
 use Rattle.model.specs.Walk as walk
 use Rattle.model.specs.Region.{storedAttributes, recordBit, rightLive}
 use Rattle.layout.specs.Head.{nameIn}
 use Rattle.layout.specs.declared.Entry as numbers
 use Rattle.region.specs.Walk.{entryAs}
-use Rattle.region.specs.Judge.{plainAttributes, liveState, rightName, entrySound}
+use Rattle.region.specs.Judge.{plainAttributes, liveState, rightRecord, entrySound}
 use Rattle.region.proofs.Turns.{rest, Turned}
 
-swapped : (a b c : Bool) → (a && b && c) ≡ (a && c && b)
-swapped true true c = sym (and-true c)
-swapped true false c = sym (and-false c)
-swapped false b c = refl
+-- what is asked of attributes: that they are stored, and with 0x08 that the name is a record's
+abbrev rightAttributes : ℕ → Key → Bool
+rightAttributes a k = among storedAttributes a && (not (recordBit a) || recordName k)
 
 -- attributes that are stored are those without 0x08, or 0x0F
-plain-stored : (a : ℕ) → among plainAttributes a ≡ true → (among storedAttributes a ≡ true) × (recordBit a ≡ false)
-plain-stored a h = go (eqb a 0x03) refl (eqb a 0x07) refl (eqb a 0x23) refl (eqb a 0x27) refl h
+plain-right : (a : ℕ) (k : Key) → among plainAttributes a ≡ true → rightAttributes a k ≡ true
+plain-right a k h = go (eqb a 0x03) refl (eqb a 0x07) refl (eqb a 0x23) refl (eqb a 0x27) refl h
   where
     go : (p : Bool) → eqb a 0x03 ≡ p → (q : Bool) → eqb a 0x07 ≡ q → (s : Bool) → eqb a 0x23 ≡ s → (t : Bool) → eqb a 0x27 ≡ t
-        → (p || (q || (s || (t || false)))) ≡ true → (among storedAttributes a ≡ true) × (recordBit a ≡ false)
-    go true e q f s g t i h = rw (eqb-true a 0x03 e) (refl, refl)
-    go false e true f s g t i h = rw (eqb-true a 0x07 f) (refl, refl)
-    go false e false f true g t i h = rw (eqb-true a 0x23 g) (refl, refl)
-    go false e false f false g true i h = rw (eqb-true a 0x27 i) (refl, refl)
+        → (p || (q || (s || (t || false)))) ≡ true → rightAttributes a k ≡ true
+    go true e q f s g t i h = rw (eqb-true a 0x03 e)
+    go false e true f s g t i h = rw (eqb-true a 0x07 f)
+    go false e false f true g t i h = rw (eqb-true a 0x23 g)
+    go false e false f false g true i h = rw (eqb-true a 0x27 i)
     go false e false f false g false i h = absurd (false≢true h)
 
-other-stored : (a : ℕ) → among plainAttributes a ≡ false → among storedAttributes a ≡ eqb a 0x0F
-other-stored a h = go (eqb a 0x03) (eqb a 0x07) (eqb a 0x23) (eqb a 0x27) (eqb a 0x0F) h
+other-right : (a : ℕ) (k : Key) → among plainAttributes a ≡ false → rightAttributes a k ≡ (eqb a 0x0F && recordName k)
+other-right a k h = go (eqb a 0x03) (eqb a 0x07) (eqb a 0x23) (eqb a 0x27) (eqb a 0x0F) refl h
   where
-    go : (p q s t u : Bool) → (p || (q || (s || (t || false)))) ≡ false → (p || (q || (s || (t || (u || false))))) ≡ u
-    go true q s t u h = absurd (true≢false h)
-    go false true s t u h = absurd (true≢false h)
-    go false false true t u h = absurd (true≢false h)
-    go false false false true u h = absurd (true≢false h)
-    go false false false false true h = refl
-    go false false false false false h = refl
+    go : (p q s t u : Bool) → eqb a 0x0F ≡ u → (p || (q || (s || (t || false)))) ≡ false
+        → ((p || (q || (s || (t || (u || false))))) && (not (recordBit a) || recordName k)) ≡ (u && recordName k)
+    go true q s t u e h = absurd (true≢false h)
+    go false true s t u e h = absurd (true≢false h)
+    go false false true t u e h = absurd (true≢false h)
+    go false false false true u e h = absurd (true≢false h)
+    go false false false false true e h = rw (eqb-true a 0x0F e)
+    go false false false false false e h = refl
 
 module _ (y : Layout) (r : List ℕ) (at : ℕ) (e : numbers.Entry) where
   -- ---- right if it is live
@@ -60,12 +60,9 @@ module _ (y : Layout) (r : List ℕ) (at : ℕ) (e : numbers.Entry) where
 
   right-parts : liveState (e .state) ≡ true
       → rightLive (entryAs y r at e)
-      ≡ (wellNamed (entryAs y r at e .name)
-      && (leb 1 (e .size) && leb (e .size) 2048)
-      && among storedAttributes (e .attributes)
-      && (not (recordBit (e .attributes)) || recordName (walk.entryKey (entryAs y r at e))))
+      ≡ (wellNamed (entryAs y r at e .name) && (leb 1 (e .size) && leb (e .size) 2048) && rightAttributes (e .attributes) (walk.entryKey (entryAs y r at e)))
   unfolding rightLive entryAs walk.placed
-  right-parts l = rw l
+  right-parts l = simp (l, and-assoc)
 
   pub right-empty : liveState (e .state) ≡ true → e .size < 1 → rightLive (entryAs y r at e) ≡ false
   right-empty l h = rw (right-parts l, lt-leb 1 (e .size) h, and-false (wellNamed (entryAs y r at e .name)))
@@ -74,40 +71,19 @@ module _ (y : Layout) (r : List ℕ) (at : ℕ) (e : numbers.Entry) where
   right-large l h =
       rw (right-parts l, lt-leb (e .size) 2048 h, and-false (leb 1 (e .size)), and-false (wellNamed (entryAs y r at e .name)))
 
-  right-name : liveState (e .state) ≡ true → 1 ≤ e .size → e .size ≤ 2048 → (t : Bool) → among storedAttributes (e .attributes) ≡ t
-      → rightLive (entryAs y r at e) ≡ (rightName (entryAs y r at e) && t)
-  unfolding rightName entryAs walk.placed
-  right-name l h k t q =
-      rw (right-parts l, le-leb 1 (e .size) h, le-leb (e .size) 2048 k, q, and-true (wellNamed (entryAs y r at e .name)))
-      (swapped (wellNamed (entryAs y r at e .name)) t (not (recordBit (e .attributes)) || recordName (walk.entryKey (entryAs y r at e))))
-
   -- without 0x08 the name has to be well formed
   pub right-plain : liveState (e .state) ≡ true → 1 ≤ e .size → e .size ≤ 2048 → among plainAttributes (e .attributes) ≡ true
       → rightLive (entryAs y r at e) ≡ wellNamed (entryAs y r at e .name)
   right-plain l h k q =
-      let p = plain-stored (e .attributes) q in
-      rw (right-parts l, le-leb 1 (e .size) h, le-leb (e .size) 2048 k, p .0, p .1)
-      (and-true (wellNamed (entryAs y r at e .name) && true && true) ∙ and-true (wellNamed (entryAs y r at e .name) && true) ∙ and-true (wellNamed (entryAs y r at e .name)))
+      rw (right-parts l, le-leb 1 (e .size) h, le-leb (e .size) 2048 k, plain-right (e .attributes) (walk.entryKey (entryAs y r at e)) q)
+      (and-true (wellNamed (entryAs y r at e .name) && true) ∙ and-true (wellNamed (entryAs y r at e .name)))
 
   -- with other attributes it is an error record or nothing
   pub right-other : liveState (e .state) ≡ true → 1 ≤ e .size → e .size ≤ 2048 → among plainAttributes (e .attributes) ≡ false
-      → rightLive (entryAs y r at e) ≡ (rightName (entryAs y r at e) && eqb (e .attributes) 0x0F)
-  right-other l h k q = right-name l h k (eqb (e .attributes) 0x0F) (other-stored (e .attributes) q)
-
-  -- ---- its name
-
-  pub name-wrong : wellNamed (entryAs y r at e .name) ≡ false → rightName (entryAs y r at e) ≡ false
-  unfolding rightName
-  name-wrong h = rw h
-
-  pub name-plain : wellNamed (entryAs y r at e .name) ≡ true → e .attributes / 0x08 % 2 ≢ 1 → rightName (entryAs y r at e) ≡ true
-  unfolding rightName entryAs walk.placed
-  name-plain h k = rw (h, ne-eqb (e .attributes / 0x08 % 2) 1 k)
-
-  pub name-record : wellNamed (entryAs y r at e .name) ≡ true → e .attributes / 0x08 % 2 ≡ 1
-      → rightName (entryAs y r at e) ≡ recordName (walk.entryKey (entryAs y r at e))
-  unfolding rightName entryAs walk.placed
-  name-record h k = rw (h, eq-eqb (e .attributes / 0x08 % 2) 1 k)
+      → rightLive (entryAs y r at e) ≡ rightRecord (e .attributes) (walk.entryKey (entryAs y r at e))
+  right-other l h k q =
+      rw (right-parts l, le-leb 1 (e .size) h, le-leb (e .size) 2048 k, and-true (wellNamed (entryAs y r at e .name)))
+      (ap (λ b. wellNamed (entryAs y r at e .name) && b) (other-right (e .attributes) (walk.entryKey (entryAs y r at e)) q))
 
   -- ---- sound by itself
 

@@ -1,15 +1,15 @@
 -- What is judged of a region, and of its entries one by one.
 use Prim.Native.Nat.{ℕ}
-use mathlib.Core.Bool.{Bool, not, cond, _&&_, _||_}
+use mathlib.Core.Bool.{Bool, cond, _&&_, _||_}
 use mathlib.Core.List.{List, [], _∷_}
 use lib.ListN.{length}
 use lib.Dec.{eqb}
 use Rattle.model.specs.Lists.{all, any}
-use Rattle.model.specs.Name.{wellNamed, recordName}
+use Rattle.model.specs.Name.{Key, wellNamed, recordName}
 use Rattle.model.specs.Walk.{Entry, stateOf, entryKey}
 use Rattle.model.specs.declared.Layout.{Layout}
 use Rattle.model.specs.Layout.{authenticated}
-use Rattle.model.specs.Region.{entriesIn, tailAtIn, knownState, within, live, recordBit, rightLive, isEntry, soundIn, cleanIn}
+use Rattle.model.specs.Region.{entriesIn, tailAtIn, knownState, within, live, rightLive, isEntry, soundIn, cleanIn}
 use Rattle.region.specs.declared.Scan.{Scan}
 use Rattle.region.specs.declared.Judged.{Judged}
 
@@ -21,9 +21,9 @@ liveState s = eqb s 0x3F || eqb s 0x3E
 abbrev pub plainAttributes : List ℕ
 plainAttributes = 0x03 ∷ 0x07 ∷ 0x23 ∷ 0x27 ∷ []
 
--- what *sound* asks of the name of a live entry: well formed, and with attribute 0x08 a record's
-unfoldable pub rightName : Entry → Bool
-rightName e = wellNamed (e .name) && (not (recordBit (e .header .attributes)) || recordName (entryKey e))
+-- what *sound* asks of the attributes and the name of an error record
+abbrev pub rightRecord : ℕ → Key → Bool
+rightRecord a k = wellNamed (k .name) && (eqb a 0x0F && recordName k)
 
 -- what it asks of an entry by itself, in a region of so many bytes
 unfoldable pub entrySound : ℕ → Entry → Bool

@@ -2,13 +2,13 @@
 ghost use mathlib.Core.Path.{_≡_};
 ghost use mathlib.Core.Bool.{_&&_};
 ghost use lib.ListN.{length};
-ghost use lib.Dec.{eqb};
 ghost use Rattle.model.specs.Lists.{any, among};
 ghost use Rattle.model.specs.Name.{keyed};
 ghost use Rattle.model.specs.Entry.{states};
+ghost use Rattle.model.specs.Walk.{entryKey};
 ghost use Rattle.model.specs.Region.{entriesIn, rightLive, isEntry, undoubled};
 ghost use Rattle.region.specs.Walk.{entryAs};
-ghost use Rattle.region.specs.Judge.{plainAttributes, liveState, rightName, entrySound, doubledIn, scanOf, judgedIn, judgedOf};
+ghost use Rattle.region.specs.Judge.{plainAttributes, liveState, rightRecord, entrySound, doubledIn, scanOf, judgedIn, judgedOf};
 ghost use Rattle.region.specs.Marks.{isNoted, upTo};
 use crate::Judged;
 use crate::Scan;
@@ -53,25 +53,16 @@ pub fn is_live(state: u8) -> bool
     if state == 0x3F { true } else { state == 0x3E }
 }
 
-// Whether the entry at the front of `s` has a well-formed name, and with attribute 0x08 a record's.
-fn right_name(y: Layout, s: &[u8], e: Entry) -> bool
-    ensures { λ r. ⌜ r ≡ rightName (entryAs y (now (s .entry)) 0 e) ⌝ }
-{
-    if slices::is_named(layout::name_of(y, s, e)) {
-        if e.attributes / 0x08 % 2 == 1 {
-            return layout::fixed::is_record_name(layout::name_of(y, s, e), layout::vendor_of(y, s));
-        }
-        return true;
-    }
-    false
-}
-
-// Whether the entry at the front of `s` has the attributes and the name of an error record.
+// Whether the entry at the front of `s` has the attributes of an error record, and a well-formed name that is a record's.
 fn right_record(y: Layout, s: &[u8], e: Entry) -> bool
-    ensures { λ r. ⌜ r ≡ (rightName (entryAs y (now (s .entry)) 0 e) && eqb (e .attributes) 0x0F) ⌝ }
+    ensures { λ r. ⌜ r ≡ rightRecord (e .attributes) (entryKey (entryAs y (now (s .entry)) 0 e)) ⌝ }
 {
-    if e.attributes == 0x0F {
-        return right_name(y, s, e);
+    if e.attributes != 0x0F {
+        return false;
+    }
+    let name = layout::name_of(y, s, e);
+    if slices::is_named(name) {
+        return layout::fixed::is_record_name(name, layout::vendor_of(y, s));
     }
     false
 }
