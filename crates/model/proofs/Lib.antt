@@ -23,6 +23,8 @@ pub mod Encode
 pub mod WorkBlock
 -- What the rules leave of a call that breaks none
 pub mod Requests
+-- A start-up that is given nothing
+pub mod Given
 -- A place of the lock list, and one more lock
 pub mod Locks
 -- A move between forms

@@ -1,19 +1,22 @@
 -- What the rules of a set look at among the values: its own name, and PK where it names a key. So lists that agree there are judged alike, and changes of
--- other names do not matter.
+-- other names do not matter. A set's change is about its own name, and says by itself what stands there after it.
 -- Assumes nothing.
+use Prim.Native.Nat.{ℕ}
+use native.Mathlib.Omega.{arith}
 use mathlib.Core.Path.{_≡_, refl, sym, ap, _∙_}
-use mathlib.Core.Bool.{Bool, true, false, not, cond, true≢false}
+use mathlib.Core.Bool.{Bool, true, false, not, cond, _||_, true≢false}
 use mathlib.Core.List.{List, [], _∷_, _++_}
-use mathlib.Core.Option.{Option, some}
+use mathlib.Core.Option.{Option, none, some}
+use lib.ListN.{length}
 use Rattle.model.specs.declared.Terms.{Terms}
-use Rattle.model.specs.Lists.{keep, first, isSome}
+use Rattle.model.specs.Lists.{keep, first, isSome, onSome}
 use Rattle.model.specs.Name.{Key, sameKey}
 use Rattle.model.specs.Entry.{Value, keyOf}
 use Rattle.model.specs.Region.{find}
-use Rattle.model.specs.Request.{Request, requestKey, isKeyName, keyPK, userMode, wantedVerdicts}
-use Rattle.model.specs.Change.{Change, nothing, remove, put, changeOf, changeIn, step, steps, without}
+use Rattle.model.specs.Request.{Request, requestKey, dataProper, isKeyName, keyPK, userMode, wantedVerdicts}
+use Rattle.model.specs.Change.{Change, nothing, remove, put, deletes, emptyAppend, equalTo, newValue, changeOf, changeIn, step, steps, without, leaves}
 use Rattle.model.specs.Rules.{wantedOf, standingRules, itemRules}
-use Rattle.model.proofs.Tests.{key-eq}
+use Rattle.model.proofs.Tests.{key-refl, key-eq}
 
 -- the mode is asked for key names only
 wanted-alike : (t : Terms) (r : Request) (u m : Bool) (old : Option Value) → (isKeyName (requestKey r) ≡ true → u ≡ m) → wantedOf t r u old ≡ wantedOf t r m old
@@ -81,3 +84,55 @@ pub item-alone : (t : Terms) (r : Request) (cs : List Change) (vs : List Value) 
     → itemRules t r (steps cs vs) ≡ itemRules t r vs
 unfolding userMode
 item-alone t r cs vs o p = items-alike t r (steps cs vs) vs (find-steps (requestKey r) cs vs o) (λ e. ap isSome (find-steps keyPK cs vs p))
+
+-- ---- a change of the name itself
+
+-- a change is about the name k
+abbrev Own : Key → Change → Type 0
+Own k nothing = Unit {0}
+Own k (remove j) = j ≡ k
+Own k (put v) = keyOf v ≡ k
+
+change-own : (r : Request) (old : Option Value) → Own (requestKey r) (changeOf r old)
+unfolding changeOf newValue
+change-own r old =
+    go (deletes (r .attributes) (length (dataProper r)))
+    (emptyAppend (r .attributes) (length (dataProper r)) || onSome old (λ v. equalTo (r .attributes) (dataProper r) (v .attributes) (v .bytes)) false)
+  where
+    go : (d e : Bool) → Own (requestKey r) (cond d (remove (requestKey r)) (cond e nothing (put (newValue r old))))
+    go true e = refl
+    go false true = tt
+    go false false = refl
+
+-- a name that was taken out is not there, and one that comes last is
+find-out : (k : Key) (vs : List Value) → find k (without k vs) ≡ none
+unfolding find without
+find-out k [] = refl
+find-out k (v ∷ vs) = go (sameKey (keyOf v) k) refl (find-out k vs)
+  where
+    go : (x : Bool) → sameKey (keyOf v) k ≡ x
+        → first (λ w. sameKey (keyOf w) k) (keep (λ w. not (sameKey (keyOf w) k)) vs) ≡ none
+        → first (λ w. sameKey (keyOf w) k) (cond (not (sameKey (keyOf v) k)) (v ∷ keep (λ w. not (sameKey (keyOf w) k)) vs) (keep (λ w. not (sameKey (keyOf w) k)) vs)) ≡ none
+    go true e i = simp e i
+    go false e i = simp e i
+
+find-added : (k : Key) (vs : List Value) (v : Value) → sameKey (keyOf v) k ≡ true → find k vs ≡ none → find k (vs ++ (v ∷ [])) ≡ some v
+unfolding find
+find-added k [] v e n = rw e
+find-added k (x ∷ vs) v e n = go (sameKey (keyOf x) k) n (find-added k vs v e)
+  where
+    go : (b : Bool) → cond b (some x) (find k vs) ≡ none → (find k vs ≡ none → find k (vs ++ (v ∷ [])) ≡ some v)
+        → cond b (some x) (find k (vs ++ (v ∷ []))) ≡ some v
+    go true n i = let z : _≡_ {A = ℕ} 0 1 = cc in absurd (omega arith)
+    go false n i = i n
+
+find-own : (k : Key) (c : Change) (vs : List Value) → Own k c → find k (step c vs) ≡ leaves c (find k vs)
+unfolding step leaves
+find-own k nothing vs o = refl
+find-own k (remove j) vs o = rw o (find-out k vs)
+find-own k (put v) vs o = rw o (find-added k (without k vs) v (rw o (key-refl k)) (find-out k vs))
+
+-- what stands under a set's name after its change
+pub find-changed : (r : Request) (vs : List Value) → find (requestKey r) (step (changeIn r vs) vs) ≡ leaves (changeIn r vs) (find (requestKey r) vs)
+unfolding changeIn
+find-changed r vs = find-own (requestKey r) (changeIn r vs) vs (change-own r (find (requestKey r) vs))

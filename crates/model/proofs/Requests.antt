@@ -23,7 +23,7 @@ use Rattle.model.specs.Region.{maxData, storedAttributes, recordBit, tai
 use Rattle.model.specs.Work.{idle, readyForCall, readyIn, readyForStartUp}
 use Rattle.model.specs.Request.{Request, requestKey, stampSize, timeBased, appends, withoutAppend, dataProper, stampToStore, later, properAt, rightDescriptor}
 use Rattle.model.specs.Change.{nothing, remove, put, deletes, emptyAppend, equalTo, newData, laterOf, newStamp, newValue, changeOf, changeIn, step, steps, spaceOf, isErrorRecord, otherSizes}
-use Rattle.model.specs.Rules.{firstBroken, rule1, rule2In, rule2StartUp, rule3, rule4, rule8, rule11, rule12, rule13, rule17, termsOf, imageRulesIn, requestRules, standingRules, resultRules, itemRules, roomRules, setBroken, getBroken, nextBroken, startUpBroken}
+use Rattle.model.specs.Rules.{firstBroken, rule1, rule2In, rule2StartUp, rule3, rule4, rule8, rule11, rule12, rule13, rule17, termsOf, imageRulesIn, requestRules, standingRules, resultRules, itemRules, settingRules, roomRules, setBroken, getBroken, nextBroken, startUpBroken}
 use Rattle.model.specs.Answers.{ruleNumber}
 use Rattle.model.specs.Beside.{Valid}
 use Rattle.model.proofs.Encode.{AllValid, sound-valid}
@@ -262,7 +262,7 @@ module _ (s : Session) (r : Request) (img : List ℕ) (accepted : setBroken s r 
       })
 
   pub put-fits : (v : Value) → changeIn r (valuesOf img) ≡ put v → spaceOf (step (put v) (valuesOf img)) ≤ regionSize img
-  unfolding setBroken imageRulesIn itemRules requestRules standingRules resultRules roomRules
+  unfolding setBroken imageRulesIn itemRules requestRules standingRules resultRules settingRules roomRules
   put-fits v c =
       let h : rule13 (termsOf s (requestKey r)) (regionSize img) (changeIn r (valuesOf img) ∷ []) (valuesOf img) ≡ false = unbroken _ 13 accepted in
       room-fits (termsOf s (requestKey r)) (regionSize img) v (valuesOf img) (rw c at h)

@@ -27,7 +27,7 @@ use Rattle.model.specs.StartUp.{startUpPlan, formatPlan}
 use Rattle.model.specs.Answers.{Outcome, done, stopped, refused, outcome, imageAfter, madeOf, pageOf, storesOf, decided, getPlan, nextPlan}
 use Rattle.model.specs.Move.{moveBroken, imageMoved}
 
--- "sets (deletes among them), gets, next-names and start-ups": each with its session and arguments, a start-up with custom mode, R and H
+-- "sets (deletes among them), gets, next-names and start-ups": each with its session and arguments, a start-up with custom mode, R, H and rules for settings
 pub data Call : Type 0 where
   set : Session → Request → Call
   get : Session → Key → List ℕ → Call

@@ -2,7 +2,7 @@
 use Prim.Native.Nat.{ℕ, _+_}
 use mathlib.Core.Bool.{Bool, false, not, cond, _&&_, _||_}
 use mathlib.Core.List.{List, [], _∷_, _++_}
-use mathlib.Core.Option.{Option}
+use mathlib.Core.Option.{Option, none, some}
 use lib.ListN.{length}
 use lib.Dec.{eqb}
 use Rattle.model.specs.Lists.{same, keep, onSome}
@@ -77,6 +77,12 @@ unfoldable pub step : Change → List Value → List Value
 step nothing vs = vs
 step (remove k) vs = without k vs
 step (put v) vs = without (keyOf v) vs ++ (v ∷ [])
+
+-- what stands under a change's own name after it, by what stood there
+unfoldable pub leaves : Change → Option Value → Option Value
+leaves nothing old = old
+leaves (remove k) old = none
+leaves (put v) old = some v
 
 -- changes one after another
 unfoldable pub steps : List Change → List Value → List Value

@@ -6,10 +6,11 @@ use mathlib.Core.Option.{Option, none, some}
 use lib.ListN.{length}
 use lib.Dec.{eqb, leb, ltb}
 use Rattle.model.specs.declared.Layout.{Layout}
+use Rattle.model.specs.declared.Limit.{Limit}
 use Rattle.model.specs.declared.Session.{Session}
 use Rattle.model.specs.declared.Terms.{Terms}
 use Rattle.model.specs.declared.Rule.{Rule}
-use Rattle.model.specs.declared.Rule.the-variants.{Length, Unready, Name, Attributes, KeyAttributes, Locked, Standing, Descriptor, Verdict, Stamp, Absent, DataSize, Room, Buffer, LockPhase, LockSpace, RecordName, RecordSpace}
+use Rattle.model.specs.declared.Rule.the-variants.{Length, Unready, Name, Attributes, KeyAttributes, Locked, Standing, Descriptor, Verdict, Stamp, Absent, DataSize, Room, Buffer, LockPhase, LockSpace, RecordName, RecordSpace, Setting}
 use Rattle.model.specs.Layout.{authenticated}
 use Rattle.model.specs.Lists.{same, keep, any, among, isEmpty, isSome, onSome, head}
 use Rattle.model.specs.Image.{rightLength, regionHeaderSize, regionSize}
@@ -17,9 +18,10 @@ use Rattle.model.specs.Name.{Key, sameKey, wellNamed, emptyName, recordN
 use Rattle.model.specs.Entry.{Value, keyOf}
 use Rattle.model.specs.Region.{maxData, storedAttributes, recordBit, valuesOf, find}
 use Rattle.model.specs.Work.{readyIn, readyForStartUp}
-use Rattle.model.specs.Session.{inBoot, atRuntime, customMode, reserved, countedLocks, lockSpace, locked}
+use Rattle.model.specs.Session.{isYes, inBoot, atRuntime, customMode, reserved, countedLocks, lockSpace, locked}
 use Rattle.model.specs.Request.{Request, requestKey, runtimeAccess, timeBased, appends, withoutAppend, isKeyName, userMode, wantedVerdicts, rightDescriptor, stampToStore, later}
-use Rattle.model.specs.Change.{Change, nothing, remove, put, changeOf, changeIn, steps, spaceOf, isErrorRecord, recordSizes, otherSizes}
+use Rattle.model.specs.Limits.{limitsFor, meets}
+use Rattle.model.specs.Change.{Change, nothing, remove, put, changeOf, changeIn, steps, leaves, spaceOf, isErrorRecord, recordSizes, otherSizes}
 
 -- "The first broken is the answer": of rules in checking order, each with whether it is broken
 unfoldable pub firstBroken : List (Rule × Bool) → Option Rule
@@ -104,6 +106,11 @@ rule12 nothing = false
 rule12 (remove k) = false
 rule12 (put v) = ltb maxData (length (v .bytes))
 
+-- 21. 02 (e): "when a rule for that name is broken, after 12, before 18": "Rules are tried on the data as they would stand, if any, also where nothing changes. Deletes
+--     obey only read-only, which also refuses every set.": of the rules for the name, over what stands there
+unfoldable pub rule21 : List Limit → Change → Option Value → Bool
+rule21 ls c old = any (λ t. isYes (t .fixed) || onSome (leaves c old) (λ v. not (meets t (v .bytes))) false) ls
+
 -- a change puts a value of a kind; "a delete, or a set that stores nothing, never meets" 13, and 18 has "its exemptions"
 abbrev pub puts : (Value → Bool) → Change → Bool
 puts f nothing = false
@@ -139,7 +146,7 @@ termsOf s k = record {
   records = s .setup .records;
 }
 
--- "Sets, deletes among them, meet 1 to 13", with 17 and 18 in their places: the image, the call itself, what stands, the result, room
+-- "Sets, deletes among them, meet 1 to 13", with 17, 21 and 18 in their places: the image, the call itself, what stands, the result, the rules for its name, room
 unfoldable pub imageRulesIn : Layout → List ℕ → List (Rule × Bool)
 imageRulesIn y img = (Length, rule1 img) ∷ (Unready, rule2In y img) ∷ []
 
@@ -170,12 +177,16 @@ standingRules t r user old =
 unfoldable pub resultRules : Request → Option Value → List (Rule × Bool)
 resultRules r old = (Absent, rule11 (changeOf r old) old) ∷ (DataSize, rule12 (changeOf r old)) ∷ []
 
--- all of them but room, over a list of values
+-- 01's and (a)'s but room, over a list of values
 unfoldable pub itemRules : Terms → Request → List Value → List (Rule × Bool)
 itemRules t r vs =
     requestRules t r
     ++ standingRules t r (userMode vs) (find (requestKey r) vs)
     ++ resultRules r (find (requestKey r) vs)
+
+-- the rules for its name, over the value that stands
+unfoldable pub settingRules : List Limit → Request → Option Value → List (Rule × Bool)
+settingRules ls r old = (Setting, rule21 ls (changeOf r old) old) ∷ []
 
 -- room for changes, in a region of so many bytes
 unfoldable pub roomRules : Terms → ℕ → List Change → List Value → List (Rule × Bool)
@@ -186,6 +197,7 @@ setBroken s r img =
     firstBroken
     (imageRules img
     ++ itemRules (termsOf s (requestKey r)) r (valuesOf img)
+    ++ settingRules (limitsFor (s .setup) (requestKey r)) r (find (requestKey r) (valuesOf img))
     ++ roomRules (termsOf s (requestKey r)) (regionSize img) (changeIn r (valuesOf img) ∷ []) (valuesOf img))
 
 -- "at runtime, values without RT are absent to get and next-name"
