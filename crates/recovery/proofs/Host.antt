@@ -11,14 +11,16 @@ use mathlib.Core.Option.{Option, none, some}
 use lib.ListN.{length, take, drop, length-append, take-append-drop}
 use lib.Dec.{eqb, leb, ltb}
 use borrow.Author.Tests.{le-leb}
+use Rattle.model.specs.declared.Limit.{Limit}
 use Rattle.model.specs.declared.Rule.{Rule}
 use Rattle.model.specs.declared.Rule.the-variants as rule
 use Rattle.model.specs.Lists.{isEmpty}
 use Rattle.model.specs.Entry.{Value}
-use Rattle.model.specs.Region.{valuesOf}
+use Rattle.model.specs.Region.{valuesOf, find}
+use Rattle.model.specs.Request.{requestKey}
 use Rattle.model.specs.Rules.{startUpBroken}
 use Rattle.model.specs.Stores.{Store, Write, stores, applyAll, after, Cut}
-use Rattle.model.specs.Set.{Plan, refuse, make}
+use Rattle.model.specs.Set.{Plan, refuse, make, setPlan}
 use Rattle.model.specs.StartUp.{startUpPlan, startUpStores}
 use Rattle.model.specs.Answers.{ruleNumber, storesOf, decided}
 use Rattle.model.specs.Book.{Call, set, get, next, startUp, planOf, Sized, entered, bookAfter}
@@ -27,10 +29,12 @@ use Rattle.plan.specs.declared.HostOp.{HostOp}
 use Rattle.plan.specs.declared.HostPlan.{HostPlan}
 use Rattle.plan.specs.Planned.{upTo}
 use Rattle.plan.specs.Told.{storesOfNumbers, expandNumbers, noOperations, refusalOf, Told}
-use Rattle.recovery.specs.Host.{PlannedFor, carriedOut, decidingDone, Hosting, none-yet, carried-out, power-failed, HostBegun, by-start-up, by-move, HostKeepsTheBook}
+use Rattle.recovery.specs.Claims.{forbidden}
+use Rattle.recovery.specs.Host.{PlannedFor, carriedOut, decidingDone, Hosting, none-yet, carried-out, power-failed, HostBegun, by-start-up, by-move, HostKeepsTheBook, HostKeepsSettings}
 use Rattle.recovery.proofs.Invariant.{Holding}
 use Rattle.recovery.proofs.EveryCall.{callBroken, plan-refused}
-use Rattle.recovery.proofs.Interface.{move-begins}
+use Rattle.recovery.proofs.Done.{settings-kept}
+use Rattle.recovery.proofs.Interface.{move-begins, session-limits}
 use Rattle.recovery.proofs.StartingUp.{Ready, ready-holds}
 use Rattle.recovery.proofs.Theorem.{call-kept, book-cond, call-cut, startUp-plan, startUp-refused, startUp-leaves, startUp-holds, holding-accepted, begins-ready}
 
@@ -90,6 +94,7 @@ no-rule-zero rule.RecordName = refl
 no-rule-zero rule.RecordSpace = refl
 no-rule-zero rule.Source = refl
 no-rule-zero rule.TimeBased = refl
+no-rule-zero rule.Setting = refl
 no-rule-zero rule.Worn = refl
 
 -- rule 0 is told of a plan that is accepted only
@@ -208,3 +213,22 @@ host-keeps-the-book start part content book p begun hosting again w =
     let accepted = holding-accepted book part holds in
     let told : Told (make [] (startUpStores part)) content p = subst (λ (plan : Plan). Told plan content p) (startUp-plan part accepted) again in
     (told .0, ap valuesOf (startUp-told w part content p accepted again) ∙ startUp-holds w book part holds)
+
+-- ---- rules for settings: rule 0 tells that none is broken
+
+told-unbroken : (c : Call) (part content : List ℕ) (p : HostPlan) → Told (planOf c part) content p → p .rule ≡ 0 → callBroken c part ≡ none
+told-unbroken c part content p t zero = go (callBroken c part) refl
+  where
+    go : (o : Option Rule) → callBroken c part ≡ o → callBroken c part ≡ none
+    go none e = e
+    go (some r) e = absurd (told-accepted (planOf c part) content p t zero r (plan-refused c part r e))
+
+pub host-keeps-settings : HostKeepsSettings
+host-keeps-settings setup s r part content p i long planned zero w =
+    let k = requestKey r in
+    let accepted = told-unbroken (set s r) part content p (told-of (set s r) part content p planned) zero in
+    ap₂
+    (λ (ls : List Limit) (left : List ℕ). forbidden ls (find k (valuesOf left)))
+    (sym (session-limits i k))
+    (ap (λ (ss : List Store). applyAll ss part) (told-stores w (setPlan s r part) content p planned))
+    ∙ settings-kept s r part long accepted w

@@ -1,11 +1,17 @@
--- What holds of every list of calls to the functions of the interface: by its contract each call is a step of a run, so Demand 3 speaks of it.
+-- What holds of every list of calls to the functions of the interface: by its contract each call is a step of a run, so Demand 3 speaks of it. And what holds of a set that is
+-- done in a session of a start-up, which keeps the rules for settings that it was given.
 -- Assumes nothing.
 use Prim.Native.Nat.{ℕ}
 use native.Mathlib.Omega.{arith}
 use mathlib.Core.Path.{_≡_, refl, sym, ap, _∙_, subst}
+use mathlib.Core.Bool.{Bool, true, false, cond}
 use mathlib.Core.List.{List, []}
+use lib.Dec.{leb}
 use lib.Seq.{take-nil}
 use Rattle.model.specs.declared.Layout.{Layout}
+use Rattle.model.specs.declared.Limit.{Limit}
+use Rattle.model.specs.declared.Setup.{Setup}
+use Rattle.model.specs.declared.Session.{Session}
 use Rattle.model.specs.declared.Answer.{Answer}
 use Rattle.model.specs.declared.Answer.the-variants.{Done}
 use Rattle.model.specs.declared.Context.{Context}
@@ -13,16 +19,23 @@ use Rattle.model.specs.declared.Rule.{Rule}
 use mathlib.Core.Option.{Option, none, some}
 use Rattle.model.specs.Layout.{authenticated}
 use Rattle.model.specs.Lists.{onSome}
+use Rattle.model.specs.Name.{Key}
 use Rattle.model.specs.Entry.{Value}
-use Rattle.model.specs.Region.{valuesOf}
+use Rattle.model.specs.Region.{valuesOf, find}
+use Rattle.model.specs.Session.{locked, countedPhase, withPhase, movedTo, withLock, lockedSession, kept, freshSession}
+use Rattle.model.specs.Request.{requestKey}
+use Rattle.model.specs.Limits.{limitsFor}
+use Rattle.model.specs.Rules.{lockBroken}
 use Rattle.model.specs.Stores.{stores, after, applyAll}
 use Rattle.model.specs.Set.{Plan, refuse, make}
-use Rattle.model.specs.Answers.{Outcome, done, refused, ruleNumber, answerOf, outcome, imageAfter, madeOf, pageOf, storesOf, decided}
+use Rattle.model.specs.Answers.{Outcome, done, refused, ruleNumber, answerOf, outcome, imageAfter, madeOf, pageOf, storesOf, decided, lockSession}
 use Rattle.model.specs.Move.{moveBroken, moveAnswer}
 use Rattle.model.specs.Book.{Call, set, get, next, startUp, planOf, counts, bookAfter, Run, begin, ran, cut, Begins, started, moved-in}
-use Rattle.recovery.specs.Interface.{Returned, MoveReturned, Begun, by-start-up, by-move, Calls, none-yet, returned, power-failed, InterfaceKeepsTheBook}
+use Rattle.recovery.specs.Interface.{Returned, MoveReturned, Begun, by-start-up, by-move, Calls, none-yet, returned, power-failed, InterfaceKeepsTheBook, InSession, fresh, moved, lock-asked, InterfaceKeepsSettings}
 use Rattle.recovery.proofs.EveryCall.{callBroken, acceptedPlan, plan-of}
+use Rattle.recovery.specs.Claims.{forbidden}
 use Rattle.recovery.proofs.Theorem.{demand3}
+use Rattle.recovery.proofs.Done.{sets-keep-settings}
 
 -- get and next-name make no stores
 none-made : (x : Context) (o : Option Rule) (img : List ℕ) → imageAfter x (onSome o refuse (make [] [])) img ≡ img
@@ -86,3 +99,44 @@ pub interface-keeps-the-book : InterfaceKeepsTheBook
 interface-keeps-the-book start img img′ book setup x stores begun calls again =
     let all = demand3 start _ _ (begun-begins start begun) (ran (calls-run calls) (startUp setup) tt x) in
     ap valuesOf (again .1) ∙ all .1 stores (sym (again .0))
+
+-- ---- the sessions of a start-up
+
+-- phases and locks leave what the start-up was given
+moved-setup : (s : Session) (p : ℕ) → movedTo s p .setup ≡ s .setup
+unfolding movedTo withPhase
+moved-setup s p = go (leb (countedPhase p) (countedPhase (s .phase)))
+  where
+    go : (b : Bool) → cond b s (withPhase s (countedPhase p)) .setup ≡ s .setup
+    go true = refl
+    go false = refl
+
+lock-setup : (s : Session) (k : Key) → lockSession s k .setup ≡ s .setup
+unfolding lockSession lockedSession withLock
+lock-setup s k = go (lockBroken s k) (locked s k)
+  where
+    go : (o : Option Rule) (b : Bool) → onSome o (λ rule. s) (cond b s (withLock s k)) .setup ≡ s .setup
+    go (some rule) b = refl
+    go none true = refl
+    go none false = refl
+
+kept-setup : {setup : Setup} {s : Session} → InSession setup s → s .setup ≡ kept setup
+unfolding freshSession
+kept-setup fresh = refl
+kept-setup (moved {s} i p) = moved-setup s p ∙ kept-setup i
+kept-setup (lock-asked {s} i k) = lock-setup s k ∙ kept-setup i
+
+-- and the rules among it are kept as they were given
+kept-limits : (setup : Setup) (k : Key) → limitsFor (kept setup) k ≡ limitsFor setup k
+unfolding limitsFor kept
+kept-limits setup k = refl
+
+pub session-limits : {setup : Setup} {s : Session} → InSession setup s → (k : Key) → limitsFor (s .setup) k ≡ limitsFor setup k
+session-limits {setup} i k = ap (λ (u : Setup). limitsFor u k) (kept-setup i) ∙ kept-limits setup k
+
+pub interface-keeps-settings : InterfaceKeepsSettings
+interface-keeps-settings setup s r x img img′ stores i long m =
+    let k = requestKey r in
+    let left : forbidden (limitsFor (s .setup) k) (find k (valuesOf img′)) ≡ false =
+    ap (λ (y : List ℕ). forbidden (limitsFor (s .setup) k) (find k (valuesOf y))) (m .1) ∙ sets-keep-settings s r img x stores long (sym (m .0)) in
+    ap (λ (ls : List Limit). forbidden ls (find k (valuesOf img′))) (sym (session-limits i k)) ∙ left

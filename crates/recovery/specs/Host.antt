@@ -3,15 +3,19 @@
 -- at each step. All that the host does is said in the numbers that it was told, `HostPlan`, as C sees them.
 use Prim.Native.Nat.{ℕ, suc}
 use mathlib.Core.Path.{_≡_}
-use mathlib.Core.Bool.{Bool, _&&_}
+use mathlib.Core.Bool.{Bool, false, _&&_}
 use mathlib.Core.List.{List}
 use lib.ListN.{length, take}
 use lib.Dec.{eqb, leb, ltb}
 use Rattle.model.specs.declared.Layout.{Layout}
+use Rattle.model.specs.declared.Setup.{Setup}
+use Rattle.model.specs.declared.Session.{Session}
 use Rattle.model.specs.declared.Answer.the-variants.{Done}
 use Rattle.model.specs.Layout.{authenticated}
 use Rattle.model.specs.Entry.{Value}
-use Rattle.model.specs.Region.{valuesOf}
+use Rattle.model.specs.Region.{valuesOf, find}
+use Rattle.model.specs.Request.{Request, requestKey}
+use Rattle.model.specs.Limits.{limitsFor}
 use Rattle.model.specs.Stores.{Bytes, stores, applyAll, Cut}
 use Rattle.model.specs.Set.{setPlan}
 use Rattle.model.specs.StartUp.{startUpPlan}
@@ -19,9 +23,10 @@ use Rattle.model.specs.Answers.{getPlan, nextPlan}
 use Rattle.model.specs.Book.{Call, set, get, next, startUp, Sized, bookAfter}
 use Rattle.plan.specs.declared.HostPlan.{HostPlan}
 use Rattle.plan.specs.Told.{expandNumbers, Told}
-use Rattle.recovery.specs.Interface.{MoveReturned}
+use Rattle.recovery.specs.Claims.{forbidden}
+use Rattle.recovery.specs.Interface.{MoveReturned, InSession}
 
--- A start-up was planned over these bytes: the plan and the content tell what the definitions plan. Custom mode, R and H make its session and are no part of its plan.
+-- A start-up was planned over these bytes: the plan and the content tell what the definitions plan. Custom mode, R, H and the rules for settings make its session and are no part of its plan.
 -- `vs_plan_start_up` of the C interface ensures it of its own arguments, for every image.
 abbrev pub StartUpPlanned : List ℕ → List ℕ → HostPlan → Type 0
 StartUpPlanned part content p = Told (startUpPlan part) content p
@@ -94,3 +99,15 @@ HostKeepsTheBook =
     → StartUpPlanned part content p
     → (w : ℕ)
     → (p .rule ≡ 0) × (valuesOf (carriedOut w content p part) ≡ book)
+
+-- 02 (e), of a host: what a set leaves under its name that was planned in a session with rule 0 told, and carried out, no rule forbids that the session's start-up was
+-- given for that name. On whatever bytes, and for every w.
+abbrev pub HostKeepsSettings : Type 0
+HostKeepsSettings =
+    (setup : Setup) (s : Session) (r : Request) (part content : List ℕ) (p : HostPlan)
+    → InSession setup s
+    → length (r .vendor) ≡ 16
+    → PlannedFor (set s r) part content p
+    → p .rule ≡ 0
+    → (w : ℕ)
+    → forbidden (limitsFor setup (requestKey r)) (find (requestKey r) (valuesOf (carriedOut w content p part))) ≡ false

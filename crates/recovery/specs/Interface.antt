@@ -1,22 +1,29 @@
 -- What a call to a function of the interface has done when it returned, in the word of the functions' own contracts, and what holds of every list of calls to them.
 use Prim.Native.Nat.{ℕ}
 use mathlib.Core.Path.{_≡_}
+use mathlib.Core.Bool.{false}
 use mathlib.Core.List.{List}
+use lib.ListN.{length}
 use Rattle.model.specs.declared.Layout.{Layout}
 use Rattle.model.specs.declared.Setup.{Setup}
+use Rattle.model.specs.declared.Session.{Session}
 use Rattle.model.specs.declared.Context.{Context}
 use Rattle.model.specs.declared.Answer.{Answer}
-use Rattle.model.specs.declared.Context.{Context}
 use Rattle.model.specs.declared.Answer.the-variants.{Done}
 use Rattle.model.specs.Layout.{authenticated}
+use Rattle.model.specs.Name.{Key}
 use Rattle.model.specs.Entry.{Value}
-use Rattle.model.specs.Region.{valuesOf}
+use Rattle.model.specs.Region.{valuesOf, find}
+use Rattle.model.specs.Session.{freshSession, movedTo}
+use Rattle.model.specs.Request.{Request, requestKey}
+use Rattle.model.specs.Limits.{limitsFor}
 use Rattle.model.specs.Stores.{Bytes, Cut}
 use Rattle.model.specs.Set.{setPlan}
 use Rattle.model.specs.StartUp.{startUpPlan}
-use Rattle.model.specs.Answers.{answerOf, outcome, imageAfter, madeOf, pageOf, storesOf, decided, getPlan, nextPlan}
+use Rattle.model.specs.Answers.{answerOf, outcome, imageAfter, madeOf, pageOf, storesOf, decided, getPlan, nextPlan, lockSession}
 use Rattle.model.specs.Move.{moveAnswer, imageMoved}
 use Rattle.model.specs.Book.{Call, set, get, next, startUp, planOf, Sized, counts, bookAfter}
+use Rattle.recovery.specs.Claims.{forbidden}
 
 -- A call of the interface has returned: its arguments, its context, the image before and after, and the answer. `engine::write::set`, `engine::read::get` and `next_name`, which
 -- are lent the image shared, and `engine::start::start_up` ensure it of their own arguments, for every input.
@@ -78,3 +85,19 @@ InterfaceKeepsTheBook =
     → Calls start img book
     → Returned (startUp setup) x img img′ (Done stores)
     → valuesOf img′ ≡ book
+
+-- The sessions of a start-up: the one that it makes, whatever its answer (and `vs_session_new` from the same setup), and those that calls make of it: moved to a phase, or
+-- asked for a lock, refused or not.
+pub data InSession (setup : Setup) : Session → Type 0 where
+  fresh : InSession setup (freshSession setup)
+  moved : {s : Session} → InSession setup s → (phase : ℕ) → InSession setup (movedTo s phase)
+  lock-asked : {s : Session} → InSession setup s → (k : Key) → InSession setup (lockSession s k)
+
+-- 02 (e), through the interface: what a set leaves under its name that returned done in a session, no rule forbids that the session's start-up was given for that name.
+abbrev pub InterfaceKeepsSettings : Type 0
+InterfaceKeepsSettings =
+    (setup : Setup) (s : Session) (r : Request) (x : Context) (img img′ : List ℕ) (stores : ℕ)
+    → InSession setup s
+    → length (r .vendor) ≡ 16
+    → Returned (set s r) x img img′ (Done stores)
+    → forbidden (limitsFor setup (requestKey r)) (find (requestKey r) (valuesOf img′)) ≡ false
