@@ -1,0 +1,40 @@
+-- `limits::breaks_one` meets its contract: its looks are the tests of the definition, in their order. Assumes nothing.
+use mathlib.Core.Path.{sym, ap, _∙_}
+use mathlib.Core.Bool.{not}
+use borrow.Author.Tests.{eq-eqb, ne-eqb, not-true, not-false}
+use Rattle.limits.specs.Broken.{breaksFor}
+use borrow.Author.Needs.{needs}
+use Rattle.limits.proofs.breaks_one.Statement.{statement}
+use Rattle.limits.proofs.breaks_one.Tie as tie
+
+is-for-requires : tie.Need-is-for-requires
+is-for-requires c κs = search needs
+
+returns : tie.Need-returns
+unfolding breaksFor
+returns c = rw (sym (c .before .is-for .ensures) ∙ not-true (c .before .is-for .result) (c .if1 .taken))
+
+returns-2 : tie.Need-returns-2
+unfolding breaksFor
+returns-2 c =
+    let i = c .before .before .before .is-for in
+    rw (sym (i .ensures) ∙ not-false (i .result) (c .before .before .if1 .left), ne-eqb _ _ (c .if2 .taken))
+
+returns-3 : tie.Need-returns-3
+unfolding breaksFor
+returns-3 c =
+    let i = c .before .before .before .before .is-for in
+    rw (sym (i .ensures) ∙ not-false (i .result) (c .before .before .before .if1 .left), eq-eqb _ _ (c .before .if2 .left), not-true (c .before .before .before .before .before .before .before .before .args .stands) (c .if3 .taken))
+
+meets-requires : tie.Need-meets-requires
+meets-requires c κs = search needs
+
+returns-4 : tie.Need-returns-4
+unfolding breaksFor
+returns-4 c =
+    let i = c .before .before .before .before .before .is-for in
+    rw (sym (i .ensures) ∙ not-false (i .result) (c .before .before .before .before .if1 .left), eq-eqb _ _ (c .before .before .if2 .left), not-false (c .before .before .before .before .before .before .before .before .before .args .stands) (c .before .if3 .left)) (ap not (c .meets .ensures))
+
+pub breaks-one-spec : {M : Type 1} → statement M
+breaks-one-spec =
+    tie.close (tie.spec is-for-requires returns returns-2 returns-3 meets-requires returns-4)
