@@ -23,9 +23,8 @@ use Rattle.region.specs.Walk.{entryAt, stampAt, entryAs}
 use Rattle.values.specs.declared.Found.{Found}
 use Rattle.values.specs.declared.Found.the-variants.{At, Nothing}
 use Rattle.values.specs.declared.Places.{Places}
-use Rattle.values.specs.Found.{foundOf, elseFound}
+use Rattle.values.specs.Found.{foundOf, elseFound, oldData}
 use Rattle.values.proofs.Stands.{standing-stands, nothing-first}
-use Rattle.compose.specs.Compose.{oldData}
 use Rattle.orders.proofs.EntryPlans.{standing-is}
 use Rattle.policy.specs.Descriptor.{stampOf}
 use Rattle.policy.proofs.Descriptor.{stamp-held}

@@ -11,9 +11,8 @@ ghost use Rattle.model.specs.Compact.{joined};
 ghost use Rattle.model.specs.Request.{appends};
 ghost use Rattle.model.specs.Set.{fitsTail};
 ghost use Rattle.model.specs.Rules.{rule8};
-ghost use Rattle.values.specs.Found.{elseFound};
+ghost use Rattle.values.specs.Found.{elseFound, oldData};
 ghost use Rattle.output.specs.Text.{Wrote};
-ghost use Rattle.compose.specs.Compose.{oldData};
 ghost use Rattle.change.specs.Asked.{valued, valueToPut, stampOver, stampKept, Asked, PutPlanned};
 use plan::Planned;
 use plan::Step;
@@ -34,7 +33,7 @@ fn kept_data(region: &[u8], places: Places, attributes: u32) -> &[u8]
     ensures { λ r. ⌜ now r ≡ cond (appends attributes) (oldData (now (region .entry)) (elseFound (places .added) (places .replacing))) [] ⌝ }
 {
     if policy::appends(attributes) {
-        return compose::old_data(region, lookup::standing(places));
+        return lookup::old_data(region, lookup::standing(places));
     }
     &region[..0]
 }

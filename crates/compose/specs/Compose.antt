@@ -1,12 +1,9 @@
--- The bytes of an entry's header by its fields, and the data that an append keeps.
+-- The bytes of an entry's header by its fields.
 use Prim.Native.Nat.{ℕ}
 use mathlib.Core.List.{List, [], _∷_, _++_}
 use lib.ListN.{replicate}
 use Rattle.model.specs.Lists.{bytes32}
 use Rattle.model.specs.Entry.{headerFront}
-use Rattle.region.specs.Walk.{entryAt}
-use Rattle.values.specs.declared.Found.{Found}
-use Rattle.values.specs.declared.Found.the-variants.{At, Nothing}
 
 -- up to the stamp: start id, state, zero, attributes, "We write count and key index as 0"
 unfoldable pub beforeStamp : ℕ → ℕ → List ℕ
@@ -20,8 +17,3 @@ behindStamp name size = replicate 4 0 ++ bytes32 name ++ bytes32 size
 unfoldable pub headerBytes : ℕ → ℕ → List ℕ → ℕ → ℕ → List ℕ → List ℕ
 headerBytes state attributes stamp name size vendor =
     beforeStamp state attributes ++ stamp ++ behindStamp name size ++ vendor
-
--- the data of an entry that is found; nothing has none
-abbrev pub oldData : List ℕ → Found → List ℕ
-oldData r (At at e) = entryAt r at e .bytes
-oldData r Nothing = []

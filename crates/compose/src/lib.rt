@@ -14,7 +14,7 @@ ghost use Rattle.model.specs.Change.{without};
 ghost use Rattle.model.specs.Compact.{joined};
 ghost use Rattle.region.specs.Walk.{entryAt};
 ghost use Rattle.output.specs.Text.{Wrote};
-ghost use Rattle.compose.specs.Compose.{beforeStamp, behindStamp, headerBytes, oldData};
+ghost use Rattle.compose.specs.Compose.{beforeStamp, behindStamp, headerBytes};
 use layout::Entry;
 use model::Layout;
 use region::walk;
@@ -240,16 +240,6 @@ pub fn put_values(out: &mut [u8], region: &[u8], name: &[u8], vendor: &[u8]) -> 
     let header = layout::fixed::region_header(region.len());
     let next = output::put_bytes(out, 0, &header);
     put_others(out, next, region, name, vendor)
-}
-
-// The data that an append keeps: that of the standing entry.
-pub fn old_data(region: &[u8], standing: Found) -> &[u8]
-    ensures { λ r. ⌜ now r ≡ oldData (now (region .entry)) standing ⌝ }
-{
-    match standing {
-        Found::At(at, e) => walk::data_of(region, at, e),
-        Found::Nothing => &region[..0],
-    }
 }
 
 // FF bytes up to the end of what is composed.

@@ -1,7 +1,10 @@
 -- What is found among the entries of a region, by offset and numbers.
+use Prim.Native.Nat.{ℕ}
+use mathlib.Core.List.{List, []}
 use mathlib.Core.Option.{Option, none, some}
 use Rattle.model.specs.Walk.{Entry}
 use Rattle.layout.specs.Head.{numbersOf}
+use Rattle.region.specs.Walk.{entryAt}
 use Rattle.values.specs.declared.Found.{Found}
 use Rattle.values.specs.declared.Found.the-variants.{At, Nothing}
 
@@ -14,3 +17,8 @@ foundOf none = Nothing
 abbrev pub elseFound : Found → Found → Found
 elseFound (At at e) g = At at e
 elseFound Nothing g = g
+
+-- the data of an entry that is found; nothing has none
+abbrev pub oldData : List ℕ → Found → List ℕ
+oldData r (At at e) = entryAt r at e .bytes
+oldData r Nothing = []

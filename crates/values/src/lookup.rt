@@ -4,7 +4,7 @@ ghost use Rattle.model.specs.Lists.{first};
 ghost use Rattle.model.specs.Name.{keyed};
 ghost use Rattle.model.specs.Region.{entries, isEntry, added, replacing, standing};
 ghost use Rattle.model.specs.Beside.{fromIn};
-ghost use Rattle.values.specs.Found.{foundOf, elseFound};
+ghost use Rattle.values.specs.Found.{foundOf, elseFound, oldData};
 use crate::Found;
 use crate::Places;
 use layout::Entry;
@@ -78,6 +78,16 @@ pub fn standing(places: Places) -> Found
     match added {
         Found::At(_, _) => added,
         Found::Nothing => places.replacing,
+    }
+}
+
+// The data of what stands, if anything does.
+pub fn old_data(region: &[u8], standing: Found) -> &[u8]
+    ensures { λ r. ⌜ now r ≡ oldData (now (region .entry)) standing ⌝ }
+{
+    match standing {
+        Found::At(at, e) => walk::data_of(region, at, e),
+        Found::Nothing => &region[..0],
     }
 }
 

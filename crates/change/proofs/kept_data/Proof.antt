@@ -1,7 +1,7 @@
 -- `change::kept_data` meets its contract. Assumes nothing.
 use mathlib.Core.Path.{sym, ap, _∙_}
 use denote.Ref.{now}
-use Rattle.compose.specs.Compose.{oldData}
+use Rattle.values.specs.Found.{oldData}
 use borrow.Author.Needs.{needs}
 use Rattle.change.proofs.kept_data.Statement.{statement}
 use Rattle.change.proofs.kept_data.Tie as tie

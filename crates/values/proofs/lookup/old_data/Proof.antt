@@ -1,10 +1,10 @@
--- `compose::old_data` meets its contract: the data of what stands, if anything does. Assumes nothing.
+-- `values::lookup::old_data` meets its contract: the data of what stands, if anything does. Assumes nothing.
 use mathlib.Core.Path.{sym, ap, _∙_}
 use denote.Ref.{now}
-use Rattle.compose.specs.Compose.{oldData}
+use Rattle.values.specs.Found.{oldData}
 use borrow.Author.Needs.{needs}
-use Rattle.compose.proofs.old_data.Statement.{statement}
-use Rattle.compose.proofs.old_data.Tie as tie
+use Rattle.values.proofs.lookup.old_data.Statement.{statement}
+use Rattle.values.proofs.lookup.old_data.Tie as tie
 
 enum-known-standing : tie.Need-enum-known-standing
 enum-known-standing c = search needs
