@@ -11,7 +11,7 @@ use Rattle.model.specs.declared.Session.{Session}
 use Rattle.model.specs.Lists.{same, part, any, range}
 use Rattle.model.specs.Name.{Key, wellNamed}
 use Rattle.model.specs.Session.{lockSpace, lockAt, locked}
-use Rattle.session.specs.Places.{holds}
+use Rattle.session.specs.Places.{holds, heldFrom}
 
 any-none : (f : ℕ → Bool) (i n : ℕ) → n ≡ 0 → any f (range i n) ≡ false
 any-none f i n e = rw e
@@ -32,10 +32,6 @@ module _ (locks : List ℕ) (place size : ℕ) (k : Key) {l : List ℕ} (cut : l
   pub by-vendor : {g : List ℕ} → g ≡ part (144 * place + 128) 16 locks → wellNamed l ≡ true → same l (k .name) ≡ true → holds locks place size k ≡ same g (k .vendor)
   unfolding holds
   by-vendor guid h e = rw (← cut, ← guid, h, e)
-
--- one of the places in use from i on holds the name
-unfoldable pub heldFrom : List ℕ → List ℕ → ℕ → Key → ℕ → Bool
-heldFrom sizes locks count k i = any (λ j. holds locks j (getD sizes j 0) k) (range i (min count lockSpace - i))
 
 module _ (sizes locks : List ℕ) (count : ℕ) (k : Key) (i : ℕ) where
   pub held-end : min count 16 ≤ i → heldFrom sizes locks count k i ≡ false

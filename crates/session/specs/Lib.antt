@@ -1,3 +1,3 @@
 -- Definitions that the contracts of this crate cite.
--- One place of the lock list
+-- The places of the lock list
 pub mod Places

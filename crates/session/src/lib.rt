@@ -4,10 +4,10 @@ ghost use mathlib.Core.Bool.{cond};
 ghost use Prim.Native.Nat.{_≤_, _<_};
 ghost use lib.Dec.{eqb};
 ghost use Rattle.model.specs.Name.{keyed};
-ghost use Rattle.model.specs.Session.{countedPhase, countedReserve, locked};
+ghost use Rattle.model.specs.Session.{countedPhase, countedReserve};
 ghost use Rattle.model.specs.Rules.{rule6, termsOf};
 ghost use Rattle.model.specs.Answers.{answerOf, lockOutcome, lockSession};
-ghost use Rattle.session.specs.Places.{holds};
+ghost use Rattle.session.specs.Places.{holds, heldFrom};
 use model::Answer;
 use model::Listed;
 use model::Rule;
@@ -58,13 +58,11 @@ fn is_place(locks: &[u8], place: usize, size: usize, name: &[u8], vendor: &[u8])
     slices::equal(guid, vendor)
 }
 
-// Whether a name is locked: one of the places in use holds it. A count above 16 is 16.
-pub fn is_locked(s: Session, name: &[u8], vendor: &[u8; 16]) -> bool
-    ensures { λ r. ⌜ r ≡ locked s (keyed (now (name .entry)) (now (vendor .entry))) ⌝ }
+// Whether a name is locked: one of the places in use of a lock list holds it. A count above 16 is 16. The list alone is handed over, without the rest of its session.
+fn is_locked(used: u32, sizes: [u32; 16], locks: [u8; 2304], name: &[u8], vendor: &[u8; 16]) -> bool
+    ensures { λ r. ⌜ r ≡ heldFrom sizes locks used (keyed (now (name .entry)) (now (vendor .entry))) 0 ⌝ }
 {
-    let sizes = s.sizes;
-    let locks = s.locks;
-    let count = s.count as usize;
+    let count = used as usize;
     let mut i = 0;
     while i < 16 {
         if count <= i {
@@ -85,7 +83,9 @@ fn is_barred(s: Session, name: &[u8], vendor: &[u8; 16]) -> bool
     if in_boot(s.phase) {
         return false;
     }
-    is_locked(s, name, vendor)
+    let sizes = s.sizes;
+    let locks = s.locks;
+    is_locked(s.count, sizes, locks, name, vendor)
 }
 
 // What a session says to a set of a name.
@@ -121,7 +121,9 @@ pub fn lock(s: Session, name: &[u8], vendor: &[u8; 16]) -> Listed
             session: s,
         };
     }
-    if is_locked(s, name, vendor) {
+    let sizes = s.sizes;
+    let locks = s.locks;
+    if is_locked(s.count, sizes, locks, name, vendor) {
         return Listed {
             answer: Answer::Done(0),
             session: s,

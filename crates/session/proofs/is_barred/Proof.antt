@@ -6,6 +6,7 @@ use Rattle.model.specs.Name.{keyed}
 use Rattle.model.specs.Session.{locked}
 use Rattle.model.specs.Rules.{rule6}
 use Rattle.session.proofs.Phases.{boot-phase}
+use Rattle.session.proofs.Places.{locked-held}
 use borrow.Author.Needs.{needs}
 use Rattle.session.proofs.is_barred.Statement.{statement}
 use Rattle.session.proofs.is_barred.Tie as tie
@@ -25,8 +26,8 @@ is-locked-requires c κs = search needs
 returns-2 : tie.Need-returns-2
 unfolding rule6
 returns-2 c =
-    let a = c .before .before .before .before .args in
-    rw (boot-phase (a .s) ∙ sym (c .before .before .in-boot .ensures) ∙ c .before .if1 .left) (c .is-locked .ensures ∙ sym (and-true (locked (a .s) (keyed (now (a .name)) (now (a .vendor))))))
+    let a = c .before .before .before .before .before .before .args in
+    rw (boot-phase (a .s) ∙ sym (c .before .before .before .before .in-boot .ensures) ∙ c .before .before .before .if1 .left) (c .is-locked .ensures ∙ sym (locked-held (a .s) (keyed (now (a .name)) (now (a .vendor)))) ∙ sym (and-true (locked (a .s) (keyed (now (a .name)) (now (a .vendor))))))
 
 pub is-barred-spec : {M : Type 1} → statement M
 is-barred-spec = tie.close (tie.spec in-boot-requires returns is-locked-requires returns-2)

@@ -1,24 +1,22 @@
--- `session::is_locked` meets its contract. The loop's invariant: the name is locked just if one of the places in use from `i` on holds it. Assumes nothing.
+-- `session::is_locked` meets its contract. The loop's invariant: the name is held just if one of the places in use from `i` on holds it. Assumes nothing.
 use Prim.Native.Nat.{min, _-_, _≤_}
 use native.Mathlib.Omega.{arith}
 use mathlib.Core.Path.{_≡_, refl, sym, _∙_}
 use denote.Ref.{now}
 use Rattle.model.specs.Name.{Key}
 use borrow.Author.Needs.{needs}
-use Rattle.session.proofs.Places.{heldFrom, held-end, held-here, held-next, locked-held}
+use Rattle.session.specs.Places.{heldFrom}
+use Rattle.session.proofs.Places.{held-end, held-here, held-next}
 use Rattle.session.proofs.is_locked.Statement.{statement}
 use Rattle.session.proofs.is_locked.Tie as tie
 
 abbrev Inv-loop : tie.InvT-loop
-Inv-loop name vendor sizes locks count i₀ i =
+Inv-loop used name vendor sizes locks count i₀ i =
     (i ≤ min count 16)
     × (heldFrom sizes locks count (record { name = name; vendor = vendor }) 0 ≡ heldFrom sizes locks count (record { name = name; vendor = vendor }) i)
 
 abbrev μ-loop : tie.MeasureT-loop
-μ-loop name vendor sizes locks count i₀ i = 16 - i
-
-cast-count : tie.Need-cast-count Inv-loop μ-loop
-cast-count c = search needs
+μ-loop used name vendor sizes locks count i₀ i = 16 - i
 
 loop-holds : tie.Need-loop-holds Inv-loop μ-loop
 loop-holds c = (omega arith, refl)
@@ -26,9 +24,9 @@ loop-holds c = (omega arith, refl)
 returns : tie.Need-returns Inv-loop μ-loop
 returns c =
     let l = c .before .before in
-    let a = l .before .before .before .before .before .args in
+    let a = l .before .before .args in
     let k : Key = record { name = now (a .name); vendor = now (a .vendor) } in
-    sym (locked-held (a .s) k ∙ l .loop .inv .1 ∙ held-end (a .s .sizes) (a .s .locks) (a .s .count) k (l .loop .i) (omega arith))
+    sym (l .loop .inv .1 ∙ held-end (a .t2) (a .t3) (a .used) k (l .loop .i) (omega arith))
 
 slice-aggregate-is-place : tie.Need-slice-aggregate-is-place Inv-loop μ-loop
 slice-aggregate-is-place c = search needs
@@ -48,9 +46,9 @@ is-place-requires c κs = search needs
 returns-2 : tie.Need-returns-2 Inv-loop μ-loop
 returns-2 c =
     let l = c .before .before .before .before .before .before in
-    let a = l .before .before .before .before .before .args in
+    let a = l .before .before .args in
     let k : Key = record { name = now (a .name); vendor = now (a .vendor) } in
-    sym (locked-held (a .s) k ∙ l .loop .inv .1 ∙ held-here (a .s .sizes) (a .s .locks) (a .s .count) k (l .loop .i) (omega arith) (sym (c .before .is-place .ensures) ∙ c .if2 .taken))
+    sym (l .loop .inv .1 ∙ held-here (a .t2) (a .t3) (a .used) k (l .loop .i) (omega arith) (sym (c .before .is-place .ensures) ∙ c .if2 .taken))
 
 add-i : tie.Need-add-i Inv-loop μ-loop
 add-i c = search needs
@@ -61,16 +59,16 @@ loop-less c = search needs
 loop-again : tie.Need-loop-again Inv-loop μ-loop
 loop-again c =
     let l = c .before .before .before .before .before .before in
-    let a = l .before .before .before .before .before .args in
+    let a = l .before .before .args in
     let k : Key = record { name = now (a .name); vendor = now (a .vendor) } in
-    (omega arith, l .loop .inv .1 ∙ held-next (a .s .sizes) (a .s .locks) (a .s .count) k (l .loop .i) (omega arith) (sym (c .before .is-place .ensures) ∙ c .if2 .left))
+    (omega arith, l .loop .inv .1 ∙ held-next (a .t2) (a .t3) (a .used) k (l .loop .i) (omega arith) (sym (c .before .is-place .ensures) ∙ c .if2 .left))
 
 returns-3 : tie.Need-returns-3 Inv-loop μ-loop
 returns-3 c =
     let l = c .before in
-    let a = l .before .before .before .before .before .args in
+    let a = l .before .before .args in
     let k : Key = record { name = now (a .name); vendor = now (a .vendor) } in
-    sym (locked-held (a .s) k ∙ l .loop .inv .1 ∙ held-end (a .s .sizes) (a .s .locks) (a .s .count) k (l .loop .i) (omega arith))
+    sym (l .loop .inv .1 ∙ held-end (a .t2) (a .t3) (a .used) k (l .loop .i) (omega arith))
 
 pub is-locked-spec : {M : Type 1} → statement M
 is-locked-spec =
@@ -78,7 +76,6 @@ is-locked-spec =
     (tie.spec
     Inv-loop
     μ-loop
-    cast-count
     loop-holds
     returns
     slice-aggregate-is-place

@@ -7,6 +7,7 @@ use borrow.Author.Needs.{needs}
 use borrow.Author.Tests.{not-true, not-false}
 use Rattle.model.specs.Name.{Key, wellNamed}
 use Rattle.model.specs.Session.{countedPhase, locked}
+use Rattle.session.proofs.Places.{locked-held}
 use Rattle.session.proofs.Locking.{wrong-name, wrong-phase, already, no-space, one-more}
 use Rattle.session.proofs.lock.Statement.{statement}
 use Rattle.session.proofs.lock.Tie as tie
@@ -35,19 +36,19 @@ is-locked-requires c κs = search needs
 
 returns-3 : tie.Need-returns-3
 returns-3 c =
-    let a = c .before .before .before .before .before .before .before .args in
-    let k : Key = record { name = now (a .name); vendor = now (a .vendor) } in
-    let n : wellNamed (k .name) ≡ true = sym (c .before .before .before .before .before .is-named .ensures) ∙ not-false (c .before .before .before .before .before .is-named .result) (c .before .before .before .if1 .left) in
-    let b : eqb (countedPhase (a .s .phase)) 0 ≡ true = sym (c .before .before .before .before .in-boot .ensures) ∙ not-false (c .before .before .before .before .in-boot .result) (c .before .before .if2 .left) in
-    already (a .s) k n b (sym (c .before .is-locked .ensures) ∙ c .if3 .taken)
-
-returns-4 : tie.Need-returns-4
-returns-4 c =
     let a = c .before .before .before .before .before .before .before .before .before .args in
     let k : Key = record { name = now (a .name); vendor = now (a .vendor) } in
     let n : wellNamed (k .name) ≡ true = sym (c .before .before .before .before .before .before .before .is-named .ensures) ∙ not-false (c .before .before .before .before .before .before .before .is-named .result) (c .before .before .before .before .before .if1 .left) in
     let b : eqb (countedPhase (a .s .phase)) 0 ≡ true = sym (c .before .before .before .before .before .before .in-boot .ensures) ∙ not-false (c .before .before .before .before .before .before .in-boot .result) (c .before .before .before .before .if2 .left) in
-    let l : locked (a .s) k ≡ false = sym (c .before .before .before .is-locked .ensures) ∙ c .before .before .if3 .left in
+    already (a .s) k n b (locked-held (a .s) k ∙ sym (c .before .is-locked .ensures) ∙ c .if3 .taken)
+
+returns-4 : tie.Need-returns-4
+returns-4 c =
+    let a = c .before .before .before .before .before .before .before .before .before .before .before .args in
+    let k : Key = record { name = now (a .name); vendor = now (a .vendor) } in
+    let n : wellNamed (k .name) ≡ true = sym (c .before .before .before .before .before .before .before .before .before .is-named .ensures) ∙ not-false (c .before .before .before .before .before .before .before .before .before .is-named .result) (c .before .before .before .before .before .before .before .if1 .left) in
+    let b : eqb (countedPhase (a .s .phase)) 0 ≡ true = sym (c .before .before .before .before .before .before .before .before .in-boot .ensures) ∙ not-false (c .before .before .before .before .before .before .before .before .in-boot .result) (c .before .before .before .before .before .before .if2 .left) in
+    let l : locked (a .s) k ≡ false = locked-held (a .s) k ∙ sym (c .before .before .before .is-locked .ensures) ∙ c .before .before .if3 .left in
     no-space (a .s) k n b l (c .if4 .taken)
 
 with-lock-requires : tie.Need-with-lock-requires
@@ -55,11 +56,11 @@ with-lock-requires c κs = search needs
 
 returns-5 : tie.Need-returns-5
 returns-5 c =
-    let a = c .before .before .before .before .before .before .before .before .before .before .args in
+    let a = c .before .before .before .before .before .before .before .before .before .before .before .before .args in
     let k : Key = record { name = now (a .name); vendor = now (a .vendor) } in
-    let n : wellNamed (k .name) ≡ true = sym (c .before .before .before .before .before .before .before .before .is-named .ensures) ∙ not-false (c .before .before .before .before .before .before .before .before .is-named .result) (c .before .before .before .before .before .before .if1 .left) in
-    let b : eqb (countedPhase (a .s .phase)) 0 ≡ true = sym (c .before .before .before .before .before .before .before .in-boot .ensures) ∙ not-false (c .before .before .before .before .before .before .before .in-boot .result) (c .before .before .before .before .before .if2 .left) in
-    let l : locked (a .s) k ≡ false = sym (c .before .before .before .before .is-locked .ensures) ∙ c .before .before .before .if3 .left in
+    let n : wellNamed (k .name) ≡ true = sym (c .before .before .before .before .before .before .before .before .before .before .is-named .ensures) ∙ not-false (c .before .before .before .before .before .before .before .before .before .before .is-named .result) (c .before .before .before .before .before .before .before .before .if1 .left) in
+    let b : eqb (countedPhase (a .s .phase)) 0 ≡ true = sym (c .before .before .before .before .before .before .before .before .before .in-boot .ensures) ∙ not-false (c .before .before .before .before .before .before .before .before .before .in-boot .result) (c .before .before .before .before .before .before .before .if2 .left) in
+    let l : locked (a .s) k ≡ false = locked-held (a .s) k ∙ sym (c .before .before .before .before .is-locked .ensures) ∙ c .before .before .before .if3 .left in
     let r = one-more (a .s) k n b l (c .before .if4 .left) in
     (r .0, c .with-lock .ensures ∙ r .1)
 
