@@ -1,5 +1,5 @@
--- What a decision says to the caller. It names a rule just where one of rules 3 to 13, 17 and 18 is broken; over an image that breaks neither 1 nor 2 that is the
--- answer of the set. Where it names none, it is the kind of the change, and every test is false: so a value to delete stands, and a value to put is small
+-- What a decision says to the caller. It names a rule just where one of rules 3 to 13, 17, 18 and 21 is broken; over an image that breaks neither 1 nor 2 that is
+-- the answer of the set. Where it names none, it is the kind of the change, and every test is false: so a value to delete stands, and a value to put is small
 -- enough and fits.
 -- Assumes nothing.
 use Prim.Native.Nat.{ℕ, _≤_}
@@ -10,6 +10,7 @@ use mathlib.Core.List.{List, [], _∷_, _++_, append-assoc}
 use mathlib.Core.Option.{Option, none, some}
 use lib.ListN.{length}
 use borrow.Author.Tests.{ltb-false}
+use Rattle.model.specs.declared.Limit.{Limit}
 use Rattle.model.specs.declared.Session.{Session}
 use Rattle.model.specs.declared.Terms.{Terms}
 use Rattle.model.specs.declared.Rule.{Rule}
@@ -18,8 +19,9 @@ use Rattle.model.specs.Image.{regionSize}
 use Rattle.model.specs.Entry.{Value}
 use Rattle.model.specs.Region.{maxData, valuesOf, find}
 use Rattle.model.specs.Request.{Request, requestKey, dataProper}
+use Rattle.model.specs.Limits.{limitsFor}
 use Rattle.model.specs.Change.{Change, nothing, remove, put, deletes, emptyAppend, equalTo, newValue, changeOf, changeIn}
-use Rattle.model.specs.Rules.{firstBroken, rule12, termsOf, imageRules, requestRules, standingRules, resultRules, itemRules, roomRules, setBroken}
+use Rattle.model.specs.Rules.{firstBroken, rule12, termsOf, imageRules, requestRules, standingRules, resultRules, itemRules, settingRules, roomRules, setBroken}
 use Rattle.model.proofs.Requests.{broken-append, unbroken}
 use Rattle.decision.specs.declared.Decision.{Decision}
 use Rattle.decision.specs.declared.Decision.the-variants.{Nothing, Remove, Put}
@@ -35,18 +37,19 @@ named-rule none (put v) = refl
 
 -- the first broken rule of a set over an image that breaks neither 1 nor 2: with it the model's laws on a set that breaks none apply
 pub set-broken : (s : Session) (q : Request) (img : List ℕ) → firstBroken (imageRules img) ≡ none
-    → setBroken s q img ≡ brokenOf (decisionOf (termsOf s (requestKey q)) q (regionSize img) (valuesOf img))
+    → setBroken s q img ≡ brokenOf (decisionOf (limitsFor (s .setup) (requestKey q)) (termsOf s (requestKey q)) q (regionSize img) (valuesOf img))
 unfolding setBroken decisionOf
 set-broken s q img h =
     let t : Terms = termsOf s (requestKey q) in
     let vs : List Value = valuesOf img in
     let i : List (Rule × Bool) = imageRules img in
     let a : List (Rule × Bool) = itemRules t q vs in
+    let b : List (Rule × Bool) = settingRules (limitsFor (s .setup) (requestKey q)) q (find (requestKey q) vs) in
     let d : List (Rule × Bool) = roomRules t (regionSize img) (changeIn q vs ∷ []) vs in
-    ap firstBroken (append-assoc i a d)
-    ∙ broken-append i (a ++ d)
-    ∙ ap (λ (o : Option Rule). orElse o (firstBroken (a ++ d))) h
-    ∙ sym (named-rule (firstBroken (a ++ d)) (changeIn q vs))
+    ap firstBroken (ap (λ (xs : List (Rule × Bool)). xs ++ d) (append-assoc i a b) ∙ append-assoc i (a ++ b) d)
+    ∙ broken-append i (a ++ b ++ d)
+    ∙ ap (λ (o : Option Rule). orElse o (firstBroken (a ++ b ++ d))) h
+    ∙ sym (named-rule (firstBroken (a ++ b ++ d)) (changeIn q vs))
 
 -- ---- the change
 
@@ -103,18 +106,19 @@ module _ (t : Terms) (q : Request) (vs : List Value) where
       let e : rule12 (changeIn q vs) ≡ false = unbroken _ 12 (p .0) in
       ltb-false maxData (length (new .bytes)) (rw (kind-put q (find (requestKey q) vs) (p .1)) at e)
 
-module _ (t : Terms) (q : Request) (size : ℕ) (vs : List Value) where
-  kind-of : (k : Decision) → brokenOf k ≡ none → decisionOf t q size vs ≡ k → kindOf (changeIn q vs) ≡ k
+module _ (ls : List Limit) (t : Terms) (q : Request) (size : ℕ) (vs : List Value) where
+  kind-of : (k : Decision) → brokenOf k ≡ none → decisionOf ls t q size vs ≡ k → kindOf (changeIn q vs) ≡ k
   unfolding decisionOf
-  kind-of k b h = decided-none (firstBroken (itemRules t q vs ++ roomRules t size (changeIn q vs ∷ []) vs)) (kindOf (changeIn q vs)) k h b .1
+  kind-of k b h =
+      decided-none (firstBroken (itemRules t q vs ++ settingRules ls q (find (requestKey q) vs) ++ roomRules t size (changeIn q vs ∷ []) vs)) (kindOf (changeIn q vs)) k h b .1
 
-  pub nothing-change : decisionOf t q size vs ≡ Nothing → changeIn q vs ≡ nothing
+  pub nothing-change : decisionOf ls t q size vs ≡ Nothing → changeIn q vs ≡ nothing
   nothing-change h = kind-nothing (changeIn q vs) (kind-of Nothing refl h)
 
-  pub remove-change : decisionOf t q size vs ≡ Remove → changeIn q vs ≡ remove (requestKey q)
+  pub remove-change : decisionOf ls t q size vs ≡ Remove → changeIn q vs ≡ remove (requestKey q)
   unfolding changeIn
   remove-change h = kind-remove q (find (requestKey q) vs) (kind-of Remove refl h)
 
-  pub put-change : decisionOf t q size vs ≡ Put → changeIn q vs ≡ put (new t q vs)
+  pub put-change : decisionOf ls t q size vs ≡ Put → changeIn q vs ≡ put (new t q vs)
   unfolding changeIn
   put-change h = kind-put q (find (requestKey q) vs) (kind-of Put refl h)

@@ -1,5 +1,6 @@
 -- The decision by the parts in which it is judged. Rules 3 to 5, 17 and 6 look at no more of a request than its name and attributes; rules 7 to 10 look at the
--- value that stands by its entry, and at the stamp only where rule 8 is kept; the rest goes by what the set asks for, and by room last.
+-- value that stands by its entry, and at the stamp only where rule 8 is kept; the rest goes by what the set asks for, by the
+-- rules for its name, and by room last.
 -- Assumes nothing.
 use Prim.Native.Nat.{ℕ, _+_, _-_, _≤_}
 use native.Mathlib.Omega.{arith}
@@ -10,9 +11,10 @@ use mathlib.Core.Option.{Option, none, some}
 use lib.ListN.{length, length-append}
 use lib.Dec.{ltb}
 use Rattle.model.specs.Layout.{authenticated}
+use Rattle.model.specs.declared.Limit.{Limit}
 use Rattle.model.specs.declared.Terms.{Terms}
 use Rattle.model.specs.declared.Rule.{Rule}
-use Rattle.model.specs.declared.Rule.the-variants.{Standing, Descriptor, Verdict, Stamp, Absent, DataSize}
+use Rattle.model.specs.declared.Rule.the-variants.{Standing, Descriptor, Verdict, Stamp, Absent, DataSize, Setting}
 use Rattle.model.specs.Lists.{keep, isEmpty, isSome, onSome, orElse}
 use Rattle.model.specs.Name.{Key}
 use Rattle.model.specs.Entry.{Value, headerSize, rounded, entrySize}
@@ -20,20 +22,22 @@ use Rattle.model.specs.Walk as walk
 use Rattle.model.specs.Region.{maxData, recordBit, sound, entries, values, standing, find}
 use Rattle.model.specs.Request.{Request, requestKey, appends, keyPK, userMode, wantedVerdicts, dataProper, stampToStore, later}
 use Rattle.model.specs.Change.{Change, nothing, remove, put, deletes, emptyAppend, equalTo, newData, newValue, changeOf, changeIn, step, steps, entrySizes, isErrorRecord, recordSizes, otherSizes}
-use Rattle.model.specs.Rules.{firstBroken, rule7, rule8, rule9, rule10, rule11, rule12, rule13, rule18, wantedOf, requestRules, standingRules, resultRules, itemRules, roomRules}
+use Rattle.model.specs.Rules.{firstBroken, rule7, rule8, rule9, rule10, rule11, rule12, rule13, rule18, rule21, wantedOf, requestRules, standingRules, resultRules, itemRules, settingRules, roomRules}
 use Rattle.model.proofs.Requests.{broken-append, unbroken, record-append}
 use Rattle.model.proofs.Chunks.{sound-parts}
 use Rattle.model.proofs.Encode as encode
 use Rattle.region.specs.Walk.{entryAt, stampAt, entryAs}
-use Rattle.values.specs.Found.{foundOf}
+use Rattle.values.specs.Found.{foundOf, oldData}
 use Rattle.values.specs.declared.Found.{Found}
 use Rattle.values.specs.declared.Found.the-variants as found
+use Rattle.limits.specs.Broken.{brokenBy, leavesSome}
+use Rattle.limits.proofs.Tried.{tried-as}
 use Rattle.policy.specs.Descriptor.{stampOf}
 use Rattle.policy.proofs.Descriptor.{stamp-right}
 use Rattle.decision.specs.declared.Decision.{Decision}
 use Rattle.decision.specs.declared.Decision.the-variants.{Broken, Nothing, Remove, Put}
 use Rattle.decision.specs.Decision.{requestOf, kindOf, decided, itemOf, decisionOf}
-use Rattle.decision.specs.Parts.{onFound, valueAt, stands, standingBy, notLater, verdictBy, equalBy, kindBy, newSize, oldRecords, oldOthers, recordsAfter, othersAfter, roomBy, roomAfter, resultBy, outcomeBy, roomedBy}
+use Rattle.decision.specs.Parts.{onFound, valueAt, stands, standingBy, notLater, verdictBy, equalBy, kindBy, keptData, leavesBy, newSize, oldRecords, oldOthers, recordsAfter, othersAfter, roomBy, roomAfter, resultBy, outcomeBy, limitedBy, roomedBy}
 use Rattle.decision.proofs.Broken.{later-broken}
 use Rattle.decision.proofs.Old.{stands-some, old-value, mode-standing, stamp-read}
 use Rattle.decision.proofs.Space.{sizeIf, sizeOf, old-counts, put-sizes, all-sizes}
@@ -59,16 +63,19 @@ module _ (r : List ℕ) (q : Request) where
   equal-numbers (found.At at e) = refl
   equal-numbers found.Nothing = refl
 
-  size-numbers : (old : Found) → length (newData q (valueAt r old)) ≡ newSize r old (q .attributes) (length (dataProper q))
-  unfolding newData newSize
-  size-numbers old = go (appends (q .attributes)) old
+  data-numbers : (old : Found) → newData q (valueAt r old) ≡ keptData r old (q .attributes) ++ dataProper q
+  unfolding newData keptData entryAs walk.placed
+  data-numbers old = go (appends (q .attributes)) old
     where
       go : (t : Bool) (old : Found)
-          → length (cond t (onSome (valueAt r old) (λ v. v .bytes) [] ++ dataProper q) (dataProper q))
-          ≡ cond t (onFound old (λ at e. length (entryAt r at e .bytes)) 0 + length (dataProper q)) (length (dataProper q))
-      go true (found.At at e) = length-append (entryAt r at e .bytes) (dataProper q)
-      go true found.Nothing = omega arith
+          → cond t (onSome (valueAt r old) (λ v. v .bytes) [] ++ dataProper q) (dataProper q) ≡ cond t (oldData r old) [] ++ dataProper q
+      go true (found.At at e) = refl
+      go true found.Nothing = refl
       go false old = refl
+
+  size-numbers : (old : Found) → length (newData q (valueAt r old)) ≡ newSize r old (q .attributes) (length (dataProper q))
+  unfolding newSize
+  size-numbers old = ap length (data-numbers old) ∙ length-append (keptData r old (q .attributes)) (dataProper q)
 
 -- and of its stamp, where the descriptor's is whole
 stamp-numbers : (r : List ℕ) (q : Request) → rule8 (q .attributes) (q .bytes) ≡ false → (old : Found) → old ≡ foundOf (standing (requestKey q) (entries r))
@@ -114,6 +121,30 @@ outcome-cases false false k v old = go (ltb maxData (length (v .bytes)))
 decided-else : (a b : Option Rule) (d : Decision) → decided (orElse a b) d ≡ decided a (decided b d)
 decided-else (some rule) b d = refl
 decided-else none b d = refl
+
+-- rule 21, over what was decided before it
+limited-cases : (o : Option Rule) (forbidden : Bool) (c : Change)
+    → decided (orElse o (firstBroken ((Setting, forbidden) ∷ []))) (kindOf c) ≡ limitedBy forbidden (decided o (kindOf c))
+unfolding firstBroken limitedBy
+limited-cases (some rule) forbidden c = refl
+limited-cases none true nothing = refl
+limited-cases none true (remove k) = refl
+limited-cases none true (put v) = refl
+limited-cases none false nothing = refl
+limited-cases none false (remove k) = refl
+limited-cases none false (put v) = refl
+
+-- what is put after it was put before it
+pub limited-put : (forbidden : Bool) (d : Decision) → limitedBy forbidden d ≡ Put → d ≡ Put
+unfolding limitedBy
+limited-put true (Broken rule) h = h
+limited-put true Nothing h = let z : _≡_ {A = ℕ} 0 1 = cc in absurd (omega arith)
+limited-put true Remove h = let z : _≡_ {A = ℕ} 0 1 = cc in absurd (omega arith)
+limited-put true Put h = refl
+limited-put false (Broken rule) h = h
+limited-put false Nothing h = h
+limited-put false Remove h = h
+limited-put false Put h = h
 
 -- room is asked last, of a value to put
 room-rules : (t : Terms) (size : ℕ) (v : Value) (vs : List Value)
@@ -223,6 +254,18 @@ module _ (t : Terms) (q : Request) (r : List ℕ) (sounds : sound r ≡ true) (o
     pub none-broken : firstBroken parts ≡ none → itemOf t q vs ≡ outcomeBy r old (q .attributes) (dataProper q)
     none-broken a = item-here ∙ rw (kept, a)
 
+  -- ---- the rules for its name
+
+  -- one of them is broken, by what was found
+  pub forbidden-here : (ls : List Limit)
+      → brokenBy ls (leavesBy old (q .attributes) (length (dataProper q))) (keptData r old (q .attributes) ++ dataProper q)
+      ≡ rule21 ls (changeIn q vs) (find (requestKey q) vs)
+  unfolding changeIn leavesBy leavesSome
+  forbidden-here ls =
+      ap₂ (λ (s : Bool) (bytes : List ℕ). brokenBy ls (not (deletes (q .attributes) (length (dataProper q))) && (not (emptyAppend (q .attributes) (length (dataProper q))) || s)) bytes)
+      there (sym (data-numbers r q old) ∙ ap (newData q) value)
+      ∙ sym (tried-as ls q (find (requestKey q) vs))
+
   -- ---- room
 
   distinct : encode.Distinct vs
@@ -287,9 +330,22 @@ module _ (t : Terms) (q : Request) (r : List ℕ) (sounds : sound r ≡ true) (o
       go false true e = let z : _≡_ {A = ℕ} 0 1 = cc in absurd (omega arith)
       go false false e = cc
 
-  pub decision-here : decisionOf t q (length r) vs ≡ roomedBy (itemOf t q vs) (firstBroken (roomAfter t r old (recordBit (q .attributes)) size))
-  unfolding decisionOf itemOf
-  decision-here =
-      ap (λ (o : Option Rule). decided o (kindOf (changeIn q vs))) (broken-append (itemRules t q vs) (roomRules t (length r) (changeIn q vs ∷ []) vs))
-      ∙ room-cases (firstBroken (itemRules t q vs)) (changeIn q vs) (firstBroken (roomAfter t r old (recordBit (q .attributes)) size)) t (length r) vs
+  pub decision-here : (ls : List Limit)
+      → decisionOf ls t q (length r) vs
+      ≡ roomedBy
+      (limitedBy (brokenBy ls (leavesBy old (q .attributes) (length (dataProper q))) (keptData r old (q .attributes) ++ dataProper q)) (itemOf t q vs))
+      (firstBroken (roomAfter t r old (recordBit (q .attributes)) size))
+  unfolding decisionOf itemOf settingRules changeIn
+  decision-here ls =
+      let c : Change = changeIn q vs in
+      let a : List (Rule × Bool) = itemRules t q vs in
+      let b : Bool = rule21 ls c (find (requestKey q) vs) in
+      let d : List (Rule × Bool) = roomRules t (length r) (c ∷ []) vs in
+      let full : Option Rule = firstBroken (roomAfter t r old (recordBit (q .attributes)) size) in
+      ap (λ (o : Option Rule). decided o (kindOf c)) (broken-append (a ++ ((Setting, b) ∷ [])) d)
+      ∙ room-cases (firstBroken (a ++ ((Setting, b) ∷ []))) c full t (length r) vs
       (λ v e. ap (λ (w : Value). firstBroken (roomRules t (length r) (put w ∷ []) vs)) (puts-new v e) ∙ sym room-here)
+      ∙ ap (λ (x : Decision). roomedBy x full)
+      (ap (λ (o : Option Rule). decided o (kindOf c)) (broken-append a ((Setting, b) ∷ []))
+      ∙ limited-cases (firstBroken a) b c
+      ∙ ap (λ (f : Bool). limitedBy f (decided (firstBroken a) (kindOf c))) (sym (forbidden-here ls)))

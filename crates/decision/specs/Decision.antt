@@ -1,14 +1,16 @@
--- The decision on a set: the first broken of rules 3 to 13, 17 and 18, or what the set does to the values.
+-- The decision on a set: the first broken of rules 3 to 13, 17, 18 and 21, or what the set does to the values.
 use Prim.Native.Nat.{ℕ}
 use mathlib.Core.List.{List, [], _∷_, _++_}
 use mathlib.Core.Option.{Option, none, some}
+use Rattle.model.specs.declared.Limit.{Limit}
 use Rattle.model.specs.declared.Terms.{Terms}
 use Rattle.model.specs.declared.Rule.{Rule}
 use Rattle.model.specs.Lists.{onSome}
 use Rattle.model.specs.Entry.{Value}
-use Rattle.model.specs.Request.{Request}
+use Rattle.model.specs.Region.{find}
+use Rattle.model.specs.Request.{Request, requestKey}
 use Rattle.model.specs.Change.{Change, nothing, remove, put, changeIn}
-use Rattle.model.specs.Rules.{firstBroken, itemRules, roomRules}
+use Rattle.model.specs.Rules.{firstBroken, itemRules, settingRules, roomRules}
 use Rattle.decision.specs.declared.Decision.{Decision}
 use Rattle.decision.specs.declared.Decision.the-variants.{Broken, Nothing, Remove, Put}
 
@@ -37,10 +39,12 @@ decided broken what = onSome broken (λ rule. Broken rule) what
 unfoldable pub itemOf : Terms → Request → List Value → Decision
 itemOf t r vs = decided (firstBroken (itemRules t r vs)) (kindOf (changeIn r vs))
 
--- by these, 18 and 13, over a region of so many bytes with these values
-unfoldable pub decisionOf : Terms → Request → ℕ → List Value → Decision
-decisionOf t r size vs =
-    decided (firstBroken (itemRules t r vs ++ roomRules t size (changeIn r vs ∷ []) vs)) (kindOf (changeIn r vs))
+-- by these, 21 with these rules for its name, 18 and 13, over a region of so many bytes with these values
+unfoldable pub decisionOf : List Limit → Terms → Request → ℕ → List Value → Decision
+decisionOf ls t r size vs =
+    decided
+    (firstBroken (itemRules t r vs ++ settingRules ls r (find (requestKey r) vs) ++ roomRules t size (changeIn r vs ∷ []) vs))
+    (kindOf (changeIn r vs))
 
 -- the rule that a decision names, if any
 abbrev pub brokenOf : Decision → Option Rule

@@ -7,7 +7,7 @@ use lib.ListN.{length}
 use lib.Dec.{ltb}
 use Rattle.model.specs.declared.Rule.{Rule}
 use Rattle.model.specs.declared.Terms.{Terms}
-use Rattle.model.specs.declared.Rule.the-variants.{Standing, Descriptor, Verdict, Stamp, Absent, DataSize, Room, RecordSpace}
+use Rattle.model.specs.declared.Rule.the-variants.{Standing, Descriptor, Verdict, Stamp, Absent, DataSize, Room, RecordSpace, Setting}
 use Rattle.model.specs.Lists.{isEmpty, onSome}
 use Rattle.model.specs.Image.{regionHeaderSize}
 use Rattle.model.specs.Entry.{Value, entrySize}
@@ -18,6 +18,7 @@ use Rattle.model.specs.Change.{deletes, emptyAppend, equalTo, recordSizes, othe
 use Rattle.model.specs.Rules.{rule7, rule8, rule9}
 use Rattle.layout.specs.declared.Entry as numbers
 use Rattle.region.specs.Walk.{entryAt, stampAt}
+use Rattle.values.specs.Found.{oldData}
 use Rattle.values.specs.declared.Found.{Found}
 use Rattle.values.specs.declared.Found.the-variants as found
 use Rattle.policy.specs.Descriptor.{stampIn}
@@ -69,9 +70,17 @@ unfoldable pub kindBy : List ℕ → Found → ℕ → List ℕ → Decision
 kindBy r old a proper =
     cond (deletes a (length proper)) Remove (cond (emptyAppend a (length proper) || equalBy r old a proper) Nothing Put)
 
+-- the data that an append keeps
+unfoldable pub keptData : List ℕ → Found → ℕ → List ℕ
+keptData r old a = cond (appends a) (oldData r old) []
+
+-- a value would stand after a set, by what stands, attributes and the size of its data proper
+unfoldable pub leavesBy : Found → ℕ → ℕ → Bool
+leavesBy old a size = not (deletes a size) && (not (emptyAppend a size) || stands old)
+
 -- the size of the data that a set would store
 unfoldable pub newSize : List ℕ → Found → ℕ → ℕ → ℕ
-newSize r old a size = cond (appends a) (onFound old (λ at e. length (entryAt r at e .bytes)) 0 + size) size
+newSize r old a size = length (keptData r old a) + size
 
 -- the size that the value that stands takes, where it is an error record, and where it is not
 unfoldable pub oldRecords : List ℕ → Found → ℕ
@@ -107,6 +116,13 @@ resultBy there Put size = cond (ltb maxData size) (Broken DataSize) Put
 -- what a set that breaks none of rules 3 to 10 comes to: by what stands, attributes and data proper
 unfoldable pub outcomeBy : List ℕ → Found → ℕ → List ℕ → Decision
 outcomeBy r old a proper = resultBy (stands old) (kindBy r old a proper) (newSize r old a (length proper))
+
+-- rule 21, by whether one of the rules for the name is broken
+unfoldable pub limitedBy : Bool → Decision → Decision
+limitedBy forbidden (Broken rule) = Broken rule
+limitedBy forbidden Nothing = cond forbidden (Broken Setting) Nothing
+limitedBy forbidden Remove = cond forbidden (Broken Setting) Remove
+limitedBy forbidden Put = cond forbidden (Broken Setting) Put
 
 -- room for a value to put
 unfoldable pub roomedBy : Decision → Option Rule → Decision

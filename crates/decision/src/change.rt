@@ -1,21 +1,27 @@
-// What a set asks for, and rules 11, 12, 18 and 13 on its result.
+// What a set asks for, and rules 11, 12, 21, 18 and 13 on its result.
 ghost use mathlib.Core.Path.{_≡_};
 ghost use mathlib.Core.Bool.{true};
+ghost use mathlib.Core.List.{_++_};
 ghost use Prim.Native.Nat.{_+_, _<_, _≤_, _^_};
 ghost use lib.ListN.{length};
+ghost use Rattle.model.specs.Name.{keyed};
 ghost use Rattle.model.specs.Entry.{rounded};
 ghost use Rattle.model.specs.Region.{recordBit, entries, values};
+ghost use Rattle.model.specs.Limits.{limitsFor};
 ghost use Rattle.model.specs.Change.{recordSizes, otherSizes};
 ghost use Rattle.model.specs.Rules.{firstBroken};
-ghost use Rattle.decision.specs.Parts.{judgedOf, stands, equalBy, kindBy, newSize, oldRecords, oldOthers, recordsAfter, othersAfter, roomBy, roomAfter, resultBy, outcomeBy, roomedBy};
+ghost use Rattle.limits.specs.Broken.{brokenBy};
+ghost use Rattle.decision.specs.Parts.{judgedOf, stands, equalBy, kindBy, keptData, leavesBy, newSize, oldRecords, oldOthers, recordsAfter, othersAfter, roomBy, roomAfter, resultBy, outcomeBy, limitedBy, roomedBy};
 use crate::Decision;
 use crate::Judged;
 use model::Rule;
+use model::Setup;
 use model::Terms;
 use region::walk;
 use values::Found;
 use values::Sums;
 use values::list;
+use values::lookup;
 
 // Whether a value stands.
 pub fn stands(old: Found) -> bool
@@ -58,23 +64,78 @@ fn kind(region: &[u8], old: Found, attributes: u32, proper: &[u8]) -> Decision
     Decision::Put
 }
 
+// "Append joins the data": those that a set keeps.
+fn kept_data(region: &[u8], old: Found, attributes: u32) -> &[u8]
+    ensures { λ r. ⌜ now r ≡ keptData (now (region .entry)) old attributes ⌝ }
+{
+    if policy::appends(attributes) {
+        return lookup::old_data(region, old);
+    }
+    &region[..0]
+}
+
+// Whether a value would stand after a set.
+fn leaves(old: Found, attributes: u32, size: usize) -> bool
+    ensures { λ r. ⌜ r ≡ leavesBy old attributes size ⌝ }
+{
+    if policy::deletes(attributes, size) {
+        return false;
+    }
+    if policy::empty_append(attributes, size) {
+        return stands(old);
+    }
+    true
+}
+
+// Whether a set breaks one of the rules for its name. Without rules nothing is looked at.
+pub fn forbids(
+    u: Setup,
+    region: &[u8],
+    old: Found,
+    name: &[u8],
+    vendor: &[u8; 16],
+    attributes: u32,
+    proper: &[u8],
+) -> bool
+    ensures { λ r. ⌜ r ≡ brokenBy (limitsFor u (keyed (now (name .entry)) (now (vendor .entry))))
+        (leavesBy old attributes (length (now (proper .entry))))
+        (keptData (now (region .entry)) old attributes ++ now (proper .entry)) ⌝ }
+{
+    if u.rules == 0 {
+        return false;
+    }
+    limits::breaks(
+        u,
+        name,
+        vendor,
+        leaves(old, attributes, proper.len()),
+        kept_data(region, old, attributes),
+        proper,
+    )
+}
+
+// Rule 21, where none before it is broken.
+pub fn limited(item: Decision, forbidden: bool) -> Decision
+    ensures { λ r. ⌜ r ≡ limitedBy forbidden item ⌝ }
+{
+    if !forbidden {
+        return item;
+    }
+    match item {
+        Decision::Broken(_) => item,
+        Decision::Nothing => Decision::Broken(Rule::Setting),
+        Decision::Remove => Decision::Broken(Rule::Setting),
+        Decision::Put => Decision::Broken(Rule::Setting),
+    }
+}
+
 // The size of the data that would stand: an append's come behind the old.
 fn new_size(region: &[u8], old: Found, attributes: u32, size: usize) -> usize
     requires { ⌜ size < 2 ^ 63 ⌝ }
     ensures { λ r. ⌜ r ≡ newSize (now (region .entry)) old attributes size ⌝ }
 {
-    if policy::appends(attributes) {
-        match old {
-            Found::At(at, e) => {
-                let own = walk::data_of(region, at, e);
-                return own.len() + size;
-            }
-            Found::Nothing => {
-                return size;
-            }
-        }
-    }
-    size
+    let kept = kept_data(region, old, attributes);
+    kept.len() + size
 }
 
 // The size that the value that stands takes, by its class.

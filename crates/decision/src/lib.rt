@@ -1,4 +1,4 @@
-// The decision on a set over a sound region: the first broken of rules 3 to 13, 17 and 18, or what the set does to the values.
+// The decision on a set over a sound region: the first broken of rules 3 to 13, 17, 18 and 21, or what the set does to the values.
 ghost use mathlib.Core.Path.{_≡_};
 ghost use mathlib.Core.Bool.{true};
 ghost use mathlib.Core.List.{_++_};
@@ -8,12 +8,14 @@ ghost use Rattle.model.specs.Lists.{isSome};
 ghost use Rattle.model.specs.Name.{keyed};
 ghost use Rattle.model.specs.Region.{sound, entries, values, added, replacing, standing};
 ghost use Rattle.model.specs.Request.{keyPK, wantedVerdicts};
+ghost use Rattle.model.specs.Limits.{limitsFor};
 ghost use Rattle.model.specs.Rules.{firstBroken};
 ghost use Rattle.values.specs.Found.{foundOf};
 ghost use Rattle.policy.specs.Descriptor.{stampOf};
 ghost use Rattle.decision.specs.Decision.{requestOf, itemOf, decisionOf};
 ghost use Rattle.decision.specs.Parts.{judgedOf, stands, standingBy, verdictBy};
 use model::Rule;
+use model::Setup;
 use model::Terms;
 use values::Found;
 use values::Places;
@@ -121,8 +123,9 @@ fn judge(
     }
 }
 
-// The decision on a set, and the places of the name's entries.
+// The decision on a set, and the places of the name's entries. Whether 21 is broken is asked first, when the table of rules is copied once at most, and told in its place.
 pub fn decide(
+    u: Setup,
     t: Terms,
     region: &[u8],
     name: &[u8],
@@ -134,13 +137,16 @@ pub fn decide(
 ) -> Decided
     requires { ⌜ sound (now region) ≡ true ⌝ }
     requires { ⌜ length (now region) ≤ 28672 ⌝ }
-    ensures { λ r. ⌜ (r .what ≡ decisionOf t (requestOf (now (name .entry)) (now (vendor .entry)) attributes (now (bytes .entry)) presence verdict)
+    ensures { λ r. ⌜ (r .what ≡ decisionOf (limitsFor u (keyed (now (name .entry)) (now (vendor .entry)))) t
+        (requestOf (now (name .entry)) (now (vendor .entry)) attributes (now (bytes .entry)) presence verdict)
         (length (now (region .entry))) (values (entries (now (region .entry)))))
         × (r .places .added ≡ foundOf (added (keyed (now (name .entry)) (now (vendor .entry))) (entries (now (region .entry)))))
         × (r .places .replacing ≡ foundOf (replacing (keyed (now (name .entry)) (now (vendor .entry))) (entries (now (region .entry))))) ⌝ }
 {
     let places = lookup::places(region, name, vendor);
     let old = lookup::standing(places);
+    let proper = policy::proper(attributes, bytes);
+    let forbidden = change::forbids(u, region, old, name, vendor, attributes, proper);
     let item = judge(
         t,
         region,
@@ -153,13 +159,13 @@ pub fn decide(
         verdict,
     );
     let what = change::roomed(
-        item,
+        change::limited(item, forbidden),
         t,
         region,
         old,
         name.len(),
         attributes,
-        policy::proper(attributes, bytes).len(),
+        proper.len(),
     );
     Decided { what, places }
 }

@@ -9,6 +9,7 @@ use mathlib.Core.List.{List, [], _∷_, _++_}
 use mathlib.Core.Option.{Option, none, some}
 use lib.ListN.{length}
 use Rattle.model.specs.Layout.{authenticated}
+use Rattle.model.specs.declared.Limit.{Limit}
 use Rattle.model.specs.declared.Session.{Session}
 use Rattle.model.specs.declared.Terms.{Terms}
 use Rattle.model.specs.declared.Rule.{Rule}
@@ -19,8 +20,9 @@ use Rattle.model.specs.Entry.{Value}
 use Rattle.model.specs.Walk as walk
 use Rattle.model.specs.Region.{entries, sound, values, valuesOf, added, replacing, standing, find, valuesIn}
 use Rattle.model.specs.Request.{Request, requestKey, stampToStore}
+use Rattle.model.specs.Limits.{limitsFor}
 use Rattle.model.specs.Change.{Change, nothing, remove, put, changeIn, newData, newStamp, newValue}
-use Rattle.model.specs.Rules.{firstBroken, termsOf, imageRules, requestRules, standingRules, itemRules, roomRules, rule8, setBroken, imageRulesIn}
+use Rattle.model.specs.Rules.{firstBroken, termsOf, imageRules, requestRules, standingRules, itemRules, settingRules, roomRules, rule8, setBroken, imageRulesIn}
 use Rattle.model.specs.Stores.{Store, Bytes}
 use Rattle.model.specs.Set.{Plan, refuse, make, fitsTail, deleteTo, putPlan, changePlan, setPlan}
 use Rattle.model.specs.Answers.{storesOf}
@@ -57,9 +59,10 @@ image-refused s q img rule h =
     let vs : List Value = valuesOf img in
     let i : List (Rule × Bool) = imageRules img in
     let a : List (Rule × Bool) = itemRules (termsOf s (requestKey q)) q vs in
+    let e : List (Rule × Bool) = settingRules (limitsFor (s .setup) (requestKey q)) q (find (requestKey q) vs) in
     let d : List (Rule × Bool) = roomRules (termsOf s (requestKey q)) (regionSize img) (changeIn q vs ∷ []) vs in
     let first : firstBroken i ≡ some rule = refused-rule authenticated img rule h in
-    let broken : firstBroken (i ++ a ++ d) ≡ some rule = broken-append (i ++ a) d ∙ rw (broken-append i a, first) in
+    let broken : firstBroken (i ++ a ++ e ++ d) ≡ some rule = broken-append (i ++ a ++ e) d ∙ rw (broken-append (i ++ a) e, broken-append i a, first) in
     ap (λ (o : Option Rule). onSome o refuse (changePlan img (changeIn q vs))) broken
 
 -- what the decision asks of the region that was cut
@@ -72,7 +75,7 @@ region-asked ready cut =
 -- the region that was cut, with the decision over it and the places found in it
 module _ (s : Session) (name vendor : List ℕ) (a : ℕ) (bytes : List ℕ) (presence verdict : ℕ) (places : Places)
     {img r : List ℕ} {b at : ℕ} {what : Decision} {t : Terms} (ready : IsReady img b at) (cut : r ≡ part 0 (4096 * b) img) (told : t ≡ termsOf s (keyed name vendor))
-    (d : (what ≡ decisionOf t (requestOf name vendor a bytes presence verdict) (length r) (values (entries r)))
+    (d : (what ≡ decisionOf (limitsFor (s .setup) (keyed name vendor)) t (requestOf name vendor a bytes presence verdict) (length r) (values (entries r)))
     × (places .added ≡ foundOf (added (keyed name vendor) (entries r)))
     × (places .replacing ≡ foundOf (replacing (keyed name vendor) (entries r)))) where
   abbrev q : Request
@@ -81,16 +84,19 @@ module _ (s : Session) (name vendor : List ℕ) (a : ℕ) (bytes : List ℕ) (pr
   abbrev terms : Terms
   terms = termsOf s (keyed name vendor)
 
+  abbrev ls : List Limit
+  ls = limitsFor (s .setup) (keyed name vendor)
+
   its-region : r ≡ region img
   its-region = cut ∙ ready .cut
 
-  decided : decisionOf terms q (regionSize img) (valuesOf img) ≡ what
+  decided : decisionOf ls terms q (regionSize img) (valuesOf img) ≡ what
   unfolding valuesIn
   decided =
       let long : length (region img) ≡ regionSize img = ready .long ∙ sym (region-size img b (ready .number)) in
-      sym (d .0 ∙ ap (λ (y : Terms). decisionOf y q (length r) (values (entries r))) told
-      ∙ ap (λ (x : List ℕ). decisionOf terms q (length x) (values (entries x))) its-region
-      ∙ ap (λ (n : ℕ). decisionOf terms q n (values (entries (region img)))) long)
+      sym (d .0 ∙ ap (λ (y : Terms). decisionOf ls y q (length r) (values (entries r))) told
+      ∙ ap (λ (x : List ℕ). decisionOf ls terms q (length x) (values (entries x))) its-region
+      ∙ ap (λ (n : ℕ). decisionOf ls terms q n (values (entries (region img)))) long)
 
   found-added : places .added ≡ foundOf (added (keyed name vendor) (entries (region img)))
   found-added = d .1 ∙ ap (λ (x : List ℕ). foundOf (added (keyed name vendor) (entries x))) its-region
@@ -113,13 +119,13 @@ module _ (s : Session) (name vendor : List ℕ) (a : ℕ) (bytes : List ℕ) (pr
 
   pub set-nothing : what ≡ decision.Nothing → setPlan s q img ≡ make [] []
   unfolding changePlan
-  set-nothing h = plan nothing (ap brokenOf h) (nothing-change terms q (regionSize img) (valuesOf img) (decided ∙ h))
+  set-nothing h = plan nothing (ap brokenOf h) (nothing-change ls terms q (regionSize img) (valuesOf img) (decided ∙ h))
 
   -- ---- a delete
 
   pub remove-plan : what ≡ decision.Remove → setPlan s q img ≡ make (deleteTo (keyed name vendor) (entries (region img))) []
   unfolding changePlan
-  remove-plan h = plan (remove (requestKey q)) (ap brokenOf h) (remove-change terms q (regionSize img) (valuesOf img) (decided ∙ h))
+  remove-plan h = plan (remove (requestKey q)) (ap brokenOf h) (remove-change ls terms q (regionSize img) (valuesOf img) (decided ∙ h))
 
   below : (end : ℕ) → length (region img) ≤ end → Below end (places .added) × Below end (places .replacing)
   below end l = places-below img (ready .right) (ready-clean img (ready .ready)) (places .added) (places .replacing) (keyed name vendor) found-added found-replacing end l
@@ -134,7 +140,7 @@ module _ (s : Session) (name vendor : List ℕ) (a : ℕ) (bytes : List ℕ) (pr
       let k = keyed name vendor in
       let es = entries (region img) in
       let present : isSome (find k (valuesOf img)) ≡ true =
-      remove-present s q img (broken ∙ ap brokenOf h) k (remove-change terms q (regionSize img) (valuesOf img) (decided ∙ h)) in
+      remove-present s q img (broken ∙ ap brokenOf h) k (remove-change ls terms q (regionSize img) (valuesOf img) (decided ∙ h)) in
       let looked : find k (values es) ≡ onSome (standing k es) (λ e. some (walk.entryValue e)) none =
       find-standing (length (region img)) es k (sound-parts authenticated (region img) (ready .sounds) .1) in
       go (standing k es) (ap isSome (sym looked) ∙ present)
@@ -162,7 +168,7 @@ module _ (s : Session) (name vendor : List ℕ) (a : ℕ) (bytes : List ℕ) (pr
       let es = entries (region img) in
       let l = image-long img b (ready .right) (ready .number) in
       let x = below (length img) (omega (arith, ready .long, l .1)) in
-      let clears = remove-clears s q img k bytes-img args (remove-change terms q (regionSize img) (valuesOf img) (decided ∙ h)) (remove-plan h) in
+      let clears = remove-clears s q img k bytes-img args (remove-change ls terms q (regionSize img) (valuesOf img) (decided ∙ h)) (remove-plan h) in
       accepted-plans before c img (setPlan s q img) (deletePlan places) 1 (deleteTo k es) [] e o (delete-to c places k es found-added found-replacing)
       (delete-on c places k es found-added found-replacing) (remove-plan h) (remove-decides h c o e) (delete-ready c img places k found-added found-replacing (x .0) (x .1) clears)
 
@@ -173,7 +179,7 @@ module _ (s : Session) (name vendor : List ℕ) (a : ℕ) (bytes : List ℕ) (pr
   new-plain = refl
 
   asked-change : what ≡ decision.Put → changeIn q (valuesOf img) ≡ put (valueToPut img name vendor a bytes)
-  asked-change h = put-change terms q (regionSize img) (valuesOf img) (decided ∙ h) ∙ ap put new-plain
+  asked-change h = put-change ls terms q (regionSize img) (valuesOf img) (decided ∙ h) ∙ ap put new-plain
 
   pub put-plan : what ≡ decision.Put → setPlan s q img ≡ putPlan img (valueToPut img name vendor a bytes)
   unfolding changePlan

@@ -24,7 +24,7 @@ pub fn plan_start_up(image: &[u8], content: &mut [u8; layout::CONTENT]) -> Plann
     }
 }
 
-// A start-up, planned, then carried out up to n or to a store that fails: it is given custom mode, R and H and makes a fresh session, also when it is refused or stopped.
+// A start-up, planned, then carried out up to n or to a store that fails: it is given custom mode, R, H and rules for settings and makes a fresh session, also when it is refused or stopped.
 pub fn start_up(
     c: Context,
     image: &mut [u8],

@@ -32,7 +32,7 @@ struct Asking {
     verdict: u32,
 }
 
-// A set over an image that is ready, of b blocks and with this tail: rules 3 to 13, 17 and 18, then what it does to the values.
+// A set over an image that is ready, of b blocks and with this tail: rules 3 to 13, 17, 18 and 21, then what it does to the values.
 fn plan_ready(
     s: Session,
     image: &[u8],
@@ -56,6 +56,7 @@ fn plan_ready(
 {
     let attributes = asking.attributes;
     let d = decision::decide(
+        s.setup,
         session::terms(s, name, vendor),
         slices::cut(image, 0, layout::BLOCK * b),
         name,
@@ -98,7 +99,7 @@ fn guid(vendor: &[u8; 16])
     known(vendor);
 }
 
-// The plan of a set, a delete or an append: rules 1 to 13, 17 and 18, and its operations.
+// The plan of a set, a delete or an append: rules 1 to 13, 17, 18 and 21, and its operations.
 pub fn plan_set(
     s: Session,
     image: &[u8],
