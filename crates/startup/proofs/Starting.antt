@@ -26,6 +26,7 @@ use Rattle.model.specs.Book.{startUp, planOf, ClearsOne, isRecord}
 use Rattle.model.proofs.Tests.{and-split}
 use Rattle.model.proofs.Parts.{Parts, Image, right-parts, parts-blocks, parts-region, parts-work, parts-spare}
 use Rattle.model.proofs.Requests.{startUp-length, startUp-ready}
+use Rattle.model.proofs.Given.{plainSetup}
 use Rattle.recovery.proofs.StartingUp.{resume-alone}
 use Rattle.recovery.proofs.Bits.{marks-clear-one-bit}
 use Rattle.image.specs.Check.{startUpOf}
@@ -114,7 +115,7 @@ records-clear : (img : List ℕ) (b : ℕ) (t : Bool) → Accepted img b t → B
 unfolding planOf
 records-clear img b t f bytes xs e n =
     subst (λ (l : List Store). ClearsOne (isRecord img) l img) (plan-stores img b t f n ∙ ap (stores n) e)
-    (marks-clear-one-bit n img bytes (startUp (record { custom = 0; reserve = 0; records = 0 })) tt .0)
+    (marks-clear-one-bit n img bytes (startUp plainSetup) tt .0)
 
 part-long : (at n : ℕ) (img : List ℕ) → at + n ≤ length img → length (part at n img) ≡ n
 part-long at n img h = length-take-le n (drop at img) (rw (length-drop at img) (omega arith))
