@@ -9,7 +9,7 @@ use Rattle.model.specs.declared.Session.{Session}
 use Rattle.model.specs.Answers.{done}
 use Rattle.model.specs.Book.{Call, set}
 use Rattle.table.proofs.Pieces.{store}
-use Rattle.table.proofs.Row.{Row, Holds, HoldAll, end, _and_, computed, refuses, boot, ff, zeros, header, image, guid, rate, four, behindState, startId, setting, platform, pk, described}
+use Rattle.table.proofs.Row.{Row, Holds, HoldAll, end, _and_, computed, refuses, given, sessionOf, boot, ff, zeros, header, image, guid, rate, four, behindState, startId, setting, platform, pk, described}
 use Rattle.table.proofs.Held.{held}
 
 -- 1 April and 1 October 2024; the second with other bytes than zeros behind what is compared, as another writer may have left it
@@ -102,7 +102,7 @@ tied-holds = held tied refl refl tt tt refl refl
 
 -- in custom mode with presence no verdict is wanted, and the same is stored
 abbrev custom : Session
-custom = record { phase = 0; setup = record { custom = 1; reserve = 0; records = 0 }; count = 0; sizes = zeros 16; locks = zeros 2304 }
+custom = sessionOf 0 (given 1 0 0)
 
 abbrev inPerson : Row
 inPerson = joined autumn (revoking custom 0x67 spring more 1 0) autumn

@@ -23,3 +23,5 @@ pub mod Replies
 pub mod Worn
 -- 02 (a): hardware error records
 pub mod Records
+-- 02 (e): settings that must make sense
+pub mod Settings

@@ -8,10 +8,10 @@ use lib.ListN.{replicate}
 use Rattle.model.specs.Stores.{todays}
 use Rattle.model.specs.Set.{make}
 use Rattle.model.specs.Answers.{done}
-use Rattle.model.specs.Book.{Call, set, startUp, planOf}
+use Rattle.model.specs.Book.{Call, startUp, planOf}
 use Rattle.table.proofs.Pieces.{store, clear, asWrites, as-flat}
 use Rattle.table.proofs.Runs.{resumption}
-use Rattle.table.proofs.Row.{Row, Holds, HoldAll, end, _and_, computed, refuses, plain, ff, zeros, header, headerOf, image, guid, rate, four, behindState, startId, rateHeader, rateEntry, setting, rateStands}
+use Rattle.table.proofs.Row.{Row, Holds, HoldAll, end, _and_, computed, refuses, given, plain, sessionOf, boot, ff, zeros, header, headerOf, image, guid, rate, four, behindState, startId, rateHeader, rateEntry, settingIn, setting, rateStands, joined}
 use Rattle.table.proofs.Held.{held, listed, told}
 
 -- ---- a 3E entry alone is the value: 76 stores to replace it, 3E becomes 3C to delete it, an equal set stores nothing
@@ -132,31 +132,7 @@ leftoverDeleted-holds = held leftoverDeleted refl refl tt tt refl refl
 -- ---- an append joins the data
 
 abbrev appended : Row
-appended = record {
-  image = rateStands;
-  call = setting rate 0x47 (0x65 ∷ 0x66 ∷ []);
-  answer = done 79;
-  stores = store 30 (0x3E ∷ [])
-      ∷ store 104 startId
-      ∷ store 107 (behindState 0x07 (zeros 16) 0x0A 0x00 0x06 0x00 guid)
-      ∷ store 106 (0x7F ∷ [])
-      ∷ store 164 rate
-      ∷ store 174 (four 0x64 ++ (0x65 ∷ 0x66 ∷ []))
-      ∷ store 106 (0x3F ∷ [])
-      ∷ store 30 (0x3C ∷ [])
-      ∷ [];
-  left = image
-      (header
-      ++ rateEntry 0x3C 0x64
-      ++ startId
-      ++ (0x3F ∷ [])
-      ++ behindState 0x07 (zeros 16) 0x0A 0x00 0x06 0x00 guid
-      ++ rate
-      ++ four 0x64
-      ++ (0x65 ∷ 0x66 ∷ [])
-      ++ ff 3916);
-  tail = 180;
-}
+appended = joined boot
 
 appended-holds : Holds appended
 unfolding computed
@@ -256,10 +232,7 @@ allRecords-holds = held allRecords refl refl tt tt refl refl
 -- ---- the run-time reserve counts at runtime alone: one byte of it, where the region would be exactly full
 
 abbrev inPhase : ℕ → Call
-inPhase phase =
-    set
-    (record { phase = phase; setup = record { custom = 0; reserve = 1; records = 0 }; count = 0; sizes = replicate 16 0; locks = replicate 2304 0 })
-    (record { name = nameB; vendor = guid; attributes = 0x07; bytes = replicate 1892 0x22; presence = 0; verdict = 0 })
+inPhase phase = settingIn (sessionOf phase (given 0 1 0)) nameB guid 0x07 (replicate 1892 0x22)
 
 abbrev reserveKept : Row
 reserveKept = refuses (image (header ++ large 0x3F nameA 0x11 ++ ff 1956)) 2140 (inPhase 2) 13

@@ -8,30 +8,13 @@ use lib.ListN.{replicate}
 use Rattle.model.specs.declared.Session.{Session}
 use Rattle.model.specs.Session.{freshSession}
 use Rattle.model.specs.Answers.{done}
-use Rattle.model.specs.Book.{Call, set}
 use Rattle.table.proofs.Pieces.{store}
-use Rattle.table.proofs.Row.{Row, Holds, HoldAll, end, _and_, computed, refuses, ff, zeros, header, image, empty, guid, rate, four, behindState, startId, rateHeader, rateEntry, rateStands, platform}
+use Rattle.table.proofs.Row.{Row, Holds, HoldAll, end, _and_, computed, refuses, idles, given, sessionOf, settingIn as setting, ff, zeros, header, image, empty, guid, rate, four, behindState, startId, rateHeader, rateEntry, rateStands, rated, platform, errors, named}
 use Rattle.table.proofs.Held.{held}
 
 -- a session in a phase, with a reserve and H
 abbrev session : ℕ → ℕ → ℕ → Session
-session phase reserve h = record {
-  phase = phase;
-  setup = record { custom = 0; reserve = reserve; records = h };
-  count = 0;
-  sizes = zeros 16;
-  locks = zeros 2304;
-}
-
--- the records' GUID, and HwErrRec with four characters behind it: 26 bytes
-abbrev errors : List ℕ
-errors =
-    0xDD ∷ 0x6B ∷ 0x4E ∷ 0x41 ∷ 0x7B ∷ 0xE4 ∷ 0xCC ∷ 0x47 ∷ 0xB2 ∷ 0x44 ∷ 0xBB ∷ 0x61 ∷ 0x02 ∷ 0x0C ∷ 0xF5 ∷ 0x16 ∷ []
-
-abbrev named : ℕ → ℕ → ℕ → ℕ → List ℕ
-named a b c d =
-    (0x48 ∷ 0x00 ∷ 0x77 ∷ 0x00 ∷ 0x45 ∷ 0x00 ∷ 0x72 ∷ 0x00 ∷ 0x72 ∷ 0x00 ∷ 0x52 ∷ 0x00 ∷ 0x65 ∷ 0x00 ∷ 0x63 ∷ 0x00 ∷ [])
-    ++ (a ∷ 0x00 ∷ b ∷ 0x00 ∷ c ∷ 0x00 ∷ d ∷ 0x00 ∷ 0x00 ∷ 0x00 ∷ [])
+session phase reserve h = sessionOf phase (given 0 reserve h)
 
 -- HwErrRec0001, HwErrRec00AF
 abbrev first : List ℕ
@@ -39,11 +22,6 @@ first = named 0x30 0x30 0x30 0x31
 
 abbrev letters : List ℕ
 letters = named 0x30 0x30 0x41 0x46
-
--- a set of some name, neither presence nor verdict
-abbrev setting : Session → List ℕ → List ℕ → ℕ → List ℕ → Call
-setting s name vendor attributes bytes =
-    set s (record { name = name; vendor = vendor; attributes = attributes; bytes = bytes; presence = 0; verdict = 0 })
 
 -- one byte of data: 60 + 26 + 1 bytes and 1 of padding, 28 to 116
 abbrev recordHeader : ℕ → List ℕ
@@ -70,23 +48,6 @@ logged s name = record {
       ∷ [];
   left = stands 0x0F name;
   tail = 116;
-}
-
--- RATE comes into an empty store: 28 to 104
-abbrev rated : Session → Row
-rated s = record {
-  image = empty;
-  call = setting s rate guid 0x07 (four 0x64);
-  answer = done 75;
-  stores = store 28 startId
-      ∷ store 31 rateHeader
-      ∷ store 30 (0x7F ∷ [])
-      ∷ store 88 rate
-      ∷ store 98 (four 0x64)
-      ∷ store 30 (0x3F ∷ [])
-      ∷ [];
-  left = rateStands;
-  tail = 104;
 }
 
 -- ---- "with the name HwErrRec and four digits 0 to F in upper case", "H bytes of their own"
@@ -146,7 +107,7 @@ keyFirst-holds = held keyFirst refl refl tt tt refl refl
 abbrev lockedRecord : Session
 lockedRecord = record {
   phase = 1;
-  setup = record { custom = 0; reserve = 0; records = 88 };
+  setup = given 0 0 88;
   count = 1;
   sizes = 26 ∷ zeros 15;
   locks = first ++ zeros 102 ++ errors ++ zeros 2160;
@@ -241,14 +202,7 @@ unfolding computed
 recordDeleted-holds = held recordDeleted refl refl tt tt refl refl
 
 abbrev equalRecord : Row
-equalRecord = record {
-  image = stands 0x0F first;
-  call = setting (session 0 0 0) first errors 0x0F (0x65 ∷ []);
-  answer = done 0;
-  stores = [];
-  left = stands 0x0F first;
-  tail = 116;
-}
+equalRecord = idles (stands 0x0F first) 116 (setting (session 0 0 0) first errors 0x0F (0x65 ∷ []))
 
 equalRecord-holds : Holds equalRecord
 unfolding computed
@@ -289,7 +243,7 @@ allForOthers-holds = held allForOthers refl refl tt tt refl refl
 
 -- 28 + 76 + 3,992 = 4,096
 abbrev besideH : Row
-besideH = rated (session 0 0 3992)
+besideH = rated (session 0 0 3992) (four 0x64)
 
 besideH-holds : Holds besideH
 unfolding computed
@@ -304,7 +258,7 @@ overH-holds = held overH refl refl tt tt refl refl
 
 -- at runtime R comes to it: 28 + 76 + 1,992 + 2,000 = 4,096
 abbrev besideR : Row
-besideR = rated (session 2 2000 1992)
+besideR = rated (session 2 2000 1992) (four 0x64)
 
 besideR-holds : Holds besideR
 unfolding computed
@@ -417,6 +371,6 @@ records =
     and end
 
 -- "given at start-up and kept in the session": as great as it can be
-pub records-kept : freshSession (record { custom = 0; reserve = 0; records = 4294967295 }) .setup .records ≡ 4294967295
+pub records-kept : freshSession (given 0 0 4294967295) .setup .records ≡ 4294967295
 unfolding computed
 records-kept = refl

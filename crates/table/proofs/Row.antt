@@ -1,19 +1,20 @@
 -- A row of a table of cases: an image and a call, and what document 01 says of them, which is what holds with w = 1 and no dead byte; and what the rows are
 -- made of.
 -- Assumes nothing.
-use Prim.Native.Nat.{ℕ}
+use Prim.Native.Nat.{ℕ, _-_}
 use mathlib.Core.Path.{_≡_}
 use mathlib.Core.List.{List, [], _∷_, _++_}
-use lib.ListN.{replicate}
+use lib.ListN.{length, replicate}
+use Rattle.model.specs.declared.Limit.{Limit}
 use Rattle.model.specs.declared.Setup.{Setup}
 use Rattle.model.specs.declared.Session.{Session}
 use Rattle.model.specs.declared.Context.{Context}
 use Rattle.model.specs.Image.{region}
 use Rattle.model.specs.Region.{tailAt}
-use Rattle.model.specs.Answers.{Outcome, refused, outcome, imageAfter, storesOf}
+use Rattle.model.specs.Answers.{Outcome, done, refused, outcome, imageAfter, storesOf}
 use Rattle.model.specs.Book.{Call, set, planOf}
 use Rattle.table.proofs.Evaluated.{evaluated}
-use Rattle.table.proofs.Pieces.{Piece, flat, laidAll, allInside, asWrites}
+use Rattle.table.proofs.Pieces.{Piece, store, flat, laidAll, allInside, asWrites}
 
 -- an image, a call; its answer, its stores in their order, the whole image after it, and the offset of that region's tail
 pub record Row : Type 0 where
@@ -48,6 +49,10 @@ pub data HoldAll : List Row → Type 0 where
 abbrev pub refuses : List ℕ → ℕ → Call → ℕ → Row
 refuses img at call rule = record { image = img; call = call; answer = refused rule; stores = []; left = img; tail = at }
 
+-- a call that is done and changes nothing
+abbrev pub idles : List ℕ → ℕ → Call → Row
+idles img at call = record { image = img; call = call; answer = done 0; stores = []; left = img; tail = at }
+
 -- all that a row's evaluation opens
 unfoldable pub computed : Unit {0}
 unfolding evaluated flat laidAll allInside asWrites
@@ -55,13 +60,23 @@ computed = tt
 
 -- ---- what the rows are made of; every byte is written out here, and none is taken from the definitions
 
--- no custom mode, no reserve
-abbrev pub plain : Setup
-plain = record { custom = 0; reserve = 0; records = 0 }
+-- what a start-up is given: custom mode, R, H, and rules for settings, so many of them in use; and without such rules
+abbrev pub givenRules : ℕ → ℕ → ℕ → ℕ → List Limit → Setup
+givenRules custom reserve h n limits = record { custom = custom; reserve = reserve; records = h; rules = n; limits = limits }
 
--- boot phase, so set up, no locks
+abbrev pub given : ℕ → ℕ → ℕ → Setup
+given custom reserve h = givenRules custom reserve h 0 []
+
+-- no custom mode, no reserve, nothing for error records
+abbrev pub plain : Setup
+plain = given 0 0 0
+
+-- a phase, so set up, no locks; and the boot phase
+abbrev pub sessionOf : ℕ → Setup → Session
+sessionOf phase setup = record { phase = phase; setup = setup; count = 0; sizes = replicate 16 0; locks = replicate 2304 0 }
+
 abbrev pub boot : Session
-boot = record { phase = 0; setup = plain; count = 0; sizes = replicate 16 0; locks = replicate 2304 0 }
+boot = sessionOf 0 plain
 
 abbrev pub ff : ℕ → List ℕ
 ff n = replicate n 0xFF
@@ -117,14 +132,62 @@ rateHeader = behindState 0x07 (zeros 16) 0x0A 0x00 0x04 0x00 guid
 abbrev pub rateEntry : ℕ → ℕ → List ℕ
 rateEntry state b = startId ++ (state ∷ []) ++ rateHeader ++ rate ++ four b ++ ff 2
 
--- a set in the boot phase, under the GUID above, with neither presence nor verdict
+-- a set with neither presence nor verdict; and in the boot phase, under the GUID above
+abbrev pub settingIn : Session → List ℕ → List ℕ → ℕ → List ℕ → Call
+settingIn s name vendor attributes bytes =
+    set s (record { name = name; vendor = vendor; attributes = attributes; bytes = bytes; presence = 0; verdict = 0 })
+
 abbrev pub setting : List ℕ → ℕ → List ℕ → Call
-setting name attributes bytes =
-    set boot (record { name = name; vendor = guid; attributes = attributes; bytes = bytes; presence = 0; verdict = 0 })
+setting name attributes bytes = settingIn boot name guid attributes bytes
 
 -- RATE stands
 abbrev pub rateStands : List ℕ
 rateStands = image (header ++ rateEntry 0x3F 0x64 ++ ff 3992)
+
+-- RATE comes into an empty store with four bytes of data: 28 to 104
+abbrev pub rated : Session → List ℕ → Row
+rated s bytes = record {
+  image = empty;
+  call = settingIn s rate guid 0x07 bytes;
+  answer = done 75;
+  stores = store 28 startId
+      ∷ store 31 rateHeader
+      ∷ store 30 (0x7F ∷ [])
+      ∷ store 88 rate
+      ∷ store 98 bytes
+      ∷ store 30 (0x3F ∷ [])
+      ∷ [];
+  left = image (header ++ startId ++ (0x3F ∷ []) ++ rateHeader ++ rate ++ bytes ++ ff 2 ++ ff 3992);
+  tail = 104;
+}
+
+-- two bytes are appended to RATE: 104 to 180
+abbrev pub joined : Session → Row
+joined s = record {
+  image = rateStands;
+  call = settingIn s rate guid 0x47 (0x65 ∷ 0x66 ∷ []);
+  answer = done 79;
+  stores = store 30 (0x3E ∷ [])
+      ∷ store 104 startId
+      ∷ store 107 (behindState 0x07 (zeros 16) 0x0A 0x00 0x06 0x00 guid)
+      ∷ store 106 (0x7F ∷ [])
+      ∷ store 164 rate
+      ∷ store 174 (four 0x64 ++ (0x65 ∷ 0x66 ∷ []))
+      ∷ store 106 (0x3F ∷ [])
+      ∷ store 30 (0x3C ∷ [])
+      ∷ [];
+  left = image
+      (header
+      ++ rateEntry 0x3C 0x64
+      ++ startId
+      ++ (0x3F ∷ [])
+      ++ behindState 0x07 (zeros 16) 0x0A 0x00 0x06 0x00 guid
+      ++ rate
+      ++ four 0x64
+      ++ (0x65 ∷ 0x66 ∷ [])
+      ++ ff 3916);
+  tail = 180;
+}
 
 -- PK and its GUID
 abbrev pub platform : List ℕ
@@ -140,3 +203,58 @@ described stamp =
     stamp
     ++ (0x18 ∷ 0x00 ∷ 0x00 ∷ 0x00 ∷ 0x00 ∷ 0x02 ∷ 0xF1 ∷ 0x0E ∷ [])
     ++ (0x9D ∷ 0xD2 ∷ 0xAF ∷ 0x4A ∷ 0xDF ∷ 0x68 ∷ 0xEE ∷ 0x49 ∷ 0x8A ∷ 0xA9 ∷ 0x34 ∷ 0x7D ∷ 0x37 ∷ 0x56 ∷ 0x65 ∷ 0xA7 ∷ [])
+
+-- the error records' GUID, and HwErrRec with four characters behind it: 26 bytes
+abbrev pub errors : List ℕ
+errors =
+    0xDD ∷ 0x6B ∷ 0x4E ∷ 0x41 ∷ 0x7B ∷ 0xE4 ∷ 0xCC ∷ 0x47 ∷ 0xB2 ∷ 0x44 ∷ 0xBB ∷ 0x61 ∷ 0x02 ∷ 0x0C ∷ 0xF5 ∷ 0x16 ∷ []
+
+abbrev pub named : ℕ → ℕ → ℕ → ℕ → List ℕ
+named a b c d =
+    (0x48 ∷ 0x00 ∷ 0x77 ∷ 0x00 ∷ 0x45 ∷ 0x00 ∷ 0x72 ∷ 0x00 ∷ 0x72 ∷ 0x00 ∷ 0x52 ∷ 0x00 ∷ 0x65 ∷ 0x00 ∷ 0x63 ∷ 0x00 ∷ [])
+    ++ (a ∷ 0x00 ∷ b ∷ 0x00 ∷ c ∷ 0x00 ∷ d ∷ 0x00 ∷ 0x00 ∷ 0x00 ∷ [])
+
+-- ---- rules for settings
+
+-- what a rule wants of a field: an offset, a width, and a number between two or in a list, of which so many are in use
+pub record Field : Type 0 where
+  pub at : ℕ
+  pub width : ℕ
+  pub ranged : ℕ
+  pub low : ℕ
+  pub high : ℕ
+  pub count : ℕ
+  pub numbers : List ℕ
+
+abbrev pub between : ℕ → ℕ → ℕ → ℕ → Field
+between at width low high = record { at = at; width = width; ranged = 1; low = low; high = high; count = 0; numbers = zeros 8 }
+
+-- a rule: the size of its name, which stands in 128 bytes, and its GUID; smallest and largest size, read-only or not, the field
+abbrev pub rule : ℕ → List ℕ → List ℕ → ℕ → ℕ → ℕ → Field → Limit
+rule size name vendor least most fixed field = record {
+  size = size;
+  least = least;
+  most = most;
+  fixed = fixed;
+  at = field .at;
+  width = field .width;
+  ranged = field .ranged;
+  low = field .low;
+  high = field .high;
+  count = field .count;
+  numbers = field .numbers;
+  name = name ++ zeros (128 - length name);
+  vendor = vendor;
+}
+
+-- a rule for RATE, of a field
+abbrev pub wanting : Field → Limit
+wanting field = rule 10 rate guid 1 2048 0 field
+
+-- RATE's data are 64 00 00 00, the number 100, which breaks this one
+abbrev pub below : Limit
+below = wanting (between 0 4 0 99)
+
+-- rules in the boot phase, all of them in use
+abbrev pub under : List Limit → Session
+under limits = sessionOf 0 (givenRules 0 0 0 (length limits) limits)
