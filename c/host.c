@@ -1,6 +1,7 @@
 /* A host of the variable store.
  *
- *   host         a small flash part: set, append, delete, power cuts in a compaction, a byte that dies, pages, and hardware error records
+ *   host         a small flash part: set, append, delete, power cuts in a compaction, a byte that dies, pages, hardware error records, and settings that
+ *                must make sense
  *   host IMAGE   lists the variables of an image file
  *
  * It shows how a firmware's variable driver is built on varstore.h: start up at every power-on, keep the session, ask with an empty buffer first, and carry
@@ -12,12 +13,12 @@
 
 #include "varstore.h"
 
-#if VS_INTERFACE != 5
-#error "this host knows the operations of interface 5"
+#if VS_INTERFACE != 6
+#error "this host knows the operations of interface 6"
 #endif
 
 static const vs_context no_limit = {.limit = VS_NO_LIMIT};
-static vs_setup setup = {0, 0, 0}; /* no custom mode, no reserve, and bytes for error records where the story comes to them */
+static vs_setup setup = {0}; /* no custom mode, no reserve; bytes for error records, and rules for settings, where the story comes to them */
 
 static const char *rule_text(uint32_t rule)
 {
@@ -43,6 +44,7 @@ static const char *rule_text(uint32_t rule)
         [VS_RECORD_SPACE] = "no room for error records",
         [VS_SOURCE] = "source not fit for a move",
         [VS_TIME_BASED_VALUE] = "a value with time-based authentication",
+        [VS_SETTING] = "its rules forbid it",
         [VS_WORN] = "a byte no longer clears",
     };
     return rule < sizeof texts / sizeof texts[0] && texts[rule] != NULL ? texts[rule] : "unknown rule";
@@ -70,14 +72,14 @@ static void print_name(const uint8_t *name, size_t size)
 }
 
 /* As UEFI hosts do: the size is asked for with an empty buffer, then the data are fetched. */
-static int print_value(vs_session session, const uint8_t *image, size_t length, const uint8_t *named, size_t size)
+static int print_value(const vs_session *session, const uint8_t *image, size_t length, const uint8_t *named, size_t size)
 {
     uint8_t data[VS_LARGEST_DATA];
-    vs_reply asked = vs_get(no_limit, session, image, length, named + 16, size - 16, named, data, 0);
+    vs_reply asked = vs_get(no_limit, *session, image, length, named + 16, size - 16, named, data, 0);
     if (asked.answer.kind != VS_REFUSED || asked.answer.rule != VS_BUFFER) {
         return told("size", asked.answer) | 1;
     }
-    vs_reply got = vs_get(no_limit, session, image, length, named + 16, size - 16, named, data, asked.needed);
+    vs_reply got = vs_get(no_limit, *session, image, length, named + 16, size - 16, named, data, asked.needed);
     if (told("get", got.answer)) {
         return 1;
     }
@@ -91,14 +93,14 @@ static int print_value(vs_session session, const uint8_t *image, size_t length, 
 }
 
 /* The variables of a vendor, or with NULL all of them, in flash order. */
-static int list_of(const uint8_t *vendor, vs_session session, const uint8_t *image, size_t length)
+static int list_of(const uint8_t *vendor, const vs_session *session, const uint8_t *image, size_t length)
 {
     /* a vendor GUID and a name; the empty name begins */
     uint8_t named[VS_LARGEST_NAMED] = {0};
     size_t size = 16 + 2;
     for (;;) {
         uint8_t next[VS_LARGEST_NAMED];
-        vs_reply reply = vs_next_name(no_limit, session, image, length, named + 16, size - 16, named, next, sizeof next);
+        vs_reply reply = vs_next_name(no_limit, *session, image, length, named + 16, size - 16, named, next, sizeof next);
         if (reply.answer.kind == VS_REFUSED && reply.answer.rule == VS_ABSENT) {
             return 0;
         }
@@ -113,7 +115,7 @@ static int list_of(const uint8_t *vendor, vs_session session, const uint8_t *ima
     }
 }
 
-static int list(vs_session session, const uint8_t *image, size_t length) { return list_of(NULL, session, image, length); }
+static int list(const vs_session *session, const uint8_t *image, size_t length) { return list_of(NULL, session, image, length); }
 
 static int list_file(const char *path)
 {
@@ -130,8 +132,9 @@ static int list_file(const char *path)
         return 1;
     }
     printf("%u block%s, free from %u\n", (unsigned)checked.blocks, checked.blocks == 1 ? "" : "s", (unsigned)checked.tail);
-    vs_session session = vs_session_new(setup);
-    return list(session, image, length);
+    static vs_session session;
+    session = vs_session_new(setup);
+    return list(&session, image, length);
 }
 
 /* ---- a flash part
@@ -372,7 +375,7 @@ static void first_calls(vs_session *session)
     print_answer("set RATE to the same", set(session, "RATE", PLAIN, old_rate, sizeof old_rate));
     print_answer("append to NOTE", set(session, "NOTE", PLAIN | VS_APPEND, note, sizeof note));
     print_answer("append to NOTE", set(session, "NOTE", PLAIN | VS_APPEND, note, sizeof note));
-    list(*session, image, PART);
+    list(session, image, PART);
     print_answer("delete NOTE", set(session, "NOTE", 0, note, 0));
     print_answer("delete NOTE", set(session, "NOTE", 0, note, 0));
 }
@@ -397,7 +400,7 @@ static void fill(const vs_session *session)
 static void cut(const uint8_t *before, uint64_t complete, int inside)
 {
     static const uint8_t new_rate[4] = {200};
-    vs_session session;
+    static vs_session session;
     memcpy(part.bytes, before, PART);
     power_on(&session);
     part.power = complete;
@@ -492,7 +495,7 @@ static vs_answer log_fault(const vs_session *session, unsigned number)
 /* The power fails in the compaction that logging makes, when so many stores are complete, or inside the next one; then it comes back, and the records are read. */
 static void cut_log(const uint8_t *before, unsigned number, uint64_t complete, int inside)
 {
-    vs_session session;
+    static vs_session session;
     memcpy(part.bytes, before, PART);
     power_on(&session);
     part.power = complete;
@@ -502,7 +505,7 @@ static void cut_log(const uint8_t *before, unsigned number, uint64_t complete, i
     vs_answer started = power_on(&session);
     printf("power fails %s store %llu of it (%s): stores of the start-up %llu\n", inside ? "in" : "after", (unsigned long long)(complete + (inside ? 1 : 0)),
            answer.kind == VS_STOPPED ? "stopped" : "not stopped", (unsigned long long)started.stores);
-    list_of(record_vendor, session, image, PART);
+    list_of(record_vendor, &session, image, PART);
 }
 
 /* Two records of 100 bytes take all that there is for them; settings may take the rest of the region, and no more: TRACE takes 2,120 and NOTES with 1,677 bytes
@@ -525,7 +528,7 @@ static void records(vs_session *session)
     printf("free from %u\n", (unsigned)vs_check(image, PART).tail);
     print_answer("log fault 2", log_fault(session, 2));
     print_answer("set HwErrRec0002 as a setting", set_of(record_vendor, session, "HwErrRec0002", PLAIN, notes, 12));
-    list_of(record_vendor, *session, image, PART);
+    list_of(record_vendor, session, image, PART);
     print_answer("delete HwErrRec0000", set_of(record_vendor, session, "HwErrRec0000", 0, notes, 0));
     memcpy(kept, part.bytes, PART);
     print_answer("log fault 2", log_fault(session, 2));
@@ -533,12 +536,83 @@ static void records(vs_session *session)
     cut_log(kept, 2, 4098, 0);
 }
 
+/* The rules for this recorder's settings, as tools/settings writes them from host.rules: a rate that it can sample at, a flag, and the number that the factory gives
+ * it, which nobody changes afterwards. */
+static const vs_setup with_rules = {
+    .rules = 3,
+    .settings = {
+        {.size = 22, .least = 4, .most = 4, .at = 0, .width = 4, .count = 5, .numbers = {1, 10, 50, 100, 200},
+         .name = {'S', 0, 'a', 0, 'm', 0, 'p', 0, 'l', 0, 'e', 0, 'R', 0, 'a', 0, 't', 0, 'e', 0},
+         .vendor = {0x01, 0x02, 0x03, 0x04, 0x05, 0x06, 0x07, 0x08, 0x09, 0x0A, 0x0B, 0x0C, 0x0D, 0x0E, 0x0F, 0x10}},
+        {.size = 22, .least = 1, .most = 1, .at = 0, .width = 1, .count = 2, .numbers = {0, 1},
+         .name = {'C', 0, 'o', 0, 'm', 0, 'p', 0, 'r', 0, 'e', 0, 's', 0, 's', 0, 'e', 0, 'd', 0},
+         .vendor = {0x01, 0x02, 0x03, 0x04, 0x05, 0x06, 0x07, 0x08, 0x09, 0x0A, 0x0B, 0x0C, 0x0D, 0x0E, 0x0F, 0x10}},
+        {.size = 26, .least = 8, .most = 8, .fixed = 1, .at = 0, .width = 1, .ranged = 1, .low = 0, .high = 255,
+         .name = {'S', 0, 'e', 0, 'r', 0, 'i', 0, 'a', 0, 'l', 0, 'N', 0, 'u', 0, 'm', 0, 'b', 0, 'e', 0, 'r', 0},
+         .vendor = {0x01, 0x02, 0x03, 0x04, 0x05, 0x06, 0x07, 0x08, 0x09, 0x0A, 0x0B, 0x0C, 0x0D, 0x0E, 0x0F, 0x10}},
+    },
+};
+
+/* Whether VS_SETTING tells that a name is read-only, and not what the data are: by the host's own table. */
+static int read_only(const vs_setup *given, const uint8_t *name, size_t size, const uint8_t *vendor)
+{
+    uint32_t rules = given->rules < 32 ? given->rules : 32;
+    for (const vs_setting *rule = given->settings; rule < given->settings + rules; rule++) {
+        if (rule->fixed != 0 && rule->size == size && memcmp(rule->name, name, size) == 0 && memcmp(rule->vendor, vendor, 16) == 0) {
+            return 1;
+        }
+    }
+    return 0;
+}
+
+/* A setting of our own, and of a refused one the EFI_STATUS that a UEFI host would return. */
+static void change(const vs_session *session, const char *what, const char *text, uint32_t attributes, const void *data, size_t size)
+{
+    uint8_t name[VS_LARGEST_NAME];
+    size_t name_size = utf16(text, name);
+    vs_answer answer = set(session, text, attributes, data, size);
+    print_answer(what, answer);
+    if (answer.kind == VS_REFUSED && answer.rule == VS_SETTING) {
+        printf("  %s\n", read_only(&setup, name, name_size, our_vendor) ? "EFI_WRITE_PROTECTED" : "EFI_INVALID_PARAMETER");
+    }
+}
+
+/* The factory stores the serial number, and a mistyped script of old has stored a rate of 0, when there were no rules. From the first start-up with them on the
+ * rate stands as it is, and only what makes sense takes its place. */
+static void settings(vs_session *session)
+{
+    static const uint8_t serial[8] = {'G', 'T', '-', '0', '0', '4', '1', '7'};
+    static const uint8_t stopped[4] = {0}, slow[4] = {10}, fast[4] = {200}, between[4] = {60}, yes = 1, maybe = 2;
+    setup = (vs_setup){0};
+    printf("settings that must make sense\n");
+    print_answer("format", format());
+    print_answer("start-up without rules", power_on(session));
+    print_answer("set SerialNumber", set(session, "SerialNumber", PLAIN, serial, sizeof serial));
+    print_answer("set SampleRate to 0", set(session, "SampleRate", PLAIN, stopped, sizeof stopped));
+    setup = with_rules;
+    print_answer("start-up with rules", power_on(session));
+    list(session, image, PART);
+    change(session, "set SampleRate to 0", "SampleRate", PLAIN, stopped, sizeof stopped);
+    change(session, "set SampleRate to 200", "SampleRate", PLAIN, fast, sizeof fast);
+    change(session, "set SampleRate to 0", "SampleRate", PLAIN, stopped, sizeof stopped);
+    change(session, "set SampleRate to 60", "SampleRate", PLAIN, between, sizeof between);
+    change(session, "set SampleRate to 10, one byte", "SampleRate", PLAIN, slow, 1);
+    change(session, "append to SampleRate", "SampleRate", PLAIN | VS_APPEND, slow, sizeof slow);
+    change(session, "set SampleRate to 10", "SampleRate", PLAIN, slow, sizeof slow);
+    change(session, "set Compressed to 2", "Compressed", PLAIN, &maybe, 1);
+    change(session, "set Compressed to 1", "Compressed", PLAIN, &yes, 1);
+    change(session, "delete Compressed", "Compressed", 0, &yes, 0);
+    change(session, "set SerialNumber to the same", "SerialNumber", PLAIN, serial, sizeof serial);
+    change(session, "delete SerialNumber", "SerialNumber", 0, serial, 0);
+    list(session, image, PART);
+}
+
 /* A compaction of one block makes 8,197 stores; number 4,098 decides. */
 static int story(void)
 {
     static const uint64_t after[] = {0, 1, 2000, 4097, 4098, 4099, 6000, 8196, 8197}, in[] = {1, 2000, 4098, 4099, 6000, 8196, 8197};
     static uint8_t full[PART];
-    vs_session session = vs_session_new(setup);
+    static vs_session session; /* not on the stack, where each call has a copy of it */
     first_calls(&session);
     fill(&session);
     memcpy(full, part.bytes, PART);
@@ -553,6 +627,7 @@ static int story(void)
     worn_region(&session, full);
     pages(&session);
     records(&session);
+    settings(&session);
     printf("dead bytes found: %u, at %u and %u\n", (unsigned)known.count, (unsigned)known.dead[0], (unsigned)known.dead[1]);
     return memcmp(image, part.bytes, PART) != 0;
 }
@@ -566,7 +641,7 @@ int main(int argc, char **argv)
         fprintf(stderr,
                 "usage: host [IMAGE]\n"
                 "  with IMAGE: lists the variables of an image file: name, attributes, data\n"
-                "  without: a small flash part, power cuts in a compaction, a byte that dies, pages, and hardware error records\n");
+                "  without: a small flash part, power cuts in a compaction, a byte that dies, pages, hardware error records, and settings that must make sense\n");
         return 2;
     }
     return list_file(argv[1]);

@@ -18,7 +18,7 @@ enum {
 };
 
 static const vs_context no_limit = {.limit = VS_NO_LIMIT};
-static const vs_setup setup = {0, 0, 0}; /* no custom mode, no reserve, no bytes for error records */
+static const vs_setup setup = {0}; /* no custom mode, no reserve, no bytes for error records, no rules for settings */
 static const uint8_t vendor[16] = {0x01, 0x02, 0x03, 0x04, 0x05, 0x06, 0x07, 0x08, 0x09, 0x0A, 0x0B, 0x0C, 0x0D, 0x0E, 0x0F, 0x10};
 static const uint8_t rate[] = {'R', 0, 'A', 0, 'T', 0, 'E', 0, 0, 0};
 static const uint8_t old_rate[4] = {100}, new_rate[4] = {200};

@@ -16,7 +16,7 @@
 enum { LONGEST = 2 * (VS_LARGEST_DATA + 256) };
 
 static const vs_context no_limit = {.limit = VS_NO_LIMIT};
-static const vs_setup setup = {0, 0, 0}; /* no custom mode, no reserve, no bytes for error records */
+static const vs_setup setup = {0}; /* no custom mode, no reserve, no bytes for error records, no rules for settings */
 static uint8_t image[VS_LARGEST_IMAGE + 1], content[VS_CONTENT];
 
 static void fail(const char *why)
