@@ -3,6 +3,7 @@
 mod fields;
 mod play;
 mod print;
+mod rules;
 
 use libc::STDOUT_FILENO;
 

@@ -18,12 +18,15 @@
 //   T  the target taken as the image: its length, and its bytes
 //   W  dead bytes  count u8, sixteen addresses u32: given with every call from there on, as none are before
 //   I  page        the bytes of a page, u32: given with every call from there on, as 0 (which counts as 1) is before
+//   R  rule        rules u32, place u8, the rule, 216 bytes as the C interface lays it out: it stands in that place of the table (there are 32, and any other place
+//                  is none), and the table is given with every start-up from there on, with that number of rules, as one of zeros and 0 are before
 // Numbers are little-endian; a field past the script's end counts as zeros or empty. Before the first format the image has no bytes, and before the first move
 // the target has none.
 ghost use Prim.Native.Nat.{_<_, _^_};
 ghost use Rattle.io.specs.Counts.{Counts};
 use crate::fields;
 use crate::print;
+use crate::rules;
 use model::Answer;
 use model::Context;
 use model::Got;
@@ -32,10 +35,11 @@ use model::Named;
 use model::Session;
 use model::Setup;
 
-// What is carried from a step to the next: the session, and the last step's context for its dead bytes and its page.
+// What is carried from a step to the next: the session, the last step's context for its dead bytes and its page, and what start-ups are given for its rules.
 struct Carried {
     session: Session,
     context: Context,
+    setup: Setup,
 }
 
 // The bytes of a page at a step: those given before, where the step gives no others.
@@ -88,21 +92,13 @@ fn format(c: Context, image: &mut [u8]) {
     print_answer(b"format", engine::write::format(c, image, &mut content));
 }
 
-fn start_up(c: Context, step: &[u8], image: &mut [u8]) -> Session {
-    let custom = fields::byte(step, 5) as u32;
-    let reserve = fields::long(step, 6) as u32;
-    let records = fields::long(step, 10) as u32;
+fn start_up(c: Context, step: &[u8], image: &mut [u8], ruled: Setup) -> Session {
+    let mut setup = ruled;
+    setup.custom = fields::byte(step, 5) as u32;
+    setup.reserve = fields::long(step, 6) as u32;
+    setup.records = fields::long(step, 10) as u32;
     let mut content = content();
-    let started = engine::start::start_up(
-        c,
-        image,
-        Setup {
-            custom,
-            reserve,
-            records,
-        },
-        &mut content,
-    );
+    let started = engine::start::start_up(c, image, setup, &mut content);
     let answer = started.answer;
     print_answer(b"start-up", answer);
     started.session
@@ -262,6 +258,12 @@ fn print_page(c: Context) {
     print::end();
 }
 
+// The number of rules as it is given, also above 32.
+fn print_rules(step: &[u8]) {
+    print::number(b"rules ", fields::long(step, 5) as u64);
+    print::end();
+}
+
 // A step that leaves the session as it is.
 fn call(c: Context, step: &[u8], image: &mut [u8], target: &mut [u8], s: Session) {
     match fields::byte(step, 0) {
@@ -277,15 +279,23 @@ fn call(c: Context, step: &[u8], image: &mut [u8], target: &mut [u8], s: Session
         b'T' => take_target(image, target),
         b'W' => print_dead(c),
         b'I' => print_page(c),
+        b'R' => print_rules(step),
         _ => print::word(b"no such step\n"),
     }
 }
 
 // A step played; the session after it.
-fn play_step(c: Context, step: &[u8], image: &mut [u8], target: &mut [u8], s: Session) -> Session {
+fn play_step(
+    c: Context,
+    step: &[u8],
+    image: &mut [u8],
+    target: &mut [u8],
+    s: Session,
+    ruled: Setup,
+) -> Session {
     let kind = fields::byte(step, 0);
     if kind == b'U' {
-        return start_up(c, step, image);
+        return start_up(c, step, image, ruled);
     }
     if kind == b'L' {
         return lock(step, s);
@@ -299,8 +309,13 @@ fn play_step(c: Context, step: &[u8], image: &mut [u8], target: &mut [u8], s: Se
 
 fn carry(step: &[u8], image: &mut [u8], target: &mut [u8], before: Carried) -> Carried {
     let context = context(step, before.context);
-    let session = play_step(context, step, image, target, before.session);
-    Carried { session, context }
+    let setup = rules::given(step, before.setup);
+    let session = play_step(context, step, image, target, before.session, setup);
+    Carried {
+        session,
+        context,
+        setup,
+    }
 }
 
 // The bytes that a step takes.
@@ -321,6 +336,7 @@ fn step_size(step: &[u8]) -> usize
         b'E' => 11,
         b'W' => 70,
         b'I' => 9,
+        b'R' => 226,
         _ => 5,
     }
 }
@@ -358,20 +374,21 @@ fn image_size(step: &[u8], size: usize, room: usize, buffer: &[u8]) -> usize
     fields::least(asked_size(step, size, room), buffer)
 }
 
-// Before the first step: a fresh session, no dead bytes, and stores of bytes.
+// Before the first step: a fresh session, no dead bytes, stores of bytes, and no rules.
 fn nothing() -> Carried {
-    let session = Session::fresh(Setup {
-        custom: 0,
-        reserve: 0,
-        records: 0,
-    });
+    let setup = rules::none();
+    let session = Session::fresh(setup);
     let context = Context {
         limit: 0,
         count: 0,
         dead: [0; 16],
         width: 0,
     };
-    Carried { session, context }
+    Carried {
+        session,
+        context,
+        setup,
+    }
 }
 
 // The steps of a script, over a buffer for the image and one for the target of moves.
