@@ -12,14 +12,14 @@ use crate::plan::Content;
 pub struct Calls {
     pub who: &'static str,
     pub check: fn(&[u8]) -> Checked,
-    pub session_new: fn(Setup) -> Session,
+    pub session_new: fn(&Setup) -> Session,
     pub phase: fn(Session, u32) -> Session,
     pub lock: fn(Session, Key) -> Listed,
     pub get: Read,
     pub next_name: Read,
     pub set: fn(Context, &Session, &mut [u8], &Request) -> Answer,
     pub format: fn(Context, &mut [u8]) -> Answer,
-    pub start_up: fn(Context, &mut [u8], Setup) -> Started,
+    pub start_up: fn(Context, &mut [u8], &Setup) -> Started,
     pub from_plain: Move,
     pub to_plain: Move,
 }

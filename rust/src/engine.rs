@@ -3,7 +3,7 @@
 
 use std::mem::{offset_of, size_of};
 
-use crate::interface::{Answer, Checked, Context, Guid, Key, Listed, Reply, Request, Rule, Session, Setup, Started};
+use crate::interface::{Answer, Checked, Context, Guid, Key, Listed, Reply, Request, Rule, Session, Setting, Setup, Started};
 use crate::plan::{Content, Operation, Plan, OPERATIONS};
 
 /// The C structures that are not part of the interface as they stand.
@@ -78,13 +78,14 @@ macro_rules! laid_out {
 
 const _: () = assert!(size_of::<usize>() == 8 && size_of::<*const u8>() == 8);
 laid_out!(Context 80 limit 0 count 8 dead 12 width 76);
-laid_out!(Setup 12 custom 0 reserve 4 records 8);
-laid_out!(Session 2388 phase 0 setup 4 count 16 sizes 20 locks 84);
+laid_out!(Setting 216 size 0 least 4 most 8 fixed 12 at 16 width 20 ranged 24 low 28 high 32 count 36 numbers 40 name 72 vendor 200);
+laid_out!(Setup 6928 custom 0 reserve 4 records 8 rules 12 settings 16);
+laid_out!(Session 9304 phase 0 setup 4 count 6932 sizes 6936 locks 7000);
 laid_out!(RawAnswer 16 kind 0 rule 4 stores 8);
 laid_out!(RawReply 32 answer 0 size 16 attributes 20 needed 24);
-laid_out!(RawListed 2408 answer 0 session 16);
+laid_out!(RawListed 9320 answer 0 session 16);
 laid_out!(RawChecked 24 answer 0 blocks 16 tail 20);
-laid_out!(RawStarted 2408 answer 0 session 16);
+laid_out!(RawStarted 9320 answer 0 session 16);
 laid_out!(RawOperation 32 kind 0 at 8 from 16 len 24);
 laid_out!(RawPlan 400 rule 0 deciding 8 operations 16);
 
@@ -152,8 +153,8 @@ pub fn check(image: &[u8]) -> Checked {
     Checked { answer: raw.answer.answer(), blocks: raw.blocks, tail: raw.tail }
 }
 
-pub fn session_new(setup: Setup) -> Session {
-    unsafe { vs_session_new(setup) }
+pub fn session_new(setup: &Setup) -> Session {
+    unsafe { vs_session_new(*setup) }
 }
 
 pub fn phase(session: Session, to: u32) -> Session {
@@ -189,8 +190,8 @@ pub fn format(context: Context, image: &mut [u8], content: &mut Content) -> Answ
     unsafe { vs_format(context, image.as_mut_ptr(), image.len(), content) }.answer()
 }
 
-pub fn start_up(context: Context, image: &mut [u8], setup: Setup, content: &mut Content) -> Started {
-    let raw = unsafe { vs_start_up(context, image.as_mut_ptr(), image.len(), setup, content) };
+pub fn start_up(context: Context, image: &mut [u8], setup: &Setup, content: &mut Content) -> Started {
+    let raw = unsafe { vs_start_up(context, image.as_mut_ptr(), image.len(), *setup, content) };
     Started { answer: raw.answer.answer(), session: raw.session }
 }
 

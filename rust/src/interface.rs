@@ -1,9 +1,11 @@
 //! What goes into a call and comes out of it, in both implementations.
 
+use std::fmt;
+
 pub type Guid = [u8; 16];
 
-/// Rules a call can break, by their numbers. Those of 01 are in checking order; 02's are not: 17 is tried after 5 and 18 before 13, a move tries 1, 19, 20, 13, and
-/// 23 is met by a store.
+/// Rules a call can break, by their numbers. Those of 01 are in checking order; 02's are not: 17 is tried after 5, 21 and then 18 between 12 and 13, a move tries
+/// 1, 19, 20, 13, and 23 is met by a store.
 #[derive(Clone, Copy, PartialEq, Eq, PartialOrd, Ord, Debug)]
 #[repr(u32)]
 pub enum Rule {
@@ -27,11 +29,12 @@ pub enum Rule {
     RecordRoom,
     Source,
     TimeBased,
+    Setting,
     Worn = 23,
 }
 
 impl Rule {
-    pub const ALL: [Rule; 21] = [
+    pub const ALL: [Rule; 22] = [
         Rule::Length,
         Rule::Unready,
         Rule::Name,
@@ -52,6 +55,7 @@ impl Rule {
         Rule::RecordRoom,
         Rule::Source,
         Rule::TimeBased,
+        Rule::Setting,
         Rule::Worn,
     ];
 
@@ -115,26 +119,136 @@ pub const RUNTIME: u32 = 2;
 pub const PLACES: usize = 16;
 pub const PLACE: usize = 144;
 
-/// What a start-up is given, and its session keeps: custom mode, the run-time reserve R, and 02 (a)'s H, the bytes that hardware error records have of their own.
-#[derive(Clone, Copy, PartialEq, Eq, Debug)]
+/// Places for 02 (e)'s rules, and for the numbers of one.
+pub const SETTINGS: usize = 32;
+pub const NUMBERS: usize = 8;
+
+/// 02 (e): a rule for the variable of a name, `size` bytes of `name`, and a GUID: its smallest and largest size; whether it is read-only (`fixed` is not 0); and at
+/// the offset `at` a field of `width` bytes, which is between `low` and `high`, ends included, or, where `ranged` is 0, one of `count` numbers, above 8 counting
+/// as 8.
+#[derive(Clone, Copy, PartialEq, Eq)]
+#[repr(C)]
+pub struct Setting {
+    pub size: u32,
+    pub least: u32,
+    pub most: u32,
+    pub fixed: u32,
+    pub at: u32,
+    pub width: u32,
+    pub ranged: u32,
+    pub low: u32,
+    pub high: u32,
+    pub count: u32,
+    pub numbers: [u32; NUMBERS],
+    pub name: [u8; 128],
+    pub vendor: Guid,
+}
+
+impl Setting {
+    /// What stands in a place without a rule: its name is not well formed, so that it would be for no variable.
+    pub const NONE: Setting = Setting {
+        size: 0,
+        least: 0,
+        most: 0,
+        fixed: 0,
+        at: 0,
+        width: 0,
+        ranged: 0,
+        low: 0,
+        high: 0,
+        count: 0,
+        numbers: [0; NUMBERS],
+        name: [0; 128],
+        vendor: [0; 16],
+    };
+
+    /// A rule that any data but empty ones keep. Of a name over 128 bytes what fits goes over, and its full size.
+    pub fn any(key: Key) -> Setting {
+        let mut setting = Setting { size: key.name.len() as u32, most: u32::MAX, width: 1, vendor: *key.vendor, ..Setting::NONE };
+        setting.name.iter_mut().zip(key.name).for_each(|(place, byte)| *place = *byte);
+        setting.between(u32::MIN, u32::MAX)
+    }
+
+    /// The same with another field.
+    pub const fn field(self, at: u32, width: u32) -> Setting {
+        Setting { at, width, ..self }
+    }
+
+    /// The same with another smallest and largest size.
+    pub const fn sized(self, least: u32, most: u32) -> Setting {
+        Setting { least, most, ..self }
+    }
+
+    /// The same where the field is to be between two numbers.
+    pub const fn between(self, low: u32, high: u32) -> Setting {
+        Setting { ranged: 1, low, high, ..self }
+    }
+
+    /// The same where it is to be one of a list: the numbers that have a place, and how many were given.
+    pub fn one_of(self, numbers: &[u32]) -> Setting {
+        let mut setting = Setting { ranged: 0, count: numbers.len() as u32, ..self };
+        setting.numbers.iter_mut().zip(numbers).for_each(|(place, number)| *place = *number);
+        setting
+    }
+
+    pub const fn read_only(self) -> Setting {
+        Setting { fixed: 1, ..self }
+    }
+}
+
+/// On one line, and of the name's bytes only those that count.
+impl fmt::Debug for Setting {
+    fn fmt(&self, f: &mut fmt::Formatter<'_>) -> fmt::Result {
+        let Setting { size, least, most, fixed, at, width, ranged, low, high, count, numbers, name, vendor } = self;
+        let name = &name[..name.len().min(*size as usize)];
+        write!(f, "{size} bytes {name:X?} of {vendor:X?}: {least} to {most} bytes, read-only {fixed}, {width} at {at}, ")?;
+        match ranged {
+            0 => write!(f, "{count} of {numbers:?}"),
+            _ => write!(f, "{low} to {high}"),
+        }
+    }
+}
+
+/// What a start-up is given, and its session keeps: custom mode, the run-time reserve R, 02 (a)'s H, the bytes that hardware error records have of their own, and
+/// 02 (e)'s rules, `rules` of them, above 32 counting as 32.
+#[derive(Clone, Copy, PartialEq, Eq)]
 #[repr(C)]
 pub struct Setup {
     pub custom: u32,
     pub reserve: u32,
     pub records: u32,
+    pub rules: u32,
+    pub settings: [Setting; SETTINGS],
 }
 
 impl Setup {
-    /// No custom mode, no reserve, no room for records.
-    pub const PLAIN: Setup = Setup { custom: 0, reserve: 0, records: 0 };
+    /// No custom mode, no reserve, no room for records, no rules.
+    pub const PLAIN: Setup = Setup { custom: 0, reserve: 0, records: 0, rules: 0, settings: [Setting::NONE; SETTINGS] };
 
     /// Custom mode, else the same.
     pub const CUSTOM: Setup = Setup { custom: 1, ..Setup::PLAIN };
+
+    /// The same with rules: those that have a place, and how many were given.
+    pub fn ruled(&self, settings: &[Setting]) -> Setup {
+        let mut setup = Setup { rules: settings.len() as u32, settings: Setup::PLAIN.settings, ..*self };
+        setup.settings.iter_mut().zip(settings).for_each(|(place, setting)| *place = *setting);
+        setup
+    }
 }
 
-/// Phase, what the start-up was given, and the lock list. A place of the list holds the name, zeros up to 128 bytes, then the GUID.
+/// Of the places for rules only those in use: there are many bytes.
+impl fmt::Debug for Setup {
+    fn fmt(&self, f: &mut fmt::Formatter<'_>) -> fmt::Result {
+        let Setup { custom, reserve, records, rules, settings } = self;
+        write!(f, "custom {custom}, reserve {reserve}, records {records}, {rules} rules ")?;
+        f.debug_list().entries(settings.iter().take(*rules as usize)).finish()
+    }
+}
+
+/// Phase, what the start-up was given, and the lock list. A place of the list holds the name, zeros up to 128 bytes, then the GUID. It is aligned as the stack is on which it
+/// is handed over, so that the copy is made by words of 8 bytes.
 #[derive(Clone, Copy, PartialEq, Eq, Debug)]
-#[repr(C)]
+#[repr(C, align(8))]
 pub struct Session {
     pub phase: u32,
     pub setup: Setup,

@@ -9,11 +9,14 @@ mod common;
 
 use std::collections::BTreeMap;
 
+use common::book::Book;
+use common::cases::S;
 use common::cuts::places;
 use common::generate::{self, Asked, Name, BLOCK};
 use common::random::Random;
+use common::settings::{check_broken, check_kept, is_ruled};
 use common::stored::{carry_out, Call};
-use common::{same_bytes, stamped, RECORDS};
+use common::{same_bytes, stamped, A, AUTUMN, RATE, RECORD, RECORDS};
 use varstore::calls::{Read, ENGINE, PAPER};
 use varstore::interface::{Answer, Context, Reply, Rule, Session, Setup};
 use varstore::paper;
@@ -23,6 +26,9 @@ use varstore::plan::{Content, Operation, Plan};
 
 /// What a call finds in its content: nothing that it may rely on.
 const GARBAGE: [Content; 2] = [[0xA5; size_of::<Content>()], [0; size_of::<Content>()]];
+
+/// What breaks a rule of 02 (e).
+const BREACHES: [&str; 7] = ["read-only", "smallest size", "largest size", "width", "place", "list", "range"];
 
 /// How often each call has given each answer.
 type Tally = BTreeMap<(&'static str, String), usize>;
@@ -149,8 +155,32 @@ impl<'t> Pair<'t> {
         }
     }
 
+    /// Other rules from here on, once in some times, with an eye to the next set; or none.
+    fn other_rules(&mut self, r: &mut Random, next: &Asked) {
+        match r.below(4) {
+            0 => self.session.setup = self.session.setup.ruled(&generate::rules_for(r, &self.image, next)),
+            1 => self.session.setup.rules = 0,
+            _ => {}
+        }
+    }
+
     fn set(&mut self, asked: &Asked, limit: u64) -> Answer {
+        let before = self.image.clone();
         let answer = self.store("set", &Call::Set(asked.clone()), limit);
+        match answer {
+            Answer::Done(_) => {
+                check_kept(&self.session, &asked.request(), &Book::of(&self.image));
+                if is_ruled(&self.session, asked.name.key()) {
+                    self.count("set within its rules", answer);
+                }
+            }
+            Answer::Refused(Rule::Setting) => {
+                for thing in check_broken(&self.session, asked, &Book::of(&before)) {
+                    *self.tally.entry(("rule 21", thing)).or_default() += 1;
+                }
+            }
+            _ => {}
+        }
         if asked.name.vendor == RECORDS && asked.attributes & 0x08 != 0 {
             self.count("set of a record", answer);
         }
@@ -187,7 +217,7 @@ impl<'t> Pair<'t> {
 
     fn start_up_with_stops(&mut self, r: &mut Random) {
         self.store_with_stops(r, "startup", &Call::StartUp(Setup::PLAIN));
-        self.start_up(u64::MAX, Setup { custom: 1, reserve: 100, records: 500 });
+        self.start_up(u64::MAX, Setup { custom: 1, reserve: 100, records: 500, ..Setup::PLAIN });
     }
 
     /// Leaves the image as before, and a chip that stores bytes, none of them dead.
@@ -314,6 +344,7 @@ fn random_call(pair: &mut Pair, r: &mut Random) {
         _ => {
             let asked = generate::asked_on(r, &pair.image);
             pair.other_space(r, &asked);
+            pair.other_rules(r, &asked);
             pair.other_chip(r, &Call::Set(asked.clone()));
             pair.set(&asked, limit(r));
         }
@@ -333,10 +364,13 @@ fn any_call() {
         enumerate(&mut pair, r);
     });
     expect_seen(&tally, "set", &["done", "done without stores", "stopped", "refused 23"]);
-    expect_seen(&tally, "set of a record", &["done", "done without stores", "stopped", "refused 12", "refused 13", "refused 18", "refused 23"]);
-    for rule in (2..=13).chain([17, 18]) {
+    let of_a_record = ["done", "done without stores", "stopped", "refused 12", "refused 13", "refused 18", "refused 21", "refused 23"];
+    expect_seen(&tally, "set of a record", &of_a_record);
+    for rule in (2..=13).chain([17, 18, 21]) {
         expect_seen(&tally, "set", &[&format!("refused {rule}")]);
     }
+    expect_seen(&tally, "set within its rules", &["done", "done without stores"]);
+    expect_seen(&tally, "rule 21", &BREACHES);
     expect_seen(&tally, "get", &["done without stores", "refused 2", "refused 3", "refused 11", "refused 14"]);
     expect_seen(&tally, "next", &["done without stores", "refused 2", "refused 3", "refused 11", "refused 14"]);
     expect_seen(&tally, "startup", &["done", "done without stores", "stopped", "refused 2", "refused 23"]);
@@ -352,7 +386,7 @@ fn any_call() {
 fn damaged_images() {
     let tally = rounds(100, |r, tally| {
         let (image, blocks) = generate::image(r);
-        let mut pair = Pair::new(image.clone(), (PAPER.session_new)(Setup::PLAIN), tally);
+        let mut pair = Pair::new(image.clone(), (PAPER.session_new)(&Setup::PLAIN), tally);
         for _ in 0..20 {
             pair.image.copy_from_slice(&image);
             for _ in 0..1 + r.below(2) {
@@ -379,12 +413,13 @@ fn stops() {
     let tally = rounds(200, |r, tally| {
         let blocks = if r.once_in(4) { 2 } else { 1 };
         let image = if r.once_in(2) { generate::filled(r, blocks) } else { generate::crafted::<Authenticated>(r, blocks) };
-        let mut pair = Pair::new(image, (PAPER.session_new)(Setup::CUSTOM), tally);
+        let mut pair = Pair::new(image, (PAPER.session_new)(&Setup::CUSTOM), tally);
         pair.start_up_with_stops(r);
         for _ in 0..6 {
             let mut asked = generate::asked_on(r, &pair.image);
             asked.presence = 1;
             pair.other_space(r, &asked);
+            pair.other_rules(r, &asked);
             pair.set_with_stops(r, &asked);
             let cut = generate::asked_on(r, &pair.image);
             if pair.set(&cut, limit(r)) == Answer::Stopped {
@@ -392,7 +427,7 @@ fn stops() {
             }
         }
     });
-    expect_seen(&tally, "set", &["done", "done without stores", "stopped", "refused 2", "refused 23"]);
+    expect_seen(&tally, "set", &["done", "done without stores", "stopped", "refused 2", "refused 21", "refused 23"]);
     expect_seen(&tally, "startup", &["done", "done without stores", "stopped", "refused 2", "refused 23"]);
 }
 
@@ -400,17 +435,52 @@ fn stops() {
 #[test]
 fn authenticated_names() {
     let tally = rounds(200, |r, tally| {
-        let mut pair = Pair::new(generate::empty(1), (PAPER.session_new)(Setup::PLAIN), tally);
+        let mut pair = Pair::new(generate::empty(1), (PAPER.session_new)(&Setup::PLAIN), tally);
         for _ in 0..60 {
             let mut asked = generate::asked(r);
             asked.attributes = r.pick(&[0x27, 0x27, 0x67, 0x23, 0]);
             let proper = generate::data(r, 40);
             asked.data = generate::signed(r, &proper);
             pair.session.setup.custom = r.pick(&[0, 0, 0, 1]);
+            pair.other_rules(r, &asked);
             pair.set(&asked, u64::MAX);
         }
     });
-    expect_seen(&tally, "set", &["done", "refused 7", "refused 8", "refused 9", "refused 10", "refused 11"]);
+    expect_seen(&tally, "set", &["done", "refused 7", "refused 8", "refused 9", "refused 10", "refused 11", "refused 21"]);
+    expect_seen(&tally, "set within its rules", &["done", "done without stores"]);
+    expect_seen(&tally, "rule 21", &BREACHES);
+}
+
+/// Sets, appends and deletes of few variables, with short data that repeat, and rules for them: 21 wherever it may come, and done where the rules allow it.
+#[test]
+fn settings() {
+    let mut tally = Tally::new();
+    common::rounds::rounds(1, 100, |r| {
+        let mut pair = Pair::new(generate::empty(1), (PAPER.session_new)(&Setup { records: 1000, ..Setup::CUSTOM }), &mut tally);
+        for _ in 0..60 {
+            let (key, attributes) = r.pick(&[(RATE, 0x07), (RATE, 0x07), (A, 0x03), (S, 0x27), (DB, 0x27), (RECORD, 0x0F)]);
+            let most = r.pick(&[1, 2, 5, 5, 9]);
+            let proper: Vec<u8> = (0..r.below(most)).map(|_| r.byte() & 1).collect();
+            let (attributes, data) = match r.below(8) {
+                0 => (0, vec![]),
+                1..=3 => (attributes | 0x40, proper),
+                _ => (attributes, proper),
+            };
+            let data = if attributes & 0x20 != 0 { stamped(&AUTUMN, &data) } else { data };
+            let verdict = if Book::of(&pair.image).values.iter().any(|value| value.name.key() == key) { 4 } else { 3 };
+            let name = Name { name: key.name.to_vec(), vendor: *key.vendor };
+            let asked = Asked { name, attributes, data, presence: 1, verdict };
+            pair.other_rules(r, &asked);
+            pair.set(&asked, u64::MAX);
+        }
+    });
+    println!("{tally:?}");
+    expect_seen(&tally, "set", &["done", "done without stores", "refused 7", "refused 11", "refused 21"]);
+    expect_seen(&tally, "set within its rules", &["done", "done without stores"]);
+    expect_seen(&tally, "set of a record", &["done", "done without stores", "refused 21"]);
+    expect_seen(&tally, "rule 21", &BREACHES);
+    expect_seen(&tally, "rule 21", &["a delete", "a set that creates", "a set that replaces", "an equal set"]);
+    expect_seen(&tally, "rule 21", &["an append", "an append that creates", "an empty append", "an empty append to nothing"]);
 }
 
 /// Descriptors with every byte of the form changed, every length cut, and lengths around the data's.
@@ -425,11 +495,11 @@ fn descriptors_at_each_field() {
         let bytes = generate::signed(&mut right, &proper);
         asked.data = bytes.clone();
         let mut image = generate::empty(1);
-        if matches!((PAPER.set)(Context::NO_LIMIT, &(PAPER.session_new)(Setup::PLAIN), &mut image, &asked.request()), Answer::Done(_)) {
+        if matches!((PAPER.set)(Context::NO_LIMIT, &(PAPER.session_new)(&Setup::PLAIN), &mut image, &asked.request()), Answer::Done(_)) {
             break bytes;
         }
     };
-    let mut pair = Pair::new(generate::empty(1), (PAPER.session_new)(Setup::PLAIN), &mut tally);
+    let mut pair = Pair::new(generate::empty(1), (PAPER.session_new)(&Setup::PLAIN), &mut tally);
     let mut try_data = |data: Vec<u8>| {
         pair.image = generate::empty(1);
         asked.data = data;
@@ -460,7 +530,7 @@ fn appends_at_each_byte_of_a_stamp() {
     for (vendor, name) in names {
         for custom in [0, 1] {
             let setup = Setup { custom, ..Setup::PLAIN };
-            let mut pair = Pair::new(generate::empty(1), (PAPER.session_new)(setup), &mut tally);
+            let mut pair = Pair::new(generate::empty(1), (PAPER.session_new)(&setup), &mut tally);
             let name = Name { name: name.to_vec(), vendor };
             let mut given = [0; 16];
             given[..7].copy_from_slice(&middle[..7]);
@@ -500,14 +570,14 @@ fn lengths() {
             if fits && length > 20 {
                 image[16..20].copy_from_slice(&((length / BLOCK / 2 * BLOCK) as u32).to_le_bytes());
             }
-            let mut pair = Pair::new(image, (PAPER.session_new)(Setup::PLAIN), &mut tally);
+            let mut pair = Pair::new(image, (PAPER.session_new)(&Setup::PLAIN), &mut tally);
             pair.check();
             random_get(&mut pair, &mut r);
             random_next(&mut pair, &mut r);
             for _ in 0..5 {
                 pair.set(&generate::asked(&mut r), u64::MAX);
             }
-            pair.start_up(u64::MAX, Setup { custom: 3, reserve: 5000, records: 70_000 });
+            pair.start_up(u64::MAX, Setup { custom: 3, reserve: 5000, records: 70_000, ..Setup::PLAIN });
             for n in (0..=44).chain([u64::MAX]) {
                 pair.image.fill(0);
                 pair.format(n);
@@ -543,8 +613,9 @@ fn sessions() {
             pair.lock(&generate::name(&mut r));
         }
         let [custom, reserve, records] = [(); 3].map(|_| r.number() as u32 >> r.below(32));
-        let setup = Setup { custom, reserve, records };
-        same_session(&(PAPER.session_new)(setup), &(ENGINE.session_new)(setup));
+        let mut setup = Setup { custom, reserve, records, ..Setup::PLAIN };
+        generate::rules(&mut r, &mut setup);
+        same_session(&(PAPER.session_new)(&setup), &(ENGINE.session_new)(&setup));
     }
     expect_seen(&tally, "lock", &["done without stores", "refused 3", "refused 15", "refused 16"]);
 }

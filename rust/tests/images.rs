@@ -42,7 +42,7 @@ fn listed_and_started_up() {
         for limit in [0, 1, 2, 4096, 4098, u64::MAX] {
             let (mut ours, mut theirs) = (image.clone(), image.clone());
             let context = Context::with(limit);
-            let (here, there) = ((PAPER.start_up)(context, &mut ours, Setup::PLAIN), (ENGINE.start_up)(context, &mut theirs, Setup::PLAIN));
+            let (here, there) = ((PAPER.start_up)(context, &mut ours, &Setup::PLAIN), (ENGINE.start_up)(context, &mut theirs, &Setup::PLAIN));
             assert_eq!(here.answer, there.answer, "start-up from {file} with limit {limit}");
             same_bytes(&file, &ours, &theirs);
         }

@@ -471,7 +471,7 @@ fn a_run_begins() {
         let mut station = used_target(2);
         assert_eq!((calls.from_plain)(&source, &mut station), Answer::Done(0));
         let before = station.clone();
-        let started = (calls.start_up)(Context::NO_LIMIT, &mut station, Setup::PLAIN);
+        let started = (calls.start_up)(Context::NO_LIMIT, &mut station, &Setup::PLAIN);
         assert_eq!(started.answer, Answer::Done(0));
         assert!(station == before, "a start-up on a moved image");
         let set = |image: &mut [u8], key, attributes, data: &[u8], verdict| {
@@ -604,7 +604,7 @@ fn runs_begin_on_moved_images() {
     common::rounds::rounds(2, 300, |r| {
         for calls in BOTH {
             let mut image = generate::moved(r);
-            let started = (calls.start_up)(Context::NO_LIMIT, &mut image, generate::lenient(r));
+            let started = (calls.start_up)(Context::NO_LIMIT, &mut image, &generate::lenient(r));
             assert_eq!(started.answer, Answer::Done(0), "start-up on a moved image by {}", calls.who);
             let mut book = Book::of(&image);
             for _ in 0..r.below(20) {

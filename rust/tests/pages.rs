@@ -306,7 +306,7 @@ fn each_dead_byte_of_a_tail_write() {
             let mut image = generate::empty(1);
             let mut expected = image.clone();
             let context = Context::worn(u64::MAX, &[at as u32]).paged(16);
-            let answer = set(RATE, OLD).by(&calls, context, &(calls.session_new)(Setup::PLAIN), &mut image).0;
+            let answer = set(RATE, OLD).by(&calls, context, &(calls.session_new)(&Setup::PLAIN), &mut image).0;
             assert_eq!(answer, if fails(at).is_some() { WORN } else { Answer::Done(10) }, "{} with {at} dead", calls.who);
             list.make(fails(at).unwrap_or(10), &mut expected);
             assert!(image == expected, "{} with {at} dead", calls.who);
@@ -353,7 +353,7 @@ fn calls_without_stores() {
         let (context, mut buffer) = (Context::with(0).paged(width), [0; 144]);
         assert_eq!((calls.get)(context, &run.session, &run.image, RATE, &mut buffer).answer, Answer::Done(0), "{}", calls.who);
         assert_eq!((calls.next_name)(context, &run.session, &run.image, RATE, &mut buffer).answer, Answer::Done(0), "{}", calls.who);
-        assert_eq!((calls.start_up)(context, &mut run.image.clone(), Setup::PLAIN).answer, Answer::Done(0), "{}", calls.who);
+        assert_eq!((calls.start_up)(context, &mut run.image.clone(), &Setup::PLAIN).answer, Answer::Done(0), "{}", calls.who);
     }
 }
 
@@ -364,14 +364,14 @@ fn widths_that_change_in_a_run() {
     let mut torn = 0;
     rounds(3, 100, |r| {
         let mut image = if r.once_in(2) { generate::filled(r, 1) } else { generate::crafted::<Authenticated>(r, 1) };
-        if !matches!((ENGINE.start_up)(Context::NO_LIMIT.paged(16), &mut image, Setup::PLAIN).answer, Answer::Done(_)) {
+        if !matches!((ENGINE.start_up)(Context::NO_LIMIT.paged(16), &mut image, &Setup::PLAIN).answer, Answer::Done(_)) {
             image = generate::empty(1);
         }
         let former = image[..BLOCK].to_vec();
         let mut run = Run::new(image, former);
         for _ in 0..r.below(30) {
             (run.way, run.width) = (r.pick(&Way::BOTH), generate::width(r));
-            run.session = (ENGINE.session_new)(generate::lenient(r));
+            run.session = (ENGINE.session_new)(&generate::lenient(r));
             let mut asked = generate::asked_on(r, &run.image);
             asked.presence = 1;
             let call = if r.once_in(4) { START_UP } else { Call::Set(asked) };

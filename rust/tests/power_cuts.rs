@@ -8,16 +8,17 @@ mod common;
 
 use std::collections::BTreeMap;
 
-use common::book::Value;
+use common::book::{Book, Value};
 use common::cases::{asked, being_replaced, compacting, crowded, decided, delete, empty, record, set, with_dirty_tail, with_leftover};
 use common::cuts::{begun, places, Begun, Cut, Garbage, Run, Way, START_UP};
 use common::generate::{self, Asked, Name, BLOCK};
 use common::random::Random;
 use common::rounds::{once, rounds};
+use common::settings::{check_broken, is_ruled};
 use common::stored::Call;
 use common::{same_bytes, signed, stamped, A, AUTUMN, B, NEW, OLD, RATE, RECORD, RECORDS, SPRING};
 use varstore::calls::{lent, Calls, Read, BOTH, ENGINE, PAPER};
-use varstore::interface::{Answer, Context, Key, Reply, Rule, Setup};
+use varstore::interface::{Answer, Context, Key, Reply, Rule, Setting, Setup};
 use varstore::paper::image::Parts;
 use varstore::paper::layout::Authenticated;
 use varstore::paper::request::{DBX, PK};
@@ -165,6 +166,27 @@ fn full_of_records() -> Run {
 fn compactions_of_records() {
     cut_after(&full_of_records(), &record(RECORD, &[3; 2048]), 8197, |list, r| places(list, 61, r));
     cut_after(&full_of_records(), &set(B, &[4; 1868]), 8197, |list, r| places(list, 61, r));
+}
+
+/// 02 (e): a value that its rule allows, new, appended to, replaced and deleted: after each cut it is the old one or the new one, and the rule allows both.
+#[test]
+fn writes_within_a_rule() {
+    let rule = Setting::any(RATE).sized(4, 8).field(0, 4).between(0x64, 0x65);
+    let run = empty(1).with_rules(&[rule]).with(A, OLD);
+    assert_eq!(run.clone().make(&set(RATE, &[0; 4]), u64::MAX), Answer::Refused(Rule::Setting));
+    cut_everywhere(&run, &set(RATE, OLD), 75);
+    let run = run.with(RATE, OLD);
+    cut_everywhere(&run, &Call::Set(asked(RATE, 0x47, NEW)), 81);
+    cut_everywhere(&run, &set(RATE, NEW), 77);
+    cut_everywhere(&run, &delete(RATE), 1);
+}
+
+/// The same where the tail is too short, at the ends of the compaction's operations and many places between them.
+#[test]
+fn compaction_within_a_rule() {
+    let run = empty(1).with_rules(&[Setting::any(A).field(2047, 1).one_of(&[1, 3])]).with(A, &[1; 2048]).with(B, &[2; 1892]);
+    assert_eq!(run.clone().make(&set(A, &[2; 2048]), u64::MAX), Answer::Refused(Rule::Setting));
+    cut_after(&run, &set(A, &[3; 2048]), 8197, |list, r| places(list, 61, r));
 }
 
 #[test]
@@ -469,9 +491,12 @@ fn some_set(run: &mut Run, r: &mut Random) -> Call {
     let mut asked = generate::asked_on(r, &run.image);
     run.session = generate::session(r);
     if !r.once_in(4) {
-        run.session = (ENGINE.session_new)(Setup::CUSTOM);
+        run.session = (ENGINE.session_new)(&Setup::CUSTOM);
         run.session.setup.records = generate::record_space_for(r, &run.session, &run.image, &asked);
         asked.presence = 1;
+        if r.once_in(3) {
+            run.session.setup = run.session.setup.ruled(&generate::rules_for(r, &run.image, &asked));
+        }
     }
     Call::Set(asked)
 }
@@ -485,7 +510,7 @@ fn some_image(r: &mut Random) -> (Vec<u8>, usize) {
     if r.once_in(8) {
         let mut image = generate::moved(r);
         let blocks = Parts::of(&image).expect("an image").blocks;
-        assert_eq!((ENGINE.start_up)(Context::NO_LIMIT, &mut image, Setup::PLAIN).answer, Answer::Done(0), "start-up on a moved image");
+        assert_eq!((ENGINE.start_up)(Context::NO_LIMIT, &mut image, &Setup::PLAIN).answer, Answer::Done(0), "start-up on a moved image");
         return (image, blocks);
     }
     let blocks = generate::blocks(r);
@@ -494,7 +519,7 @@ fn some_image(r: &mut Random) -> (Vec<u8>, usize) {
         1 => generate::crafted::<Authenticated>(r, blocks),
         _ => generate::filled(r, blocks),
     };
-    match (ENGINE.start_up)(Context::NO_LIMIT, &mut image, Setup::PLAIN).answer {
+    match (ENGINE.start_up)(Context::NO_LIMIT, &mut image, &Setup::PLAIN).answer {
         Answer::Done(_) => (image, blocks),
         _ => (generate::empty(blocks), blocks),
     }
@@ -512,6 +537,7 @@ fn random_step(run: &mut Run, r: &mut Random, tally: &mut Tally) {
         _ => some_set(run, r),
     };
     let what = if matches!(call, Call::Set(_)) { "set" } else { "start-up" };
+    let ruled = matches!(&call, Call::Set(asked) if is_ruled(&run.session, asked.name.key()));
     let of_record = matches!(&call, Call::Set(asked) if asked.name.vendor == RECORDS && asked.attributes & 0x08 != 0);
     other_chip(run, &call, r);
     let stores: Vec<Store> = run.stores(&call).map_or(vec![], |list| list.iter().collect());
@@ -525,14 +551,26 @@ fn random_step(run: &mut Run, r: &mut Random, tally: &mut Tally) {
         if what == "set" {
             *tally.entry(if before == run.book { "set cut before deciding" } else { "set cut when decided" }).or_default() += 1;
         }
+        if ruled && has_stores {
+            *tally
+                .entry(if before == run.book { "set within its rules cut before deciding" } else { "set within its rules cut when decided" })
+                .or_default() += 1;
+        }
         if of_record && has_stores {
             *tally.entry(if before == run.book { "set of a record cut before deciding" } else { "set of a record cut when decided" }).or_default() +=
                 1;
         }
         return;
     }
+    let before = run.image.clone();
     let answer = run.make(&call, u64::MAX);
     *tally.entry(kind(what, answer, programs && erases)).or_default() += 1;
+    if let (Call::Set(asked), Answer::Refused(Rule::Setting)) = (&call, answer) {
+        check_broken(&run.session, asked, &Book::of(&before));
+    }
+    if ruled && matches!(answer, Answer::Done(_)) && has_stores {
+        *tally.entry(if erases { "set within its rules done by compaction" } else { "set within its rules done" }).or_default() += 1;
+    }
     if of_record && matches!(answer, Answer::Done(_)) && has_stores {
         *tally.entry(if erases { "set of a record done by compaction" } else { "set of a record done" }).or_default() += 1;
     }
@@ -551,6 +589,7 @@ fn kind(what: &'static str, answer: Answer, both: bool) -> &'static str {
         ("set", Answer::Done(_)) if both => "set done by compaction",
         ("set", Answer::Done(_)) => "set done",
         ("set", Answer::Refused(Rule::Unready)) => "set refused before a start-up",
+        ("set", Answer::Refused(Rule::Setting)) => "set refused by its rules",
         ("set", _) => "set refused",
         ("start-up", Answer::Refused(Rule::Worn)) => "start-up failed",
         ("start-up", Answer::Done(0)) => "start-up without stores",
@@ -570,7 +609,7 @@ fn any_call_of_a_run() {
     rounds(15, 200, |r| {
         let (image, blocks) = some_image(r);
         let mut former = generate::filled(r, blocks);
-        (PAPER.start_up)(Context::NO_LIMIT, &mut former, Setup::PLAIN);
+        (PAPER.start_up)(Context::NO_LIMIT, &mut former, &Setup::PLAIN);
         let mut run = Run::new(image, former[..blocks * BLOCK].to_vec());
         for _ in 0..r.below(60) {
             if r.once_in(10) && (PAPER.check)(&run.image).answer == Answer::Done(0) {
@@ -589,7 +628,9 @@ fn any_call_of_a_run() {
     let failed = ["set failed", "start-up failed"];
     let records = ["set of a record done", "set of a record done by compaction"];
     let cut_records = ["set of a record cut before deciding", "set of a record cut when decided"];
-    for thing in [&whole[..], &started, &read, &cut, &failed, &records, &cut_records].concat() {
+    let ruled = ["set refused by its rules", "set within its rules done", "set within its rules done by compaction"];
+    let cut_ruled = ["set within its rules cut before deciding", "set within its rules cut when decided"];
+    for thing in [&whole[..], &started, &read, &cut, &failed, &records, &cut_records, &ruled, &cut_ruled].concat() {
         assert!(tally.contains_key(thing), "no {thing} in the runs");
     }
 }

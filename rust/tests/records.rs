@@ -37,7 +37,7 @@ fn with_space(records: u32, case: impl Fn(Station)) {
         println!("implementation: {}", calls.who);
         let mut image = vec![0; 3 * BLOCK];
         assert_eq!((calls.format)(Context::NO_LIMIT, &mut image), Answer::Done(31));
-        case(Station { calls, session: (calls.session_new)(Setup { records, ..Setup::PLAIN }), image });
+        case(Station { calls, session: (calls.session_new)(&Setup { records, ..Setup::PLAIN }), image });
     }
 }
 
@@ -573,13 +573,13 @@ fn check_entry(calls: &Calls, key: Key, attributes: u32, state: u8, sound: bool)
         (true, false) => Answer::Done(8197),
         (false, false) => refused(Rule::Unready),
     };
-    assert_eq!((calls.start_up)(Context::NO_LIMIT, &mut image.clone(), Setup::PLAIN).answer, expected);
+    assert_eq!((calls.start_up)(Context::NO_LIMIT, &mut image.clone(), &Setup::PLAIN).answer, expected);
     // a clean spare is copied; else it is erased, and the work block too
     let rate = with_entry::<Authenticated>(RATE, 0x07, 0x3F);
     let mut pending = rate.clone();
     pending[BLOCK] = 0xFC;
     pending[2 * BLOCK..].copy_from_slice(&image[..BLOCK]);
-    let resumed = (calls.start_up)(Context::NO_LIMIT, &mut pending, Setup::PLAIN).answer;
+    let resumed = (calls.start_up)(Context::NO_LIMIT, &mut pending, &Setup::PLAIN).answer;
     assert_eq!(resumed, Answer::Done(if clean { 4096 + 3 } else { 2 }), "from the spare");
     assert!(pending[..BLOCK] == if clean { image } else { rate }[..BLOCK], "the region after the start-up");
     let moved = (calls.from_plain)(&with_entry::<Plain>(key, attributes, state), &mut [0; 3 * BLOCK]);
@@ -593,7 +593,7 @@ fn a_leftover_of_a_record() {
     let foreign = with_entry::<Authenticated>(RECORD, 0x07, 0x3F);
     image[120..212].copy_from_slice(&foreign[28..120]);
     for calls in BOTH {
-        let session = (calls.session_new)(Setup { records: 500, ..Setup::PLAIN });
+        let session = (calls.session_new)(&Setup { records: 500, ..Setup::PLAIN });
         let mut station = Station { calls, session, image: image.clone() };
         assert_eq!((calls.check)(&station.image).answer, Answer::Done(0));
         assert_eq!(station.record(1, NEW), refused(Rule::Standing));
@@ -610,7 +610,7 @@ fn foreign_values() {
     for attributes in [0x03, 0x07, 0x23, 0x27] {
         let image = with_entry::<Authenticated>(RECORD, attributes, 0x3F);
         for calls in BOTH {
-            let session = (calls.session_new)(Setup { records: 500, ..Setup::PLAIN });
+            let session = (calls.session_new)(&Setup { records: 500, ..Setup::PLAIN });
             let mut station = Station { calls, session, image: image.clone() };
             assert_eq!((calls.check)(&station.image).answer, Answer::Done(0), "{}: {attributes:#X}", calls.who);
             for data in [OLD, NEW, &[]] {
@@ -654,9 +654,9 @@ fn moves() {
 #[test]
 fn kept_in_the_session() {
     for records in [0, 1, 500, 4068, 4096, 4097, 70_000, 0x8000_0000, u32::MAX] {
-        let given = Setup { custom: 1, reserve: 100, records };
+        let given = Setup { custom: 1, reserve: 100, records, ..Setup::PLAIN };
         for calls in BOTH {
-            assert_eq!((calls.session_new)(given).setup, given, "{}", calls.who);
+            assert_eq!((calls.session_new)(&given).setup, given, "{}", calls.who);
             let dirty = [&with_entry::<Authenticated>(RATE, 0x07, 0x3F)[..200], &[0], &[0xFF; 3 * BLOCK - 201]].concat();
             let unsound = with_entry::<Authenticated>(RATE, 0x0F, 0x3F);
             for (image, context, expected) in [
@@ -667,11 +667,11 @@ fn kept_in_the_session() {
                 (unsound, Context::NO_LIMIT, refused(Rule::Unready)),
                 (vec![0xFF; 100], Context::NO_LIMIT, refused(Rule::Length)),
             ] {
-                let started = (calls.start_up)(context, &mut image.clone(), given);
+                let started = (calls.start_up)(context, &mut image.clone(), &given);
                 assert_eq!((started.answer, started.session.setup), (expected, given), "{}", calls.who);
-                assert_eq!(started.session, (calls.session_new)(given), "{}", calls.who);
+                assert_eq!(started.session, (calls.session_new)(&given), "{}", calls.who);
             }
-            let locked = (calls.lock)((calls.session_new)(given), RECORD).session;
+            let locked = (calls.lock)((calls.session_new)(&given), RECORD).session;
             assert_eq!((calls.phase)(locked, RUNTIME).setup, given, "{}", calls.who);
         }
     }
@@ -684,7 +684,7 @@ fn start_up_beyond_the_space() {
         assert_eq!(station.record(1, &[1; 2048]), Answer::Done(2135));
         let book = Book::of(&station.image);
         station.image[BLOCK - 1] = 0;
-        let started = (station.calls.start_up)(Context::NO_LIMIT, &mut station.image, Setup::PLAIN);
+        let started = (station.calls.start_up)(Context::NO_LIMIT, &mut station.image, &Setup::PLAIN);
         assert_eq!(started.answer, Answer::Done(8197));
         assert_eq!(Book::of(&station.image), book);
         station.session = started.session;
@@ -701,7 +701,7 @@ fn seven_blocks() {
     for calls in BOTH {
         let mut image = vec![0; 15 * BLOCK];
         assert_eq!((calls.format)(Context::NO_LIMIT, &mut image), Answer::Done(43));
-        let session = (calls.session_new)(Setup { records: 5 * 2136, ..Setup::PLAIN });
+        let session = (calls.session_new)(&Setup { records: 5 * 2136, ..Setup::PLAIN });
         let mut station = Station { calls, session, image };
         for number in 0..5 {
             assert_eq!(station.record(number, &[1; 2048]), Answer::Done(2135));

@@ -5,10 +5,12 @@
 //!     set name guid attrs data presence verdict n      get/next name guid buflen fill n (buffer of buflen bytes, all fill)
 //!     startup custom reserve n · format n · lock name guid · phase to · varlist
 //!     set, startup and format also dead (02 (h): addresses joined by `,`, which may be more than 16; `-` none) and w (02 (i))
-//!     session and startup also hw (02 (a): H)
+//!     session and startup also hw (02 (a): H) and rules (02 (e): joined by `;`, which may be more than 32; `-` none)
 //!     move src to (02 (d): from the image in slot src into the current one; to is `new` or `plain`)
 //!
 //! A line that a request of document 02 has changed says `why`: the sentence, with `_` for a space; also where only the image is another than it was.
+//!
+//! One rule is name/guid/smallest/largest/readonly/offset/width/field, its field `between:LOW:HIGH`, or `list` and `:number` for each, which may be more than eight.
 //!
 //! `rle` is tokens joined by `,`, hexadecimal bytes or `hh*count`; `-` is the empty string. `varlist`'s text has `_` for a space and `|` for a line end.
 
@@ -23,7 +25,7 @@ use common::digest::{crc32, sha256};
 use common::generate::{Asked, Name};
 use common::stored::{carry_out, Call};
 use varstore::calls::{lent, Calls, BOTH, PAPER};
-use varstore::interface::{Answer, Context, Guid, Key, Reply, Rule, Session, Setup};
+use varstore::interface::{Answer, Context, Guid, Key, Reply, Rule, Session, Setting, Setup};
 use varstore::paper::{self, Made};
 
 /// The fields of one line, and where it stands.
@@ -34,7 +36,7 @@ struct Line<'a> {
 
 /// What a line may give; every field that is not an argument is checked.
 const ARGUMENTS: &str =
-    "why op len rle off slot phase custom reserve count sizes locks name guid attrs data presence verdict dead w hw n buflen fill to src";
+    "why op len rle off slot phase custom reserve count sizes locks name guid attrs data presence verdict dead w hw rules n buflen fill to src";
 const EXPECTED: &str =
     "answer rule stores list deciding made size attrs_out buf_sha256 text sha256 crc32 s_phase s_custom s_reserve s_hw s_count s_sizes s_locks";
 
@@ -63,6 +65,13 @@ impl<'a> Line<'a> {
 
     fn bytes(&self, key: &str) -> Vec<u8> {
         unpacked(self.text(key)).unwrap_or_else(|| panic!("{}: {key} is not bytes", self.place))
+    }
+
+    /// The rules of a session or start-up; lines of older files give none.
+    fn rules(&self) -> Vec<Setting> {
+        let text = self.fields.get("rules").filter(|&&text| text != "-");
+        let rule = |text| rule(text).unwrap_or_else(|| panic!("{}: no rule: {text}", self.place));
+        text.map_or(vec![], |text| text.split(';').map(rule).collect())
     }
 
     fn guid(&self) -> Guid {
@@ -106,6 +115,24 @@ fn unpacked(text: &str) -> Option<Vec<u8>> {
     Some(bytes)
 }
 
+/// One rule of 02 (e).
+fn rule(text: &str) -> Option<Setting> {
+    let parts: Vec<&str> = text.split('/').collect();
+    let [name, vendor, least, most, fixed, at, width, field] = parts[..] else { return None };
+    let (name, vendor): (Vec<u8>, Guid) = (unpacked(name)?, unpacked(vendor)?.try_into().ok()?);
+    let number = |text: &str| text.parse::<u32>().ok();
+    let setting = Setting::any(Key { name: &name, vendor: &vendor }).sized(number(least)?, number(most)?).field(number(at)?, number(width)?);
+    let mut parts = field.split(':');
+    let kind = parts.next()?;
+    let numbers: Vec<u32> = parts.map(number).collect::<Option<_>>()?;
+    let setting = match (kind, &numbers[..]) {
+        ("between", &[low, high]) => setting.between(low, high),
+        ("list", _) => setting.one_of(&numbers),
+        _ => return None,
+    };
+    Some(Setting { fixed: number(fixed)?, ..setting })
+}
+
 /// One implementation's current image, session and slots.
 struct Player {
     calls: Calls,
@@ -116,7 +143,7 @@ struct Player {
 
 impl Player {
     fn new(calls: Calls) -> Player {
-        Player { calls, image: Vec::new(), session: (calls.session_new)(Setup::PLAIN), slots: Default::default() }
+        Player { calls, image: Vec::new(), session: (calls.session_new)(&Setup::PLAIN), slots: Default::default() }
     }
 
     fn run(&mut self, line: &Line) {
@@ -227,7 +254,8 @@ impl Player {
 }
 
 fn setup(line: &Line) -> Setup {
-    Setup { custom: line.number("custom"), reserve: line.number("reserve"), records: line.number_or("hw", 0) }
+    let setup = Setup { custom: line.number("custom"), reserve: line.number("reserve"), records: line.number_or("hw", 0), ..Setup::PLAIN };
+    setup.ruled(&line.rules())
 }
 
 fn session(line: &Line) -> Session {
@@ -336,6 +364,12 @@ fn chips_that_program_a_page() {
 #[test]
 fn hardware_error_records() {
     run_file("a.txt", 444, 0);
+}
+
+/// 02 (e): rules for settings.
+#[test]
+fn settings_that_must_make_sense() {
+    run_file("e.txt", 392, 0);
 }
 
 #[test]

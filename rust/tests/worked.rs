@@ -30,7 +30,7 @@ fn empty_stores() -> impl Iterator<Item = Station> {
         println!("implementation: {}", calls.who);
         let mut image = vec![0; 3 * 4096];
         assert_eq!((calls.format)(Context::NO_LIMIT, &mut image), Answer::Done(31));
-        Station { calls, session: (calls.session_new)(Setup::PLAIN), image, presence: 0, verdict: 0 }
+        Station { calls, session: (calls.session_new)(&Setup::PLAIN), image, presence: 0, verdict: 0 }
     })
 }
 
@@ -82,7 +82,7 @@ impl Station {
     }
 
     fn start_up(&mut self) -> Answer {
-        let started = (self.calls.start_up)(Context::NO_LIMIT, &mut self.image, Setup::PLAIN);
+        let started = (self.calls.start_up)(Context::NO_LIMIT, &mut self.image, &Setup::PLAIN);
         self.session = started.session;
         started.answer
     }

@@ -124,7 +124,7 @@ fn formats() {
 
 /// RATE, set new on an empty store.
 fn set_rate(calls: &Calls, context: Context, image: &mut [u8]) -> Answer {
-    (calls.set)(context, &(calls.session_new)(Setup::PLAIN), image, &asked(RATE, 0x07, OLD).request())
+    (calls.set)(context, &(calls.session_new)(&Setup::PLAIN), image, &asked(RATE, 0x07, OLD).request())
 }
 
 /// What RATE's set answers with dead addresses, in both implementations.
@@ -232,7 +232,7 @@ fn marks_on_a_dead_state() {
     for calls in BOTH {
         let mut image = generate::empty(1);
         assert_eq!(set_rate(&calls, Context::NO_LIMIT, &mut image), Answer::Done(75));
-        let session = (calls.session_new)(Setup::PLAIN);
+        let session = (calls.session_new)(&Setup::PLAIN);
         let before = image.clone();
         for (attributes, data) in [(0x07, NEW), (0, &[][..]), (0x47, NEW)] {
             let asked = asked(RATE, attributes, data);
@@ -247,7 +247,7 @@ fn marks_on_a_dead_state() {
         let mut buffer = [0; 4];
         let reply = (calls.get)(Context::NO_LIMIT, &session, &image, RATE, &mut buffer);
         assert_eq!((reply.answer, &buffer[..]), (Answer::Done(0), NEW), "{}", calls.who);
-        assert_eq!((calls.start_up)(Context::worn(u64::MAX, &[STATE]), &mut image, Setup::PLAIN).answer, Answer::Done(0), "{}", calls.who);
+        assert_eq!((calls.start_up)(Context::worn(u64::MAX, &[STATE]), &mut image, &Setup::PLAIN).answer, Answer::Done(0), "{}", calls.who);
     }
 }
 
@@ -255,11 +255,11 @@ fn marks_on_a_dead_state() {
 #[test]
 fn session_of_a_failed_start_up() {
     let dirty = with_dirty_tail(1).image;
-    let given = Setup { custom: 7, reserve: 5000, records: u32::MAX };
+    let given = Setup { custom: 7, reserve: 5000, records: u32::MAX, ..Setup::PLAIN };
     for calls in BOTH {
-        let started = (calls.start_up)(Context::worn(u64::MAX, &[BLOCK as u32]), &mut dirty.clone(), given);
+        let started = (calls.start_up)(Context::worn(u64::MAX, &[BLOCK as u32]), &mut dirty.clone(), &given);
         assert_eq!(started.answer, WORN, "{}", calls.who);
-        assert!(started.session == (calls.session_new)(Setup { custom: 1, reserve: 4096, records: u32::MAX }), "{}", calls.who);
+        assert!(started.session == (calls.session_new)(&Setup { custom: 1, reserve: 4096, ..given }), "{}", calls.who);
     }
 }
 
@@ -273,7 +273,7 @@ fn calls_without_stores() {
         let (mut buffer, mut image) = ([0; 144], run.image.clone());
         assert_eq!((calls.get)(context, &run.session, &image, RATE, &mut buffer).answer, Answer::Done(0), "{}", calls.who);
         assert_eq!((calls.next_name)(context, &run.session, &image, RATE, &mut buffer).answer, Answer::Done(0), "{}", calls.who);
-        assert_eq!((calls.start_up)(context, &mut image, Setup::PLAIN).answer, Answer::Done(0), "{}", calls.who);
+        assert_eq!((calls.start_up)(context, &mut image, &Setup::PLAIN).answer, Answer::Done(0), "{}", calls.who);
         let context = Context::worn(u64::MAX, &[108, 180, STATE]);
         let absent = Key { name: b"Q\0\0\0", vendor: &VENDOR };
         for (key, attributes, size, answer) in [
@@ -325,7 +325,7 @@ fn a_host_that_reads_back() {
 fn some_image(r: &mut Random) -> Vec<u8> {
     let blocks = if r.once_in(4) { 2 } else { 1 };
     let mut image = if r.once_in(2) { generate::filled(r, blocks) } else { generate::crafted::<Authenticated>(r, blocks) };
-    match (ENGINE.start_up)(Context::NO_LIMIT, &mut image, Setup::PLAIN).answer {
+    match (ENGINE.start_up)(Context::NO_LIMIT, &mut image, &Setup::PLAIN).answer {
         Answer::Done(_) => image,
         _ => generate::empty(blocks),
     }
@@ -336,7 +336,7 @@ fn some_call(run: &mut Run, r: &mut Random) -> Call {
     if r.once_in(4) {
         return START_UP;
     }
-    run.session = (ENGINE.session_new)(generate::lenient(r));
+    run.session = (ENGINE.session_new)(&generate::lenient(r));
     let mut asked = generate::asked_on(r, &run.image);
     asked.presence = 1;
     Call::Set(asked)

@@ -38,7 +38,7 @@ struct Case {
 
 impl Case {
     fn desk(&self) -> Desk {
-        Desk { session: (PAPER.session_new)(Setup::PLAIN), variable: self.variable.clone(), image: self.image.clone(), buffer: [0; 2048] }
+        Desk { session: (PAPER.session_new)(&Setup::PLAIN), variable: self.variable.clone(), image: self.image.clone(), buffer: [0; 2048] }
     }
 
     fn prepare(&self, desk: &mut Desk) {

@@ -104,7 +104,7 @@ pub fn width(context: &Context) -> usize {
     }
 }
 
-/// Sets, appends to or deletes a value. Rules 1 to 13, 17, 18 and 23.
+/// Sets, appends to or deletes a value. Rules 1 to 13, 17, 18, 21 and 23.
 pub fn set(context: Context, session: &Session, image: &mut [u8], request: &Request) -> Answer {
     made(set_stores(width(&context), session, image, request), context, image)
 }
@@ -139,7 +139,7 @@ pub fn format_stores(w: usize, image: &[u8]) -> Result<Stores, Rule> {
 }
 
 /// Finishes what a power cut has left, and makes a fresh session. Rules 1 and 2, and 23.
-pub fn start_up(context: Context, image: &mut [u8], setup: Setup) -> Started {
+pub fn start_up(context: Context, image: &mut [u8], setup: &Setup) -> Started {
     let answer = made(start_up_stores(width(&context), image), context, image);
     Started { answer, session: session_new(setup) }
 }

@@ -11,6 +11,7 @@ pub mod region;
 pub mod request;
 pub mod rules;
 pub mod session;
+pub mod settings;
 pub mod stores;
 pub mod varlist;
 pub mod work;

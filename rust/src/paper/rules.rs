@@ -7,6 +7,7 @@ use super::records::{is_record, record_name};
 use super::region::{self, REGION_HEADER};
 use super::request::{is_later, key_name, payload, wanted, Change, Payload};
 use super::session::{is_boot, is_locked, is_runtime, record_space, reserve};
+use super::settings::breaks_rule;
 use super::work;
 use crate::interface::{Key, Request, Rule, Session};
 
@@ -70,13 +71,18 @@ pub fn of_what_stands<'a>(session: &Session, region: &[u8], request: &Request<'a
     Ok(payload)
 }
 
-/// Rules 11, 12, 18 and 13: what the change would leave.
+/// Rules 11, 12, 21, 18 and 13: what the change would leave.
 pub fn of_the_change(session: &Session, region: &[u8], key: Key, value: Option<&Entry>, change: &Change) -> Result<(), Rule> {
     match change {
-        Change::Nothing => Ok(()),
-        Change::Delete => broken(Rule::Absent, value.is_none()),
+        // 02 (e): "Rules are tried on the data as they would stand, if any, also where nothing changes. Deletes obey only read-only"
+        Change::Nothing => broken(Rule::Setting, breaks_rule(session, key, value.map(|value| [value.data(), &[]]))),
+        Change::Delete => {
+            broken(Rule::Absent, value.is_none())?;
+            broken(Rule::Setting, breaks_rule(session, key, None))
+        }
         Change::Put(contents) => {
             broken(Rule::DataSize, contents.data_size() > MOST_DATA)?;
+            broken(Rule::Setting, breaks_rule(session, key, Some([contents.old, contents.new])))?;
             let Sizes { records, others } = sizes_after(region, key, contents);
             let (header, length) = (REGION_HEADER as u64, region.len() as u64);
             // 02 (a): "18 when after a set of one their rounded sizes exceed H, before 13 and with its exemptions"; "a set of any other value meets 13 if 28, the

@@ -1,4 +1,4 @@
-//! Session: phase, custom mode, run-time reserve, the records' bytes and the lock list, by value.
+//! Session: phase, custom mode, run-time reserve, the records' bytes, the rules for settings and the lock list, by value.
 
 use super::entry::well_formed;
 use crate::interface::{Answer, Key, Listed, Rule, Session, Setup, BOOT, PLACE, PLACES, RUNTIME};
@@ -6,11 +6,12 @@ use crate::interface::{Answer, Key, Listed, Rule, Session, Setup, BOOT, PLACE, P
 const MOST_RESERVE: u32 = 4096;
 const VENDOR_IN_PLACE: usize = 128;
 
-/// A start-up's fresh session: boot, no locks, list bytes zero. R above 4,096 is kept as 4,096, and any H as it is.
-pub fn session_new(setup: Setup) -> Session {
+/// A start-up's fresh session: boot, no locks, list bytes zero. R above 4,096 is kept as 4,096, and H and the rules
+/// as they are.
+pub fn session_new(setup: &Setup) -> Session {
     Session {
         phase: BOOT,
-        setup: Setup { custom: (setup.custom != 0) as u32, reserve: setup.reserve.min(MOST_RESERVE), records: setup.records },
+        setup: Setup { custom: (setup.custom != 0) as u32, reserve: setup.reserve.min(MOST_RESERVE), ..*setup },
         count: 0,
         sizes: [0; PLACES],
         locks: [0; PLACES * PLACE],

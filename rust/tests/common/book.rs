@@ -95,7 +95,7 @@ impl Book {
 
     /// Panics unless an implementation's next-name and get list these values, in this order and no others.
     pub fn check_listed(&self, calls: &Calls, image: &[u8]) {
-        let session = (calls.session_new)(Setup::PLAIN);
+        let session = (calls.session_new)(&Setup::PLAIN);
         let mut last = Name { name: vec![0, 0], vendor: [0; 16] };
         for value in &self.values {
             let mut buffer = [0xA5; 144];

@@ -4,7 +4,7 @@ use super::cuts::Run;
 use super::generate::{self, Asked, Name, BLOCK};
 use super::stored::Call;
 use super::{signed, A, B, NEW, OLD, RATE, VENDOR};
-use varstore::interface::{Answer, Key};
+use varstore::interface::{Answer, Key, Setting};
 
 pub const C: Key = Key { name: b"C\0\0\0", vendor: &VENDOR };
 pub const S: Key = Key { name: b"S\0\0\0", vendor: &VENDOR };
@@ -53,6 +53,12 @@ impl Run {
     /// The same in a session with so many bytes for records.
     pub fn with_space(mut self, records: u32) -> Run {
         self.session.setup.records = records;
+        self
+    }
+
+    /// The same with rules for settings.
+    pub fn with_rules(mut self, rules: &[Setting]) -> Run {
+        self.session.setup = self.session.setup.ruled(rules);
         self
     }
 

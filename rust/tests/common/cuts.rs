@@ -5,6 +5,7 @@ use super::book::Book;
 use super::generate::BLOCK;
 use super::random::Random;
 use super::same_bytes;
+use super::settings::check_kept;
 use super::stored::{carry_out, Call};
 use varstore::calls::{lent, ENGINE};
 use varstore::interface::{Answer, Context, Rule, Session, Setup};
@@ -191,7 +192,7 @@ pub struct Run {
 impl Run {
     /// Begins on an image as a done start-up left it.
     pub fn new(image: Vec<u8>, former: Vec<u8>) -> Run {
-        let session = (ENGINE.session_new)(Setup::PLAIN);
+        let session = (ENGINE.session_new)(&Setup::PLAIN);
         Run { way: Way::Called, book: Book::of(&image), image, session, former, dead: vec![], width: 1, cuts: vec![] }
     }
 
@@ -229,8 +230,9 @@ impl Run {
         same_bytes("image", &after, &self.image);
         if let (Call::Set(asked), true) = (call, decided || matches!(answer, Answer::Done(_))) {
             self.book.set(&asked.request());
+            check_kept(&self.session, &asked.request(), &self.book);
         }
-        if let Call::StartUp(setup) = *call {
+        if let Call::StartUp(setup) = call {
             assert!(self.session == paper::session_new(setup), "a start-up's session is fresh");
         }
         answer

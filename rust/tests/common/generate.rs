@@ -3,7 +3,7 @@
 
 use super::random::Random;
 use varstore::calls::PAPER;
-use varstore::interface::{Answer, Context, Guid, Key, Request, Session, Setup, PLACE, PLACES};
+use varstore::interface::{Answer, Context, Guid, Key, Request, Session, Setting, Setup, PLACE, PLACES};
 use varstore::paper::image::Parts;
 use varstore::paper::layout::{Authenticated, Layout, Plain};
 use varstore::paper::records::{self, is_record, record_name};
@@ -260,17 +260,131 @@ pub fn record_space_for(r: &mut Random, session: &Session, image: &[u8], asked: 
         kept + if is_record(asked.attributes) == records { size } else { 0 }
     };
     let reserve = if session.phase >= 2 { session.setup.reserve.min(4096) as usize } else { 0 };
-    let space = match r.below(4) {
+    let space = match r.below(5) {
         0 => sum(true),
         1 | 2 if is_record(asked.attributes) => sum_after(true),
+        3 if is_record(asked.attributes) => region.len(),
         _ => region.len().saturating_sub(28 + sum_after(false) + reserve),
     };
     (space as u32).saturating_add_signed(r.pick(&[-1, 0, 0, 0, 1]))
 }
 
+/// 02 (e): a rule for a name, with an eye to data: they break it in no way, or in one most often.
+fn setting(r: &mut Random, key: Key, data: &[u8]) -> Setting {
+    let size = data.len() as u32;
+    let width = if r.once_in(10) { r.pick(&[0, 3, 5, 8, 0x100, 0x1_0001, 0x1_0004, u32::MAX]) } else { r.pick(&[1, 2, 4]) };
+    // where the field ends with the data
+    let last = size.saturating_sub(width);
+    let at = match r.below(12) {
+        0..=4 => 0,
+        5..=7 => last,
+        8 | 9 => r.below(data.len() + 1) as u32,
+        10 => r.pick(&[last + 1, size, size + 1]),
+        _ => r.pick(&[width.wrapping_neg(), width.wrapping_neg().wrapping_add(1), u32::MAX, 1 << 31, 0x1_0000]),
+    };
+    let bytes = data.iter().skip(at as usize).take(width.min(4) as usize);
+    let there = bytes.zip(0..).fold(0, |number, (byte, place)| number | u32::from(*byte) << (8 * place));
+    let mut setting = Setting::any(key).field(at, width);
+    if r.once_in(3) {
+        let least = r.pick(&[0, 1, size, size, size, size + 1]);
+        setting = setting.sized(least, r.pick(&[u32::MAX, size, size, size, size.saturating_sub(1), 2048]));
+    }
+    setting = match r.below(3) {
+        0 => setting,
+        1 => {
+            let low = r.pick(&[there, there, there, there.saturating_sub(1), 0, there.saturating_add(1)]);
+            setting.between(low, r.pick(&[there, there, there, there.saturating_add(1), u32::MAX, there.saturating_sub(1)]))
+        }
+        _ => listed(r, setting, there),
+    };
+    if r.once_in(10) {
+        setting.fixed = r.pick(&[1, 2, 0x100, u32::MAX]);
+    }
+    setting
+}
+
+/// A list with a number or without it: in any of its places, behind the eighth, or in a place that does not count.
+fn listed(r: &mut Random, setting: Setting, number: u32) -> Setting {
+    let count = r.pick(&[0, 1, 2, 3, 7, 8, 9, 10]);
+    let mut numbers: Vec<u32> = (1..=count as u32).map(|other| number ^ other).collect();
+    if count > 0 && !r.once_in(4) {
+        let place = r.below(count);
+        numbers[r.pick(&[0, place, place, count - 1])] = number;
+    }
+    let mut setting = setting.one_of(&numbers);
+    if r.once_in(4) {
+        setting.numbers[count.min(8)..].fill(number);
+    }
+    if r.once_in(16) {
+        setting.count = r.pick(&[u32::MAX, 0x100, 0x8000_0001]);
+    }
+    setting
+}
+
+/// The rule for another variable or for none: a size, a bit of the name or a bit of the GUID is another one. Or only bytes behind the name, which do not count.
+fn misnamed(r: &mut Random, mut setting: Setting) -> Setting {
+    let size = (setting.size as usize).min(128);
+    match r.below(4) {
+        0 => setting.size = r.pick(&[0, 1, 2, 3, setting.size ^ 1, setting.size ^ 2, 128, 129, 0x1_0000 | setting.size, u32::MAX]),
+        1 if size > 0 => setting.name[r.below(size)] ^= 1 << r.below(8),
+        2 => setting.vendor[r.below(16)] ^= 1 << r.below(8),
+        _ => setting.name[size..].fill(r.byte()),
+    }
+    setting
+}
+
+/// Rules for any variables in all places, and any count; none most often.
+pub fn rules(r: &mut Random, setup: &mut Setup) {
+    setup.rules = r.pick(&[0, 0, 0, 0, 0, 0, 1, 2, 3, 5, 31, 32, 33, 0x100, u32::MAX]);
+    if setup.rules == 0 && !r.once_in(4) {
+        return;
+    }
+    for place in &mut setup.settings {
+        *place = any_rule(r);
+    }
+}
+
+fn any_rule(r: &mut Random) -> Setting {
+    let (name, data) = (name(r), data(r, 8));
+    let rule = setting(r, name.key(), &data);
+    if r.once_in(8) {
+        misnamed(r, rule)
+    } else {
+        rule
+    }
+}
+
+/// Rules with an eye to a set: one or two are for its name and for the data that would stand, in the first place, the last or any.
+pub fn rules_for(r: &mut Random, image: &[u8], asked: &Asked) -> Vec<Setting> {
+    let data = would_stand(image, asked);
+    let count = r.pick(&[1, 1, 1, 2, 2, 3, 4, 31, 32, 33]);
+    let mut rules: Vec<Setting> = (0..count).map(|_| any_rule(r)).collect();
+    for _ in 0..r.pick(&[1, 1, 2]) {
+        let rule = setting(r, asked.name.key(), &data);
+        let place = r.below(count);
+        rules[r.pick(&[0, place, count - 1])] = if r.once_in(8) { misnamed(r, rule) } else { rule };
+    }
+    rules
+}
+
+/// The data that an accepted set would leave, or a guess.
+fn would_stand(image: &[u8], asked: &Asked) -> Vec<u8> {
+    let given = if asked.attributes & 0x20 != 0 { asked.data.get(40..).unwrap_or(&[]) } else { &asked.data };
+    let old = match Parts::of(image) {
+        Some(parts) if asked.attributes & 0x40 != 0 && (PAPER.check)(image).answer == Answer::Done(0) => {
+            values::<Authenticated>(parts.region).find(|value| value.key() == asked.name.key()).map_or(&[][..], |value| value.data())
+        }
+        _ => &[],
+    };
+    [old, given].concat()
+}
+
 /// What a start-up is given.
 pub fn setup(r: &mut Random) -> Setup {
-    Setup { custom: r.pick(&[0, 1, 2, u32::MAX]), reserve: r.pick(&[0, 1, 4096, 4097, u32::MAX]), records: record_space(r) }
+    let mut setup =
+        Setup { custom: r.pick(&[0, 1, 2, u32::MAX]), reserve: r.pick(&[0, 1, 4096, 4097, u32::MAX]), records: record_space(r), ..Setup::PLAIN };
+    rules(r, &mut setup);
+    setup
 }
 
 /// The same where little is to be refused: custom mode, and room for some records.
@@ -278,13 +392,14 @@ pub fn lenient(r: &mut Random) -> Setup {
     Setup { records: r.pick(&[0, 500, 1000]), ..Setup::CUSTOM }
 }
 
-/// Any session: counts above 16, sizes above 128, phases above 2, reserves above 4,096, any H.
+/// Any session: counts above 16, sizes above 128, phases above 2, reserves above 4,096, any H, any rules.
 pub fn session(r: &mut Random) -> Session {
-    let mut session = (PAPER.session_new)(Setup::PLAIN);
+    let mut session = (PAPER.session_new)(&Setup::PLAIN);
     session.phase = r.pick(&[0, 0, 0, 1, 1, 2, 2, 3, 0x100, u32::MAX]);
     session.setup.custom = r.pick(&[0, 0, 0, 1, 2, 0x100, u32::MAX]);
     session.setup.reserve = r.pick(&[0, 0, 1, 100, 2000, 4095, 4096, 4097, 0x1_0000, u32::MAX]);
     session.setup.records = record_space(r);
+    rules(r, &mut session.setup);
     session.count = r.pick(&[0, 0, 1, 2, 3, 15, 16, 17, 0x100, 0x1_0000, u32::MAX]);
     for place in 0..PLACES {
         let locked = name(r);
@@ -353,13 +468,13 @@ pub fn empty(blocks: usize) -> Vec<u8> {
 pub fn filled(r: &mut Random, blocks: usize) -> Vec<u8> {
     let mut image = empty(blocks);
     for _ in 0..r.below(30 * blocks) {
-        let session = (PAPER.session_new)(Setup { custom: r.below(2) as u32, records: r.pick(&[0, 500, 2000]), ..Setup::PLAIN });
+        let session = (PAPER.session_new)(&Setup { custom: r.below(2) as u32, records: r.pick(&[0, 500, 2000]), ..Setup::PLAIN });
         let mut asked = asked(r);
         asked.presence = 1;
         let limit = if r.once_in(10) { r.below(300) as u64 } else { u64::MAX };
         (PAPER.set)(Context::with(limit), &session, &mut image, &asked.request());
         if r.once_in(10) {
-            (PAPER.start_up)(Context::NO_LIMIT, &mut image, Setup::PLAIN);
+            (PAPER.start_up)(Context::NO_LIMIT, &mut image, &Setup::PLAIN);
         }
     }
     image

@@ -9,6 +9,7 @@ pub mod failing;
 pub mod generate;
 pub mod random;
 pub mod rounds;
+pub mod settings;
 pub mod stored;
 
 use varstore::interface::{Guid, Key};

@@ -28,8 +28,8 @@ impl Call {
 
     /// By an implementation: the answer, and the session after it.
     pub fn by(&self, calls: &Calls, context: Context, session: &Session, image: &mut [u8]) -> (Answer, Session) {
-        match *self {
-            Call::Set(ref asked) => ((calls.set)(context, session, image, &asked.request()), *session),
+        match self {
+            Call::Set(asked) => ((calls.set)(context, session, image, &asked.request()), *session),
             Call::StartUp(setup) => {
                 let started = (calls.start_up)(context, image, setup);
                 (started.answer, started.session)
@@ -40,8 +40,8 @@ impl Call {
 
     /// By the engine, with a content of the test's own.
     pub fn by_engine(&self, context: Context, session: &Session, image: &mut [u8], content: &mut Content) -> (Answer, Session) {
-        match *self {
-            Call::Set(ref asked) => (engine::set(context, session, image, &asked.request(), content), *session),
+        match self {
+            Call::Set(asked) => (engine::set(context, session, image, &asked.request(), content), *session),
             Call::StartUp(setup) => {
                 let started = engine::start_up(context, image, setup, content);
                 (started.answer, started.session)
@@ -61,7 +61,7 @@ impl Call {
 
     /// The session of a host that has planned the call: a start-up's is a new one.
     pub fn planned_session(&self, session: &Session) -> Session {
-        match *self {
+        match self {
             Call::StartUp(setup) => engine::session_new(setup),
             _ => *session,
         }
