@@ -1,6 +1,6 @@
 # make test: the gate. Every step's output is printed; the last line is rt ci's own tally, and the exit status is non-zero if any step failed.
 .SILENT:
-.PHONY: demo test check fmt lib host host-test stack rust-test soak bench check-time efi interop volume-test convert-test records-test
+.PHONY: demo test check fmt lib host host-test stack rust-test soak bench check-time efi interop volume-test convert-test records-test settings-test
 
 CC = cc
 CFLAGS = -std=c11 -O2 -Wall -Wextra -Werror
@@ -82,6 +82,10 @@ convert-test:
 # tools/records on images and volumes that the test makes
 records-test:
 	tools/records-test
+
+# tools/settings on rules, images and volumes that the test makes
+settings-test:
+	tools/settings-test
 
 # prove what has changed, and run the programs
 check:

@@ -1,5 +1,5 @@
-"""For the tests of tools/volume, tools/convert and tools/records: volumes, stores and images made byte by byte, with nothing from the tools' own code; a tool
-run on them."""
+"""For the tests of tools/volume, tools/convert, tools/records and tools/settings: volumes, stores and images made byte by byte, with nothing from the tools' own
+code; a tool run on them."""
 import os
 import struct
 import subprocess
@@ -79,8 +79,9 @@ class Tool:
         if not right:
             print("%s-test: %s: FAILED" % (self.name, what))
 
-    def call(self, arguments):
-        return subprocess.run([sys.executable, self.path, *arguments], stdout=subprocess.PIPE, stderr=subprocess.PIPE, text=True)
+    def call(self, arguments, **surroundings):
+        """with other variables of the environment, if any are given"""
+        return subprocess.run([sys.executable, self.path, *arguments], stdout=subprocess.PIPE, stderr=subprocess.PIPE, text=True, env={**os.environ, **surroundings})
 
     def run(self, way, files, *options):
         """exit status, what it wrote to OUT or None, output, errors; and whether it left its inputs alone"""

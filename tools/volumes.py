@@ -1,10 +1,13 @@
-"""What tools/volume, tools/convert and tools/records share: the variable store in a firmware volume or SPI dump, what keeps a region from being sound in words,
-images made of entries, and files that are never overwritten."""
+"""What tools/volume, tools/convert, tools/records and tools/settings share: the variable store in a firmware volume or SPI dump, what keeps a region from being
+sound in words, images made of entries, what a start-up finds in them, files that are never overwritten, and how names and refusals are printed."""
 import os
+import re
 import struct
 import sys
+import traceback
 
-from reader import ATTRIBUTES, BLOCK, FORMS, HEADER, NEW, STATES, blocks_of, has_record_name, header_of, is_blank, is_clean, is_error_record, is_idle, walk, well_named
+from reader import (ATTRIBUTES, BLOCK, FORMS, HEADER, NEW, STATES, blocks_of, has_record_name, header_of, is_blank, is_clean, is_error_record, is_idle, is_pending,
+                    walk, well_named)
 
 MOST_BLOCKS = 7
 # file system GUID of volumes for variables, as in EFI_FIRMWARE_VOLUME_HEADER
@@ -106,9 +109,15 @@ def the_store(dump, at):
 # ---- what a call or a start-up would refuse
 
 
+def shown(text):
+    """characters that a terminal acts upon or does not show, control and bidirectional ones among them, as \\u and four digits for each unit of UTF-16"""
+    units = lambda one: re.sub("....", r"\\u\g<0>", one.encode("utf-16-be", errors="surrogatepass").hex().upper())
+    return "".join(one if one.isprintable() else units(one) for one in text)
+
+
 def named(entry):
-    name = entry.name.decode("utf-16-le", errors="replace").rstrip("\0")
-    return "%s of vendor %s" % (name if name.isprintable() else entry.name.hex().upper(), entry.vendor.hex().upper())
+    """of an entry whose name is well formed"""
+    return "%s of vendor %s" % (shown(entry.name.decode("utf-16-le", errors="surrogatepass")[:-1]), entry.vendor.hex().upper())
 
 
 def fault_of(entries, length):
@@ -172,6 +181,39 @@ def ready_region(image):
     return form, region, entries, tail
 
 
+def pending_form(image):
+    """the form of the spare, where a start-up would finish a compaction from it: that of the region, or of none where the region has none"""
+    if blocks_of(len(image)) is None:
+        return None
+    region, work, spare = parts_of(image)
+    own = form_of(region)
+    return next((form for form in FORMS if own in (None, form) and is_pending(work, spare, form)), None)
+
+
+def entries_of_image(image):
+    """the entries that a start-up finds, and whether they are the spare's"""
+    region, _, spare = parts_of(image)
+    pending = pending_form(image) is not None
+    _, entries, _ = sound_region(spare if pending else region)
+    return entries, pending
+
+
+def entries_of(held, at, blocks):
+    """what a start-up of its own form finds in an image, a volume or a dump: the entries, and whether they are a spare's"""
+    if blocks is not None:
+        begin = at or 0
+        image = held[begin:begin + BLOCK * (2 * blocks + 1)]
+        if len(image) < BLOCK * (2 * blocks + 1):
+            raise Refused("an image of %d blocks has %d bytes, and from 0x%X on there are %d" % (blocks, BLOCK * (2 * blocks + 1), begin, len(image)))
+        return entries_of_image(image)
+    if at is None and (form_of(held) is not None or pending_form(held) is not None):
+        return entries_of_image(held)
+    if at is None and not stores_of(held):
+        raise Refused("no store: neither an image nor a volume of variables; for an image inside a dump, --at and --blocks say where it is")
+    _, entries, _ = the_store(held, at).sound_bytes(held)
+    return entries, False
+
+
 def with_blocks(blocks, entries, form):
     """an image of a region header and these bytes"""
     return (header_of(BLOCK * blocks, form) + entries).ljust(BLOCK * (2 * blocks + 1), b"\xFF")
@@ -191,7 +233,18 @@ def counted(number, what):
     return "%d %s%s" % (number, what, "" if number == 1 else "s")
 
 
-# ---- files
+# ---- arguments and files
+
+
+def offset_of(text):
+    """of --at"""
+    try:
+        offset = int(text, 0)
+    except ValueError:
+        raise Refused("--at: this is no offset: %s" % text) from None
+    if offset < 0:
+        raise Refused("--at: an offset is 0 or more: %s" % text)
+    return offset
 
 
 def read(path):
@@ -205,10 +258,36 @@ def spare_inputs(out, inputs):
         raise Refused("%s would be overwritten" % out)
 
 
-def main(work):
-    """a tool's end: what is refused is told in one line, with exit status 1"""
+def given_up(stream):
+    """what a stream has not taken is not tried again when the tool ends, which would have an exit status of its own"""
+    if stream is not None:
+        os.dup2(os.open(os.devnull, os.O_WRONLY), stream.fileno())
+
+
+def tell(text):
+    """in one line of standard error, if it takes one"""
     try:
-        work()
+        if sys.stderr is not None:
+            print("%s: %s" % (os.path.basename(sys.argv[0]), shown(text)), file=sys.stderr, flush=True)
+    except OSError:
+        given_up(sys.stderr)
+
+
+def main(work, status=1):
+    """of a tool, whose exit status its work returns: what is refused is told in one line, with an exit status; a fault of the tool's own has 3, so that it passes for no
+    finding"""
+    try:
+        # it may be closed; and as standard error does, it takes what its encoding has not
+        if sys.stdout is not None:
+            sys.stdout.reconfigure(errors="backslashreplace")
+        found = work()
+        if sys.stdout is not None:
+            sys.stdout.flush()
+        sys.exit(found)
     except (Refused, OSError) as why:
-        print("%s: %s" % (os.path.basename(sys.argv[0]), why), file=sys.stderr)
-        sys.exit(1)
+        tell(str(why))
+        given_up(sys.stdout)
+        sys.exit(status)
+    except Exception:
+        traceback.print_exc()
+        sys.exit(3)
