@@ -95,6 +95,16 @@ unfoldable pub stores : ℕ → List Write → List Store
 stores w [] = []
 stores w (x ∷ xs) = storesOne w x ++ stores w xs
 
+-- what a write leaves, whatever w is: its bytes in their places, of a header all but the state, which stays as it is; a blank block
+unfoldable pub leftByOne : Write → List ℕ → List ℕ
+leftByOne (write at bs) img = sets img at bs
+leftByOne (header at front rest) img = sets (sets img at front) (at + length front + 1) rest
+leftByOne (clear b) img = overlay (block * b) blank img
+
+unfoldable pub leftBy : List Write → List ℕ → List ℕ
+leftBy [] img = img
+leftBy (x ∷ xs) img = leftBy xs (leftByOne x img)
+
 -- the same byte by byte, a header without its state: 01's stores, "w = 1 gives today's sequence of stores" (`TodaysStores`, a theorem of `recovery`)
 unfoldable pub todaysOne : Write → List Store
 todaysOne (write at bs) = bytewise at bs

@@ -11,7 +11,7 @@ use Rattle.model.specs.Lists.{allFF, part}
 use Rattle.model.specs.Image.{block}
 use Rattle.model.specs.Region.{entries, values, tail, valuesIn}
 use Rattle.model.specs.Work.{records, usedRecords, idle, pending}
-use Rattle.model.specs.Stores.{Write, clear, erases, stores, storesOne, blank, applyAll}
+use Rattle.model.specs.Stores.{Write, clear, erases, stores, leftBy, leftByOne, blank, apply, applyAll}
 use Rattle.model.specs.Compact.{nextRecord, fillSpare, finish, encode, compactTo, compactOn}
 use Rattle.model.specs.StartUp.{resume, tidySpare, tidyWork, tidyTail, startUpStores}
 use Rattle.plan.specs.declared.Step.{Step}
@@ -19,6 +19,7 @@ use Rattle.plan.specs.Plan.{storesOfStep, expand}
 use Rattle.orders.specs.Compactions.{tidied, compactPlan, restPlan, spareStep, workStep}
 use Rattle.orders.proofs.CompactionPlans.{compact-is}
 use Rattle.model.proofs.Parts.{Parts, parts-blocks, parts-size, parts-region, parts-work, parts-spare}
+use Rattle.model.proofs.Stores.{left-today}
 use Rattle.model.proofs.Segments.{erases-segment, erase-segment, length-blank}
 
 -- ---- one stage, on an image of these parts
@@ -38,18 +39,19 @@ module _ {b : ℕ} {r w s : List ℕ} (p : Parts b r w s) where
   tail-stage = rw (parts-region p, parts-blocks p, parts-work p, parts-size p)
 
   -- what the first two leave
-  spare-left : (t : Bool) → applyAll (stores 1 (cond t [] (erases (b + 1) b))) (r ++ (w ++ s)) ≡ r ++ (w ++ cond t s (replicate (block * b) 0xFF))
-  unfolding applyAll stores
+  spare-left : (t : Bool) → leftBy (cond t [] (erases (b + 1) b)) (r ++ (w ++ s)) ≡ r ++ (w ++ cond t s (replicate (block * b) 0xFF))
+  unfolding leftBy
   spare-left true = refl
   spare-left false =
       let l : length (r ++ w) ≡ block * (b + 1) = length-append r w ∙ omega (arith, p .region-long, p .work-long) in
-      ap (λ (x : List ℕ). applyAll (stores 1 (erases (b + 1) b)) x) (sym (append-assoc r w s) ∙ ap (λ (x : List ℕ). (r ++ w) ++ x) (sym (append-nil s)))
+      sym (left-today (erases (b + 1) b) (r ++ (w ++ s)))
+      ∙ ap (λ (x : List ℕ). applyAll (stores 1 (erases (b + 1) b)) x) (sym (append-assoc r w s) ∙ ap (λ (x : List ℕ). (r ++ w) ++ x) (sym (append-nil s)))
       ∙ erases-segment 1 (b + 1) b (r ++ w) s [] l (p .spare-long)
       ∙ ap (λ (x : List ℕ). (r ++ w) ++ x) (append-nil (replicate (block * b) 0xFF))
       ∙ append-assoc r w (replicate (block * b) 0xFF)
 
-  work-left : (t : Bool) → applyAll (stores 1 (cond t [] (clear b ∷ []))) (r ++ (w ++ s)) ≡ r ++ (cond t w blank ++ s)
-  unfolding applyAll stores storesOne
+  work-left : (t : Bool) → leftBy (cond t [] (clear b ∷ [])) (r ++ (w ++ s)) ≡ r ++ (cond t w blank ++ s)
+  unfolding leftBy leftByOne apply
   work-left true = refl
   work-left false = erase-segment b r w s (p .region-long) (p .work-long)
 
@@ -82,7 +84,7 @@ pub tidy-is : {b : ℕ} {r w s : List ℕ} → Parts b r w s → pending (r ++ (
     ++ (cond (idle w) [] (clear b ∷ [])
     ++ cond (allFF (tail r)) []
     (fillSpare b (tidied w) (encode (block * b) (values (entries r))) ++ finish b (nextRecord (tidied w)) (encode (block * b) (values (entries r)))))
-unfolding startUpStores resume applyAll stores
+unfolding startUpStores resume leftBy
 tidy-is {b} {r} {w} {s} p h =
     let s₁ : List ℕ = cond (allFF s) s (replicate (block * b) 0xFF) in
     let q = spare-parts p (allFF s) in

@@ -12,10 +12,10 @@ use lib.ListN.{length}
 use lib.Dec.{eqb, ltb}
 use borrow.Author.Tests.{eqb-true, eqb-false, ltb-true, ltb-false}
 use Rattle.model.specs.Image.{block}
-use Rattle.model.specs.Stores.{Store, page, erase, Write, write, header, clear, joinedTo, pages, stores, storesOne, Every, widthOf}
+use Rattle.model.specs.Stores.{Store, page, erase, Write, write, header, clear, joinedTo, pages, stores, storesOne, run, Every, widthOf}
 use Rattle.model.proofs.Pages.{widths, width-positive}
 use Rattle.model.proofs.Stores.{stores-run, stores-mark, Starts, none-there, page-there, pages-start, pages-first, pages-one}
-use Rattle.recovery.specs.Chip.{OnePage, StoresWithinPages, WholePage, WholePagesStored, MarksAreSingle}
+use Rattle.recovery.specs.Chip.{OnePage, StoresWithinPages, WholePage, MarksAreSingle}
 
 -- ---- within one page
 
@@ -196,8 +196,10 @@ block-ends : (k m n : ℕ) → (block * k + block * m) % widthOf n ≡ 0
 unfolding block
 block-ends k m = widths (λ w. (block * k + block * m) % w ≡ 0) (omega arith) (omega arith) (omega arith) (omega arith) (omega arith)
 
-pub whole-pages-stored : WholePagesStored
-whole-pages-stored n k m bs l =
+-- bytes that begin with a block and fill blocks are stored as whole pages, as many as fit
+pub blocks-whole : (n k m : ℕ) (bs : List ℕ) → length bs ≡ block * m
+    → Every (WholePage (widthOf n)) (stores (widthOf n) (run (block * k) bs)) × (length (stores (widthOf n) (run (block * k) bs)) * widthOf n ≡ length bs)
+blocks-whole n k m bs l =
     let w = widthOf n in
     let at = block * k in
     let whole = whole-pages w at bs (width-positive n) (block-begins k n) (ap (λ (j : ℕ). (at + j) % w) l ∙ block-ends k m n) in

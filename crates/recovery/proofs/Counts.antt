@@ -15,7 +15,7 @@ use Rattle.model.specs.Stores.{Write, clear, pages, stores, storesOne, run, mar
 use Rattle.model.specs.Compact.{allUsed, nextRecord, fillSpare, finish}
 use Rattle.model.specs.Set.{leftover, entryStores, tailTo, tailOn}
 use Rattle.model.proofs.Stores.{stores-append, stores-mark}
-use Rattle.recovery.proofs.Chip.{whole-pages-stored}
+use Rattle.recovery.proofs.Chip.{blocks-whole}
 
 -- RATE, GUID 01 02 up to 10, attributes 0x07, data 64 00 00 00
 abbrev rate : Value
@@ -94,7 +94,7 @@ module _ (w b place : ℕ) (work content : List ℕ) (space : allUsed work ≡ f
 module _ (place : ℕ) (work content : List ℕ) (space : allUsed work ≡ false) (long : length content ≡ block) where
   pages-of : (n k : ℕ) → length (stores (widthOf n) (run (block * k) content)) * widthOf n ≡ 4096
   unfolding block
-  pages-of n k = whole-pages-stored n k 1 content long .1 ∙ long
+  pages-of n k = blocks-whole n k 1 content long .1 ∙ long
 
   abbrev compacted : ℕ → ℕ
   compacted w = length (stores w (fillSpare 1 work content ++ finish 1 place content))

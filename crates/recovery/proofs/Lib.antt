@@ -33,8 +33,10 @@ pub mod BitsOfSets
 pub mod Bits
 -- With w = 1 the lists of stores are 01's; with no dead byte, the answers
 pub mod Today
--- Every store lies within one page, and those of a compaction are whole ones
+-- Every store lies within one page; bytes that fill blocks are stored as whole pages
 pub mod Chip
+-- So are those of every compaction; what is written leaves the same for every w
+pub mod WholePages
 -- Numbers of stores, worked out
 pub mod Counts
 -- The interface: by their contracts, calls to it are a run

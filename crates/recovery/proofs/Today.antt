@@ -1,6 +1,6 @@
 -- With w = 1 every list of stores is today's, byte by byte; with no dead byte every answer is. Assumes nothing.
 use Prim.Native.Nat.{ℕ, zero, suc, _+_, _*_, _-_}
-use mathlib.Core.Path.{_≡_, refl, ap, _∙_}
+use mathlib.Core.Path.{_≡_, refl, sym, ap, _∙_}
 use mathlib.Core.Bool.{Bool, true, false, cond}
 use mathlib.Core.List.{List, [], _∷_, _++_, append-nil}
 use mathlib.Core.Option.{Option, none, some}
@@ -24,7 +24,7 @@ use Rattle.model.specs.Set.{Plan, refuse, make, markState, leftover, entryStore
 use Rattle.model.specs.StartUp.{resume, tidySpare, tidyWork, tidyTail, andThen, startUpStores, startUpPlan, formatStores, formatPlan}
 use Rattle.model.specs.Answers.{done, stopped, storesOf, pageOf, outcome, getPlan, nextPlan}
 use Rattle.model.specs.Book.{Call, set, get, next, startUp, planOf}
-use Rattle.model.proofs.Stores.{stores-append, stores-one, stores-run, stores-mark, pages-bytewise, one-today, stores-todays}
+use Rattle.model.proofs.Stores.{stores-append, stores-one, stores-run, stores-mark, pages-bytewise, one-today, stores-todays, left-today}
 use Rattle.model.proofs.Failing.{outcome-none, image-none}
 use Rattle.model.proofs.Encode.{length-front}
 use Rattle.recovery.specs.Today.{TodaysStores, erasesToday, stateMark, leftoverToday, entryToday, tailToday, deleteToday, finishToday, compactToday, changeToday, resumeToday, spareToday, workToday, restToday, thenToday, startUpToday, formatToday, callToday, TodaysSequence, answerToday, TodaysAnswers}
@@ -162,7 +162,7 @@ is-rest img = is-cond (allFF (tail (region img))) is-nil (is-compact img (values
 
 is-then : (f g : List ℕ → List Write) (f′ g′ : List ℕ → List Store) → ((x : List ℕ) → Is (f x) (f′ x)) → ((x : List ℕ) → Is (g x) (g′ x))
     → (x : List ℕ) → Is (andThen f g x) (thenToday f′ g′ x)
-is-then f g f′ g′ p q x = is-append (p x) (rw (p x .is) (q (applyAll (f′ x) x)))
+is-then f g f′ g′ p q x = is-append (p x) (rw (sym (left-today (f x) x) ∙ ap (λ (l : List Store). applyAll l x) (p x .is)) (q (applyAll (f′ x) x)))
 
 is-startUp : (img : List ℕ) → Is (startUpStores img) (startUpToday img)
 unfolding startUpStores startUpToday

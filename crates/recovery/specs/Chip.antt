@@ -1,10 +1,23 @@
 -- 02 (i): what the chip is asked to do. Each claim is a type.
-use Prim.Native.Nat.{ℕ, _+_, _*_, _%_, _≤_}
+use Prim.Native.Nat.{ℕ, _+_, _%_, _≤_}
 use mathlib.Core.Path.{_≡_}
-use mathlib.Core.List.{List, [], _∷_}
-use lib.ListN.{length}
-use Rattle.model.specs.Image.{block}
-use Rattle.model.specs.Stores.{Store, page, erase, Write, stores, run, mark, byte, Every, widthOf}
+use mathlib.Core.Bool.{true}
+use mathlib.Core.Logic.{_⊎_}
+use mathlib.Core.List.{List, [], _∷_, _++_}
+use mathlib.Core.Option.{none}
+use lib.ListN.{length, getD}
+use Rattle.model.specs.declared.Session.{Session}
+use Rattle.model.specs.Image.{rightLength, region}
+use Rattle.model.specs.Entry.{Value}
+use Rattle.model.specs.Region.{sound, valuesOf}
+use Rattle.model.specs.Work.{pending}
+use Rattle.model.specs.Request.{Request}
+use Rattle.model.specs.Change.{put, changeIn, step}
+use Rattle.model.specs.Rules.{setBroken}
+use Rattle.model.specs.Stores.{Store, page, erase, Write, write, header, clear, stores, applyAll, leftBy, leftByOne, mark, byte, Every, widthOf}
+use Rattle.model.specs.Compact.{compactTo, compactOn}
+use Rattle.model.specs.StartUp.{resume, startUpStores}
+use Rattle.model.specs.Book.{isRecord}
 
 -- "The new flash stores up to w bytes at a time, within one page of w": whatever is written
 abbrev pub OnePage : ℕ → Store → Type 0
@@ -14,18 +27,50 @@ OnePage w (erase b) = Unit {0}
 abbrev pub StoresWithinPages : Type 0
 StoresWithinPages = (w : ℕ) → 1 ≤ w → (ws : List Write) → Every (OnePage w) (stores w ws)
 
--- "Compactions store and copy whole pages": of bytes that begin with a block and fill blocks, as those of a region and of a spare do, every store is a whole page,
--- and there are as many as fit
+-- "Compactions store and copy whole pages": every store of one is a whole page, a block's erase, or the mark of a record
 abbrev pub WholePage : ℕ → Store → Type 0
 WholePage w (page at bs) = (at % w ≡ 0) × (length bs ≡ w)
 WholePage w (erase b) = Unit {0}
 
+abbrev pub WholeOrRecord : ℕ → List ℕ → Store → Type 0
+WholeOrRecord w img (page at bs) = WholePage w (page at bs) ⊎ ((isRecord img at ≡ true) × (length bs ≡ 1))
+WholeOrRecord w img (erase b) = Unit {0}
+
+abbrev pub InWholePages : ℕ → List ℕ → List Write → Type 0
+InWholePages n img ws = Every (WholeOrRecord (widthOf n) img) (stores (widthOf n) ws)
+
+-- all stores of a compaction that leaves a list of values
+abbrev pub Compacted : ℕ → List ℕ → List Value → Type 0
+Compacted n img vs = InWholePages n img (compactTo img vs ++ compactOn img vs)
+
+-- there are three: a set's, a start-up's with no change, and the one that a start-up resumes
 abbrev pub WholePagesStored : Type 0
 WholePagesStored =
-    (n k m : ℕ) (bs : List ℕ)
-    → length bs ≡ block * m
-    → Every (WholePage (widthOf n)) (stores (widthOf n) (run (block * k) bs))
-    × (length (stores (widthOf n) (run (block * k) bs)) * widthOf n ≡ length bs)
+    (n : ℕ) (img : List ℕ)
+    → ((s : Session) (r : Request) (v : Value)
+    → length (r .vendor) ≡ 16
+    → setBroken s r img ≡ none
+    → changeIn r (valuesOf img) ≡ put v
+    → Compacted n img (step (put v) (valuesOf img)))
+    × (rightLength img ≡ true → sound (region img) ≡ true → Compacted n img (valuesOf img))
+    × (rightLength img ≡ true → InWholePages n img (resume img))
+
+-- what is written leaves the same for every w, where the state of each header that is written is blank, as it is in a blank tail
+abbrev pub StateBlank : Write → List ℕ → Type 0
+StateBlank (write at bs) img = Unit {0}
+StateBlank (header at front rest) img = getD img (at + length front) 0xFF ≡ 0xFF
+StateBlank (clear b) img = Unit {0}
+
+abbrev pub StatesBlank : List Write → List ℕ → Type 0
+StatesBlank [] img = Unit {0}
+StatesBlank (x ∷ xs) img = StateBlank x img × StatesBlank xs (leftByOne x img)
+
+-- a start-up writes no header, and so leaves the same on every image
+abbrev pub StoresLeave : Type 0
+StoresLeave =
+    (w : ℕ) (img : List ℕ)
+    → ((ws : List Write) → StatesBlank ws img → applyAll (stores w ws) img ≡ leftBy ws img)
+    × (applyAll (stores w (startUpStores img)) img ≡ leftBy (startUpStores img) img)
 
 -- "state and record marks are single bytes"
 abbrev pub MarksAreSingle : Type 0

@@ -14,14 +14,14 @@ use borrow.Author.Tests.{le-leb}
 use Rattle.model.specs.Lists.{all, onSome}
 use Rattle.model.specs.Entry.{Value}
 use Rattle.model.specs.Region.{valuesOf}
-use Rattle.model.specs.Stores.{Store, stores, todays, widthOf, Bytes, applyAll, after}
+use Rattle.model.specs.Stores.{Store, stores, leftBy, todays, widthOf, Bytes, applyAll, after}
 use Rattle.model.specs.Rules.{startUpBroken}
 use Rattle.model.specs.Set.{Plan, refuse, make}
 use Rattle.model.specs.StartUp.{resume, tidySpare, tidyWork, tidyTail, andThen, startUpStores, startUpPlan}
 use Rattle.model.specs.Answers.{done, stopped, outcome, imageAfter}
 use Rattle.model.proofs.Failing.{unworn, outcome-none}
 use Rattle.model.specs.Book.{Call, startUp, planOf, Sized, bookAfter, Run, begin, ran, cut, StartedUp, started, Demand3}
-use Rattle.model.proofs.Stores.{after-all, after-append, stores-todays}
+use Rattle.model.proofs.Stores.{after-all, after-append, stores-todays, left-today}
 use Rattle.table.proofs.Pieces.{Piece, flat, laidAll, allInside, flat-laid, asWrites, as-flat}
 use Rattle.table.proofs.Row.{plain, ff, zeros, header, image, guid, rateEntry, behindState, startId, setting}
 use Rattle.table.proofs.Held.{listed, settled, plan-listed, plan-settled, plan-left}
@@ -97,8 +97,9 @@ pub resumption : (img : List ℕ) (ps : List Piece)
 unfolding startUpPlan startUpStores
 resumption img ps sound writes inside none-more =
     let tidy = andThen tidySpare (andThen tidyWork tidyTail) in
-    let then : tidy (applyAll (stores 1 (resume img)) img) ≡ [] =
-    ap (λ ws. tidy (applyAll (stores 1 ws) img)) writes
+    let then : tidy (leftBy (resume img) img) ≡ [] =
+    ap (λ ws. tidy (leftBy ws img)) writes
+    ∙ ap tidy (sym (left-today (asWrites ps) img))
     ∙ ap (λ ss. tidy (applyAll ss img)) (stores-todays (asWrites ps) ∙ as-flat ps)
     ∙ ap tidy (flat-laid ps img inside)
     ∙ none-more in
