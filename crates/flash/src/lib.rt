@@ -8,6 +8,7 @@ ghost use lib.ListN.{length, getD};
 ghost use lib.Dec.{eqb, leb, ltb};
 ghost use Rattle.model.specs.Lists.{among, part};
 ghost use Rattle.model.specs.Image.{block};
+ghost use Rattle.model.specs.Entry.{headerSize};
 ghost use Rattle.model.specs.Stores.{byte, page, erase, apply, applyAll, after, falls, fails, reach, stores, widthOf};
 ghost use Rattle.model.specs.Answers.{answerOf, outcome, imageAfter, ended};
 ghost use Rattle.plan.specs.Plan.{expand, sizeOf, runOf, countOf, Programmed, Turned, Fits, OneBit, Ready};
@@ -104,7 +105,7 @@ fn mark(image: &mut [u8], at: usize, new: u8, dead: &[u32]) -> usize
 
 // The places of a header.
 fn header_size(w: usize) -> usize
-    ensures { λ r. ⌜ r ≡ cond (eqb w 1) 59 60 ⌝ }
+    ensures { λ r. ⌜ r ≡ cond (eqb w 1) (headerSize - 1) headerSize ⌝ }
 {
     if w == 1 {
         return HEADER_STORES;
@@ -294,7 +295,7 @@ fn header_bytes(
     left: u64,
     dead: &[u32],
 ) -> usize
-    requires { ⌜ (i < 59) × (1 ≤ left) × (from + 60 ≤ length (now content)) × (at + 60 ≤ length (now image)) ⌝ }
+    requires { ⌜ (i < headerSize - 1) × (1 ≤ left) × (from + headerSize ≤ length (now content)) × (at + headerSize ≤ length (now image)) ⌝ }
     ensures { λ r. ⌜ Turned (now (dead .entry)) 1 (now (content .entry)) (Header at from) i left (now (image .entry)) (now (image .exit)) r ⌝ }
 {
     if i < Layout::STATE {
@@ -330,7 +331,7 @@ fn header(
     dead: &[u32],
     w: usize,
 ) -> usize
-    requires { ⌜ (i < sizeOf w (Header at from)) × (1 ≤ left) × (from + 60 ≤ length (now content)) × (at + 60 ≤ length (now image)) × (1 ≤ w) ⌝ }
+    requires { ⌜ (i < sizeOf w (Header at from)) × (1 ≤ left) × (from + headerSize ≤ length (now content)) × (at + headerSize ≤ length (now image)) × (1 ≤ w) ⌝ }
     ensures { λ r. ⌜ Turned (now (dead .entry)) w (now (content .entry)) (Header at from) i left (now (image .entry)) (now (image .exit)) r ⌝ }
 {
     if w == 1 {

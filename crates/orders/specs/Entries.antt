@@ -54,10 +54,10 @@ tailPlan places at name size =
     op (leftoverStep places)
     ∷ op (markFound (places .added) 0x3E)
     ∷ op (Header at 0)
-    ∷ op (Mark (at + 2) 0x7F)
-    ∷ op (Program (at + 60) 60 name)
-    ∷ op (Program (at + 60 + name) (60 + name) size)
-    ∷ op (Mark (at + 2) 0x3F)
+    ∷ op (Mark (at + stateAt) 0x7F)
+    ∷ op (Program (at + headerSize) headerSize name)
+    ∷ op (Program (at + headerSize + name) (headerSize + name) size)
+    ∷ op (Mark (at + stateAt) 0x3F)
     ∷ op (retireStep places)
     ∷ none
     ∷ none

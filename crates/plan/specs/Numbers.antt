@@ -3,6 +3,7 @@ use Prim.Native.Nat.{ℕ}
 use mathlib.Core.Path.{_≡_}
 use mathlib.Core.List.{List, [], _∷_}
 use lib.ListN.{getD}
+use Rattle.model.specs.Entry.{headerSize}
 use Rattle.model.specs.Set as set
 use Rattle.plan.specs.declared.Step.{Step}
 use Rattle.plan.specs.declared.Step.the-variants.{Nothing, Mark, Erase, Program, Header}
@@ -21,7 +22,7 @@ operationOf Nothing = none
 operationOf (Mark at v) = record { kind = 1; at = at; from = v; len = 1 }
 operationOf (Erase first count) = record { kind = 2; at = first; from = 0; len = count }
 operationOf (Program at from len) = record { kind = 3; at = at; from = from; len = len }
-operationOf (Header at from) = record { kind = 4; at = at; from = from; len = 60 }
+operationOf (Header at from) = record { kind = 4; at = at; from = from; len = headerSize }
 
 -- that at a place of a plan; none past its end
 abbrev pub operationAt : List Op → ℕ → HostOp

@@ -3,10 +3,11 @@ ghost use mathlib.Core.Path.{_≡_};
 ghost use Rattle.plan.specs.Planned.{accepted, refused, nothings};
 ghost use Rattle.plan.specs.Told.{noOperations};
 ghost use Rattle.plan.specs.Numbers.{operationOf, operationAt, operationsOf, inNumbers};
+use model::Layout;
 use model::Rule;
 
 // The bytes of an entry's header, its state among them.
-const HEADER: u64 = 60;
+const HEADER: u64 = Layout::HEADER as u64;
 
 // One operation: none; a byte marked (offset, new value); blocks erased (the first, how many); bytes of the content stored (offset in the image, offset in
 // the content, how many); an entry's header stored around its state (offset in the image, offset in the content), so that a part programmed in pages can take

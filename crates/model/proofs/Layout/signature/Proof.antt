@@ -10,11 +10,11 @@ is-stamped-requires c κs = search needs
 
 returns : tie.Need-returns
 unfolding signature plainSignature
-returns c = simp (sym (c .before .before .before .is-stamped .ensures) ∙ c .before .before .if1 .taken)
+returns c = simp (sym (c .before .is-stamped .ensures) ∙ c .if1 .taken)
 
 returns-2 : tie.Need-returns-2
 unfolding signature plainSignature
-returns-2 c = simp (sym (c .before .before .before .is-stamped .ensures) ∙ c .before .before .if1 .left)
+returns-2 c = simp (sym (c .before .is-stamped .ensures) ∙ c .if1 .left)
 
 pub signature-spec : {M : Type 1} → statement M
 signature-spec = tie.close (tie.spec is-stamped-requires returns returns-2)
