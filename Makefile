@@ -54,9 +54,10 @@ soak: $(LIB)
 bench: $(LIB)
 	tools/bench
 
-# the check of a full image of smallest entries, on the library of a revision (BEFORE=REVISION) and on this one: it may take no longer
+# the check of a full image of smallest entries, on the library of a revision (BEFORE=REVISION; if none is given, the one before 02 (c)) and on this one: it may
+# take no longer
 check-time: $(LIB)
-	tools/check-time $(or $(BEFORE),HEAD)
+	tools/check-time $(or $(BEFORE),3b92912)
 
 # the library inside a firmware, under its timer interrupts: EDK II's OVMF in qemu; first it says which packages are missing
 efi:

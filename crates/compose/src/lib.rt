@@ -1,4 +1,4 @@
-// Bytes of entries, and of a region that holds values, composed in a lent buffer. As in `text`, a function is given the place of its first byte and gives
+// Bytes of entries, and of a region that holds values, composed in a lent buffer. As in `output`, a function is given the place of its first byte and gives
 // back the place behind its last one, and bytes past the buffer's end are counted and not stored.
 ghost use mathlib.Core.Path.{_≡_};
 ghost use Prim.Native.Nat.{_+_, _-_, _^_, _<_, _≤_};

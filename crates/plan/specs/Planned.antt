@@ -50,7 +50,8 @@ decidesRight (set.refuse rule) p = eqb (p .deciding) 12
 decidesRight (set.make to on) p = cond (isEmpty to) (eqb (p .deciding) 12) (isMark (getD (p .plan) (p .deciding) (op Nothing) .step))
 
 -- this was planned, over an image and with the content as it was before and is now: it is what the definitions plan, its deciding operation is told
--- rightly, and it is what the executor asks
+-- rightly, and it is what the executor asks. Open is only which operations make up the list of writes: one may be empty, an erase may be split in two, and a mark
+-- that does not decide may be a program of one byte
 pub record Plans (plan : set.Plan) (img before content : List ℕ) (p : Planned) : Type 0 where
   pub same : plannedAs content p ≡ plan
   pub decides : decidesRight plan p ≡ true

@@ -47,7 +47,8 @@ noOperations = none ∷ none ∷ none ∷ none ∷ none ∷ none ∷ none ∷ no
 unfoldable pub refusalOf : Rule → HostPlan
 refusalOf rule = record { rule = ruleNumber rule; deciding = 12; ops = noOperations }
 
--- *these numbers, with this content, tell that plan*: its rule; or 0, and operations that write what the plan does, up to the deciding store and on from there
+-- *these numbers, with this content, tell that plan*: its rule; or 0, and operations that write what the plan does, up to the deciding store and on from there. Open is
+-- only which operations these are, as in `Plans`
 abbrev pub Told : set.Plan → List ℕ → HostPlan → Type 0
 Told (set.refuse rule) content h = h ≡ refusalOf rule
 Told (set.make to on) content h =
