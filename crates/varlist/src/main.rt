@@ -1,4 +1,5 @@
 // varlist: reads an image on standard input and prints its variables, or the rule that it breaks.
+use libc::STDERR_FILENO;
 use libc::STDOUT_FILENO;
 
 fn main() {
@@ -6,5 +7,11 @@ fn main() {
     let n = io::read_full(0, &mut image);
     let mut out = io::large_buffer();
     let length = report::report(&image[..n], &mut out);
-    io::write_all(STDOUT_FILENO, slices::cut(&out, 0, length));
+    if !io::write_all(STDOUT_FILENO, slices::cut(&out, 0, length)) {
+        // a program has no exit status of its own
+        io::write_all(
+            STDERR_FILENO,
+            b"varlist: standard output has not taken the list\n",
+        );
+    }
 }
