@@ -1,6 +1,5 @@
-# make test: the gate. Every step's output is printed; the last line is rt ci's own tally, and the exit status is non-zero if any step failed.
 .SILENT:
-.PHONY: demo test check fmt lib host host-test stack rust-test soak bench check-time efi interop volume-test convert-test records-test settings-test
+.PHONY: help kit demo test check fmt lib host host-test stack rust-test soak bench check-time efi interop volume-test convert-test records-test settings-test desk-test
 
 CC = cc
 CFLAGS = -std=c11 -O2 -Wall -Wextra -Werror
@@ -9,11 +8,19 @@ LIB = target/staticlib/libcapi.a
 # what the library is made of
 SOURCES := crates.txt tools/lib $(shell find crates -path '*/src/*' -type f -o -path '*/specs/*' -type f -o -path '*/proofs/*' -type f)
 
-test:
+# these lines; each target has its own in the comment before it
+help:
+	awk '/^# / { said = substr($$0, 3) } /^[a-z-]+:/ && said { sub(":.*", ""); printf "make %-14s %s\n", $$0, said } !/^# / { said = "" }' Makefile
+
+kit:
+	command -v rt >/dev/null || { echo "rt is missing: install the Rattle kit, and have its rt on the PATH" >&2; exit 1; }
+
+# the gate: prints every step's output; the last line is rt ci's own tally, and the exit status is not 0 if any step failed
+test: kit
 	sh tools/gate
 
 # prove the library and varlist, list a sample store, and play power cuts in a compaction
-demo:
+demo: kit
 	tools/progress target/varlist.log rt check varlist
 	tools/progress target/lib.log $(MAKE) -s lib
 	echo
@@ -32,6 +39,7 @@ $(LIB): $(SOURCES)
 host: $(LIB)
 	$(CC) $(CFLAGS) c/host.c $(LIB) -o target/host
 
+# the host, and what it must print
 host-test: host
 	target/host crates/varlist/stdin >target/host.out
 	target/host >>target/host.out
@@ -66,7 +74,7 @@ efi:
 	tools/efi
 
 # variables from the library to OVMF and back; first it says which packages are missing
-interop:
+interop: kit
 	tools/interop --packages
 	$(MAKE) -s lib
 	rt check varlist
@@ -88,9 +96,14 @@ records-test:
 settings-test:
 	tools/settings-test
 
+# what all desk tools do alike: lost output, files, --help, README's transcripts; needs the programs varlist and plainlist
+desk-test:
+	tools/desk-test
+
 # prove what has changed, and run the programs
-check:
+check: kit
 	rt check
 
-fmt:
+# lay the sources out as the gate wants them
+fmt: kit
 	rt fmt

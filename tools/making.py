@@ -1,5 +1,4 @@
-"""For the tests of tools/volume, tools/convert, tools/records and tools/settings: volumes, stores and images made byte by byte, with nothing from the tools' own
-code; a tool run on them."""
+"""For the tests of the tools for the desk: volumes, stores and images made byte by byte, with nothing from the tools' own code; a tool run on them."""
 import os
 import struct
 import subprocess
@@ -93,7 +92,8 @@ class Tool:
             out = os.path.join(folder, "out")
             ended = self.call([way, *paths, out, *options])
             self.told("%s: its inputs are as before" % way, [open(path, "rb").read() for path in paths] == files)
-            return ended.returncode, open(out, "rb").read() if os.path.exists(out) else None, ended.stdout, ended.stderr
+            told_of = ended.stderr.replace(folder, "FOLDER")
+            return ended.returncode, open(out, "rb").read() if os.path.exists(out) else None, ended.stdout, told_of
 
     def gives(self, what, expected, way, files, *options):
         status, out, said, errors = self.run(way, files, *options)
@@ -101,9 +101,10 @@ class Tool:
         return said
 
     def refuses(self, what, words, way, files, *options):
-        """in one line that has these words"""
+        """in one line that has these words, and names a file if it is not the offset that is refused"""
         status, out, said, errors = self.run(way, files, *options)
-        self.told("%s (%s)" % (what, errors.strip()), status == 1 and out is None and said == "" and errors.count("\n") == 1 and words in errors)
+        names = errors.startswith(("%s: FOLDER/" % self.name, "%s: --at: " % self.name))
+        self.told("%s (%s)" % (what, errors.strip()), status == 1 and out is None and said == "" and errors.count("\n") == 1 and words in errors and names)
 
     def end(self):
         print("%s-test: %d checks passed, %d failed" % (self.name, self.passed, self.failed))

@@ -7,8 +7,9 @@ import os
 import re
 import shutil
 import subprocess
-import sys
 import time
+
+from desk import Refused, tell
 
 ROOT = os.path.dirname(os.path.dirname(os.path.abspath(__file__)))
 TARGET = os.path.join(ROOT, "target")
@@ -18,10 +19,6 @@ BUILDS = [(folder + code, folder + variables) for folder in ("/usr/share/OVMF/",
           for code, variables in (("OVMF_CODE_4M.fd", "OVMF_VARS_4M.fd"), ("OVMF_CODE.fd", "OVMF_VARS.fd"))]
 # what is looked for, and the Debian package that has it
 PROGRAMS = {"qemu-system-x86_64": "qemu-system-x86", "mformat": "mtools", "mcopy": "mtools", "cc": "gcc", "objcopy": "binutils"}
-
-
-class Refused(Exception):
-    """the run cannot be made"""
 
 
 def firmware():
@@ -39,11 +36,18 @@ def look(more=()):
         raise Refused("install first: %s (the names are Debian's)" % ", ".join(sorted(missing)))
 
 
+def failed(what, status, printed):
+    """refuses the run, after all that a program has printed"""
+    for line in printed.decode(errors="replace").splitlines():
+        tell(line)
+    raise Refused("%s: status %d" % (what, status))
+
+
 def do(*command):
     """a program that must succeed; its output"""
     ended = subprocess.run(command, stdout=subprocess.PIPE, stderr=subprocess.PIPE)
     if ended.returncode:
-        raise Refused("%s: status %d\n%s" % (" ".join(command), ended.returncode, (ended.stdout + ended.stderr).decode(errors="replace")))
+        failed(" ".join(command), ended.returncode, ended.stdout + ended.stderr)
     return ended.stdout
 
 
@@ -99,14 +103,5 @@ def run(folder, the_disk, variables, seconds, code=None):
                 machine.kill()
                 machine.wait()
     if off and machine.returncode:
-        raise Refused("qemu: status %d\n%s" % (machine.returncode, open(os.path.join(folder, "qemu")).read()))
+        failed("qemu", machine.returncode, open(os.path.join(folder, "qemu"), "rb").read())
     return plain(open(serial, "rb").read()), off, time.monotonic() - began
-
-
-def main(work):
-    """a tool's end: 0 passed, 1 failed, 2 could not be run"""
-    try:
-        sys.exit(work())
-    except Refused as why:
-        print("%s: %s" % (os.path.basename(sys.argv[0]), why), file=sys.stderr)
-        sys.exit(2)

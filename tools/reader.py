@@ -49,7 +49,7 @@ def header_of(length, form=NEW):
 class Entry:
     def __init__(self, region, at, form):
         start, self.state, _zero, self.attributes, *_, self.name_size, self.data_size, self.vendor = form.header.unpack_from(region, at)
-        self.begins = start == 0x55AA
+        self.at, self.begins = at, start == 0x55AA
         at += form.entry
         # "FF header unfinished (the entry counts as 60 bytes)", 32 in the plain form; Python's numbers do not wrap
         self.end = at if self.state == 0xFF else at + self.name_size + self.data_size

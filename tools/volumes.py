@@ -1,15 +1,15 @@
-"""What tools/volume, tools/convert, tools/records and tools/settings share: the variable store in a firmware volume or SPI dump, what keeps a region from being
-sound in words, images made of entries, what a start-up finds in them, files that are never overwritten, and how names and refusals are printed."""
-import os
-import re
+"""What tools/volume, tools/convert, tools/records and tools/settings know of stores: the variable store in a firmware volume or SPI dump, what keeps a region from
+being sound in words, images made of entries, what a start-up finds in them, and what can be read of a store that no start-up would take."""
 import struct
-import sys
-import traceback
 
+from desk import Refused, about, read, shown, tell
 from reader import (ATTRIBUTES, BLOCK, FORMS, HEADER, NEW, STATES, blocks_of, has_record_name, header_of, is_blank, is_clean, is_error_record, is_idle, is_pending,
-                    walk, well_named)
+                    values_of, walk, well_named)
 
 MOST_BLOCKS = 7
+LARGEST_DATA = 2048
+# the exit status of a tool that only reads, where not all of a store is as the papers allow
+NOT_ALL = 4
 # file system GUID of volumes for variables, as in EFI_FIRMWARE_VOLUME_HEADER
 NV_DATA = bytes.fromhex("8D2BF1FF96768B4CA9852747075B4F50")
 # EDK II's work block for fault-tolerant writes: signature, checksum, state, length of the queue behind it
@@ -17,10 +17,6 @@ WORK_BLOCK = bytes.fromhex("2B29589E687C7D49A0CE6500FD9F1B95")
 WORK_HEADER, WRITE_HEADER, WRITE_RECORD = 32, 40, 40
 # zero vector, file system, length, "_FVH", attributes, header length, checksum; then the block map
 VOLUME = struct.Struct("<16s16sQ4sIHH")
-
-
-class Refused(Exception):
-    """in one line, why"""
 
 
 # ---- the store in a dump
@@ -47,20 +43,21 @@ class Store:
             self.wrong = "its variable store is not formatted or not healthy"
         elif self.size < HEADER or header + self.size > length:
             self.wrong = "its variable store is longer than it, or too short"
-
         elif interrupted(dump[self.begin + self.size:at + length]):
             self.wrong = "EDK II was interrupted in rewriting it, and finishes that when the machine boots"
 
     def __str__(self):
         return "the store in the volume at 0x%X" % self.at
 
-    def sound_bytes(self, dump):
-        """its bytes and the entries in them with the offset of the tail, if it is sound"""
+    def walked(self, dump):
+        """its bytes, and the entries in them with the offset of the tail"""
         held = dump[self.begin:self.begin + self.size]
-        entries, tail = walk(held, self.form)
-        fault = fault_of(entries, len(held))
-        if fault:
-            raise Refused("%s: %s" % (self, fault))
+        return (held, *walk(held, self.form))
+
+    def sound_bytes(self, dump):
+        """the same of one that is sound"""
+        held, entries, tail = self.walked(dump)
+        demand_sound(self, entries, len(held))
         return held, entries, tail
 
 
@@ -109,39 +106,62 @@ def the_store(dump, at):
 # ---- what a call or a start-up would refuse
 
 
-def shown(text):
-    """characters that a terminal acts upon or does not show, control and bidirectional ones among them, as \\u and four digits for each unit of UTF-16"""
-    units = lambda one: re.sub("....", r"\\u\g<0>", one.encode("utf-16-be", errors="surrogatepass").hex().upper())
-    return "".join(one if one.isprintable() else units(one) for one in text)
-
-
 def named(entry):
     """of an entry whose name is well formed"""
     return "%s of vendor %s" % (shown(entry.name.decode("utf-16-le", errors="surrogatepass")[:-1]), entry.vendor.hex().upper())
 
 
-def fault_of(entries, length):
-    """what keeps a region of these entries from being sound, or None"""
+def faults_of(entries, length):
+    """each that keeps a region of these entries from being sound: the entry, in words why, and whether it can be read all the same"""
     seen = set()
     for e in entries:
+        whole = e.state == 0xFF or e.end <= length
         if e.state not in STATES:
-            return "an entry has state %02X" % e.state
-        if e.state != 0xFF and e.end > length:
-            return "an entry ends beyond the region"
-        if not e.is_live():
+            yield e, "has state %02X" % e.state, False
+        if not whole:
+            yield e, "ends beyond the region, and none is found after it", False
+        if not (e.is_live() and whole):
             continue
         if not well_named(e.name):
-            return "an entry's name is not 1 to 63 characters and a zero character"
-        if not 1 <= e.data_size <= 2048:
-            return "%s has %d bytes of data, and 1 to 2,048 are allowed" % (named(e), e.data_size)
-        if e.attributes not in ATTRIBUTES:
-            return "%s has attributes 0x%02X, and %s are allowed" % (named(e), e.attributes, ", ".join("0x%02X" % one for one in sorted(ATTRIBUTES)))
-        if is_error_record(e) and not has_record_name(e):
-            return "%s has attributes 0x%02X, and is by name and vendor no hardware error record" % (named(e), e.attributes)
+            yield e, "has a name that is not 1 to 63 characters and a zero character", False
+            continue
         if (e.state, e.key()) in seen:
-            return "%s stands twice" % named(e)
+            yield e, "exists twice", False
+            continue
         seen.add((e.state, e.key()))
-    return None
+        if not 1 <= e.data_size <= LARGEST_DATA:
+            yield e, "has %d bytes of data, and 1 to 2,048 are allowed" % e.data_size, True
+        elif e.attributes not in ATTRIBUTES:
+            yield e, "has attributes 0x%02X, and %s are allowed" % (e.attributes, ", ".join("0x%02X" % one for one in sorted(ATTRIBUTES))), True
+        elif is_error_record(e) and not has_record_name(e):
+            yield e, "has attributes 0x%02X, and is by name and vendor no hardware error record" % e.attributes, True
+
+
+def in_words(entry, why):
+    """which entry, and why"""
+    return "%s %s" % (named(entry) if well_named(entry.name) else "the entry at 0x%X" % entry.at, why)
+
+
+def demand_sound(whose, entries, length):
+    """refuses entries of a region that is not sound, by the first that is at fault"""
+    for entry, why, _ in faults_of(entries, length):
+        raise Refused("%s: %s" % (whose, in_words(entry, why)))
+
+
+def left_over(region, tail, form):
+    """in words, what is in the free part further on than a header that a power cut has left begun, or None; it may be entries after a damaged one"""
+    if is_blank(region[tail + form.entry:]):
+        return None
+    return "at 0x%X of it no entry begins, and there is something further on than a header begun" % tail
+
+
+def readable(whose, region, entries, tail, form):
+    """the entries that can be read, and in words what cannot, or is not as the papers allow"""
+    faults = list(faults_of(entries, len(region)))
+    unread = {entry for entry, _, is_read in faults if not is_read}
+    said = ["%s: %s%s" % (whose, in_words(entry, why), "" if is_read else ": skipped") for entry, why, is_read in faults]
+    more = left_over(region, tail, form)
+    return [entry for entry in entries if entry not in unread], said + (["%s: %s: skipped" % (whose, more)] if more else [])
 
 
 # ---- images
@@ -160,22 +180,19 @@ def parts_of(image):
     return image[:BLOCK * blocks], image[BLOCK * blocks:BLOCK * (blocks + 1)], image[BLOCK * (blocks + 1):]
 
 
-def sound_region(region):
-    """the form of a region that is sound, and its entries with the offset of the tail"""
+def walked_region(region):
+    """the form of a region, and its entries with the offset of the tail"""
     form = form_of(region)
     if form is None or region[:HEADER] != header_of(len(region), form):
         raise Refused("the image has no region's header")
-    entries, tail = walk(region, form)
-    fault = fault_of(entries, len(region))
-    if fault:
-        raise Refused("the image: " + fault)
-    return form, entries, tail
+    return (form, *walk(region, form))
 
 
 def ready_region(image):
     """the form of an image that a call would accept, its region, and the entries with the offset of the tail"""
     region, work, spare = parts_of(image)
-    form, entries, tail = sound_region(region)
+    form, entries, tail = walked_region(region)
+    demand_sound("the image", entries, len(region))
     if not (is_clean(region, form) and is_idle(work) and is_blank(spare)):
         raise Refused("the image is as a power cut left it: " + ("start up first" if form is NEW else "let its station start up first"))
     return form, region, entries, tail
@@ -191,15 +208,17 @@ def pending_form(image):
 
 
 def entries_of_image(image):
-    """the entries that a start-up finds, and whether they are the spare's"""
+    """the entries that can be read where a start-up looks, whether that is the spare, and in words what cannot be read"""
     region, _, spare = parts_of(image)
     pending = pending_form(image) is not None
-    _, entries, _ = sound_region(spare if pending else region)
-    return entries, pending
+    held = spare if pending else region
+    form, entries, tail = walked_region(held)
+    entries, faults = readable("the image", held, entries, tail, form)
+    return entries, pending, faults
 
 
 def entries_of(held, at, blocks):
-    """what a start-up of its own form finds in an image, a volume or a dump: the entries, and whether they are a spare's"""
+    """the same of an image, a volume or a dump"""
     if blocks is not None:
         begin = at or 0
         image = held[begin:begin + BLOCK * (2 * blocks + 1)]
@@ -210,8 +229,22 @@ def entries_of(held, at, blocks):
         return entries_of_image(held)
     if at is None and not stores_of(held):
         raise Refused("no store: neither an image nor a volume of variables; for an image inside a dump, --at and --blocks say where it is")
-    _, entries, _ = the_store(held, at).sound_bytes(held)
-    return entries, False
+    store = the_store(held, at)
+    region, entries, tail = store.walked(held)
+    entries, faults = readable(store, region, entries, tail, store.form)
+    return entries, False, faults
+
+
+def values_in(path, at, blocks):
+    """for a tool that only reads: the values of a file that can be read, and the exit status; the rest is told"""
+    held = read(path)
+    with about(path):
+        entries, pending, faults = entries_of(held, at, blocks)
+    if pending:
+        tell("%s: the power failed in a compaction, and no start-up has finished it: read from the spare" % path)
+    for fault in faults:
+        tell("%s: %s" % (path, fault))
+    return values_of(entries), NOT_ALL if faults else 0
 
 
 def with_blocks(blocks, entries, form):
@@ -229,11 +262,7 @@ def blocks_for(used, blocks, whose):
     return blocks or least
 
 
-def counted(number, what):
-    return "%d %s%s" % (number, what, "" if number == 1 else "s")
-
-
-# ---- arguments and files
+# ---- arguments
 
 
 def offset_of(text):
@@ -247,47 +276,7 @@ def offset_of(text):
     return offset
 
 
-def read(path):
-    with open(path, "rb") as file:
-        return file.read()
-
-
-def spare_inputs(out, inputs):
-    """refuses, before anything is read, an output that is an input, by whatever name"""
-    if os.path.exists(out) and any(os.path.samefile(out, path) for path in inputs):
-        raise Refused("%s would be overwritten" % out)
-
-
-def given_up(stream):
-    """what a stream has not taken is not tried again when the tool ends, which would have an exit status of its own"""
-    if stream is not None:
-        os.dup2(os.open(os.devnull, os.O_WRONLY), stream.fileno())
-
-
-def tell(text):
-    """in one line of standard error, if it takes one"""
-    try:
-        if sys.stderr is not None:
-            print("%s: %s" % (os.path.basename(sys.argv[0]), shown(text)), file=sys.stderr, flush=True)
-    except OSError:
-        given_up(sys.stderr)
-
-
-def main(work, status=1):
-    """of a tool, whose exit status its work returns: what is refused is told in one line, with an exit status; a fault of the tool's own has 3, so that it passes for no
-    finding"""
-    try:
-        # it may be closed; and as standard error does, it takes what its encoding has not
-        if sys.stdout is not None:
-            sys.stdout.reconfigure(errors="backslashreplace")
-        found = work()
-        if sys.stdout is not None:
-            sys.stdout.flush()
-        sys.exit(found)
-    except (Refused, OSError) as why:
-        tell(str(why))
-        given_up(sys.stdout)
-        sys.exit(status)
-    except Exception:
-        traceback.print_exc()
-        sys.exit(3)
+def add_place(parser):
+    """where a store is in its file, and how large its region is"""
+    parser.add_argument("--at", type=offset_of)
+    parser.add_argument("--blocks", type=int, choices=range(1, MOST_BLOCKS + 1))
