@@ -33,6 +33,7 @@ demo: kit
 lib: $(LIB)
 
 $(LIB): $(SOURCES)
+	$(MAKE) -s kit
 	tools/lib
 
 # the host that a firmware engineer can start from

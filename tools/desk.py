@@ -105,8 +105,8 @@ def absent(path):
 
 
 def put(files, say, over=False, folder=None):
-    """bytes by path: all of the files, each whole, or none, and they have their names only after all that `say` prints is out. One that is there is refused, or with `over`
-    replaced; the folder is made where it is not there."""
+    """bytes by path: all of the files, each whole, or none, and they have their names only after all that `say` prints is out. One that is there is refused, or with
+    `over` replaced; the folder is made where it is not there."""
     made, new = [], folder is not None and not os.path.isdir(folder)
     try:
         if new:
@@ -146,8 +146,8 @@ def beside(path):
 
 
 def main(work, text, status=1):
-    """of a tool with this text, whose exit status its work returns: what is refused is told in one line, with an exit status; a fault of the tool's own has 3, so that
-    it passes for no finding"""
+    """of a tool with this text, whose exit status its work returns: what is refused is reported in one line, with an exit status; a fault of the tool's own has 3, so
+    that it passes for no finding"""
     try:
         # Python prints to a closed stream without a word, and the next file that is opened would take its place
         if sys.stdout is None:

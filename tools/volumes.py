@@ -236,7 +236,7 @@ def entries_of(held, at, blocks):
 
 
 def values_in(path, at, blocks):
-    """for a tool that only reads: the values of a file that can be read, and the exit status; the rest is told"""
+    """for a tool that only reads: the values of a file that can be read, and the exit status; the rest is reported"""
     held = read(path)
     with about(path):
         entries, pending, faults = entries_of(held, at, blocks)
