@@ -63,8 +63,7 @@ soak: $(LIB)
 bench: $(LIB)
 	tools/bench
 
-# the check of a full image of smallest entries, on the library of a revision (BEFORE=REVISION; if none is given, the one before 02 (c)) and on this one: it may
-# take no longer
+# the check of a full image on the library of a revision (BEFORE=REVISION; the one before 02 (c) if none is given) and on this one: it may take no longer
 check-time: $(LIB)
 	tools/check-time $(or $(BEFORE),3b92912)
 
