@@ -6,7 +6,7 @@ CFLAGS = -std=c11 -O2 -Wall -Wextra -Werror
 CARGO = CARGO_NET_OFFLINE=true CARGO_TARGET_DIR=$(CURDIR)/target/rust cargo
 LIB = target/staticlib/libcapi.a
 # what the library is made of
-SOURCES := crates.txt tools/lib c/memory.c $(shell find crates -path '*/src/*' -type f -o -path '*/specs/*' -type f -o -path '*/proofs/*' -type f)
+SOURCES := crates.txt tools/lib c/memory.c c/varstore.h $(shell find crates -path '*/src/*' -type f -o -path '*/specs/*' -type f -o -path '*/proofs/*' -type f)
 
 # these lines; each target has its own in the comment before it
 help:

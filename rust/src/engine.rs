@@ -89,8 +89,17 @@ laid_out!(RawStarted 9320 answer 0 session 16);
 laid_out!(RawOperation 32 kind 0 at 8 from 16 len 24);
 laid_out!(RawPlan 400 rule 0 deciding 8 operations 16);
 
+/// The functions under the names that the library has for them: with the form of `c/varstore.h` that these declarations were written for.
+macro_rules! of_form {
+    ($form:literal $(fn $name:ident($($argument:ident: $type:ty),*) -> $result:ty;)*) => {
+        extern "C" {
+            $(#[link_name = concat!(stringify!($name), "_form", $form)] fn $name($($argument: $type),*) -> $result;)*
+        }
+    };
+}
+
 #[rustfmt::skip]
-extern "C" {
+of_form! { 6
     fn vs_check(image: *const u8, image_len: usize) -> RawChecked;
     fn vs_session_new(setup: Setup) -> Session;
     fn vs_phase(session: Session, phase: u32) -> Session;
