@@ -1,5 +1,5 @@
 .SILENT:
-.PHONY: help kit demo test check fmt lib host host-test stack rust-test soak bench check-time efi interop volume-test convert-test records-test settings-test desk-test
+.PHONY: help kit demo test check fmt lib link-test host host-test stack rust-test soak bench check-time efi interop volume-test convert-test records-test settings-test desk-test
 
 CC = cc
 CFLAGS = -std=c11 -O2 -Wall -Wextra -Werror
@@ -35,6 +35,10 @@ lib: $(LIB)
 $(LIB): $(SOURCES)
 	$(MAKE) -s kit
 	tools/lib
+
+# either calling convention, and header and library of one form
+link-test: $(LIB)
+	tools/link-test
 
 # the host that a firmware engineer can start from
 host: $(LIB)

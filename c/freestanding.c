@@ -1,0 +1,101 @@
+/* A host with nothing beside it, no C library and no start-up code, in the calling convention that its compiler is told: a store is formatted, set, compacted,
+ * read and planned under a rule for its one setting. Exit status 0 if every answer is right, else the number of the first that is wrong.
+ *
+ * tools/link-test builds it for both conventions. The numbers of stores are those of document 01's cases: a format of one block 31, a new RATE 75, a compaction
+ * of one block 8,197.
+ */
+#include "varstore.h"
+
+enum { IMAGE = VS_BLOCK * 3, PLAIN = VS_NV | VS_BOOT_ACCESS | VS_RUNTIME_ACCESS, ENTRY = 76 /* of RATE */, HEADER = 28 /* of the region */, EXIT = 60 /* Linux's call */ };
+
+static const vs_context no_limit = {.limit = VS_NO_LIMIT};
+static const uint8_t vendor[16] = {1, 2, 3};
+static const uint8_t rate[] = {'R', 0, 'A', 0, 'T', 0, 'E', 0, 0, 0};
+static const vs_setup setup = {
+    .rules = 1,
+    .settings = {{.size = sizeof rate, .least = 4, .most = 4, .width = 4, .ranged = 1, .low = 1, .high = 250, .name = {'R', 0, 'A', 0, 'T', 0, 'E'}, .vendor = {1, 2, 3}}},
+};
+static uint8_t image[IMAGE], content[VS_CONTENT], buffer[VS_LARGEST_NAMED];
+static vs_session session;
+static unsigned asked, first_wrong;
+
+static void told(int right)
+{
+    asked++;
+    if (!right && first_wrong == 0) {
+        first_wrong = asked;
+    }
+}
+
+static int done(vs_answer answer, uint64_t stores)
+{
+    return answer.kind == VS_DONE && answer.rule == 0 && answer.stores == stores;
+}
+
+static int refused(vs_answer answer, uint32_t rule)
+{
+    return answer.kind == VS_REFUSED && answer.rule == rule && answer.stores == 0;
+}
+
+static vs_answer set(uint8_t number)
+{
+    const uint8_t data[4] = {number};
+    return vs_set(no_limit, session, image, IMAGE, rate, sizeof rate, vendor, PLAIN, data, sizeof data, 0, VS_BY_NONE, content);
+}
+
+static int rate_is(uint8_t number)
+{
+    vs_reply reply = vs_get(no_limit, session, image, IMAGE, rate, sizeof rate, vendor, buffer, sizeof buffer);
+    return done(reply.answer, 0) && reply.size == 4 && reply.attributes == PLAIN && buffer[0] == number && buffer[1] == 0 && buffer[2] == 0 && buffer[3] == 0;
+}
+
+/* RATE is replaced until the free part is too short for it, then once more. */
+static void compaction(void)
+{
+    uint8_t number = 1;
+    while (vs_check(image, IMAGE).tail + ENTRY <= VS_BLOCK) {
+        told(set(++number).kind == VS_DONE && rate_is(number));
+    }
+    told(number == (VS_BLOCK - HEADER) / ENTRY);
+    told(done(set(200), 8197) && rate_is(200));
+    told(vs_check(image, IMAGE).tail == HEADER + ENTRY);
+}
+
+static void names(void)
+{
+    static const uint8_t empty[2];
+    vs_reply reply = vs_next_name(no_limit, session, image, IMAGE, empty, sizeof empty, vendor, buffer, sizeof buffer);
+    told(done(reply.answer, 0) && reply.size == sizeof vendor + sizeof rate && buffer[0] == 1 && buffer[sizeof vendor] == 'R');
+}
+
+/* What a set would store is planned, and once the boot phase is over it is refused. */
+static void locked(void)
+{
+    const uint8_t data[4] = {250};
+    vs_plan plan = vs_plan_set(session, image, IMAGE, rate, sizeof rate, vendor, PLAIN, data, sizeof data, 0, VS_BY_NONE, content);
+    told(plan.rule == 0 && plan.deciding < VS_OPERATIONS && plan.operations[plan.deciding].kind == VS_MARK);
+    vs_listed listed = vs_lock(session, rate, sizeof rate, vendor);
+    told(done(listed.answer, 0) && listed.session.count == 1);
+    session = vs_phase(listed.session, VS_AFTER_END_OF_DXE);
+    told(session.phase == VS_AFTER_END_OF_DXE && refused(set(250), VS_LOCKED) && rate_is(200));
+}
+
+__attribute__((noreturn)) void run(void);
+void run(void)
+{
+    told(done(vs_format(no_limit, image, IMAGE, content), 31));
+    vs_started started = vs_start_up(no_limit, image, IMAGE, setup, content);
+    told(done(started.answer, 0) && started.session.setup.rules == 1);
+    session = started.session;
+    told(refused(set(0), VS_SETTING));
+    told(done(set(1), 75) && rate_is(1));
+    compaction();
+    names();
+    locked();
+    uint64_t call = EXIT;
+    __asm__ volatile("syscall" : "+a"(call) : "D"((uint64_t)first_wrong) : "rcx", "r11", "memory");
+    __builtin_unreachable();
+}
+
+/* The stack is aligned as for a call, with the 32 bytes that a callee of the Microsoft convention may use. */
+__asm__(".text\n.globl _start\n_start:\n\tand $-16, %rsp\n\tsub $32, %rsp\n\tcall run\n");
