@@ -1,12 +1,20 @@
 /* A host with nothing beside it, no C library and no start-up code, in the calling convention that its compiler is told: a store is formatted, set, compacted,
- * read and planned under a rule for its one setting. Exit status 0 if every answer is right, else the number of the first that is wrong.
+ * read and planned under a rule for its one setting. First memory.c is tried, which is not proved. Exit status 0 if every answer is right, else the number of the
+ * first that is wrong.
  *
  * tools/link-test builds it for both conventions. The numbers of stores are those of document 01's cases: a format of one block 31, a new RATE 75, a compaction
  * of one block 8,197.
  */
 #include "varstore.h"
 
-enum { IMAGE = VS_BLOCK * 3, PLAIN = VS_NV | VS_BOOT_ACCESS | VS_RUNTIME_ACCESS, ENTRY = 76 /* of RATE */, HEADER = 28 /* of the region */, EXIT = 60 /* Linux's call */ };
+enum {
+    IMAGE = VS_BLOCK * 3,
+    PLAIN = VS_NV | VS_BOOT_ACCESS | VS_RUNTIME_ACCESS,
+    ENTRY = 76,  /* of RATE */
+    HEADER = 28, /* of the region */
+    MEMORY = 128,
+    EXIT = 60 /* Linux's call */
+};
 
 static const vs_context no_limit = {.limit = VS_NO_LIMIT};
 static const uint8_t vendor[16] = {1, 2, 3};
@@ -80,9 +88,47 @@ static void locked(void)
     told(session.phase == VS_AFTER_END_OF_DXE && refused(set(250), VS_LOCKED) && rate_is(200));
 }
 
+void *memcpy(void *to, const void *from, size_t count);
+void *memset(void *to, int value, size_t count);
+
+/* The bytes that were to change have changed, and no other, before or after them. */
+static int only_these(const uint8_t *bytes, size_t at, size_t size, int copied)
+{
+    for (size_t i = 0; i < MEMORY; i++) {
+        uint8_t wanted = i < at || i >= at + size ? 0xC5 : copied ? (uint8_t)(i - at + 1) : 0x9A;
+        if (bytes[i] != wanted) {
+            return 0;
+        }
+    }
+    return 1;
+}
+
+/* Each size around the widths of memory.c, at each place of sixteen. */
+static void memory(void)
+{
+    static uint8_t source[MEMORY], target[MEMORY];
+    for (size_t i = 0; i < MEMORY; i++) {
+        source[i] = (uint8_t)(i + 1);
+    }
+    int right = 1;
+    for (size_t size = 0; size <= MEMORY - 3 * 16; size++) {
+        for (size_t at = 16; at < 2 * 16; at++) {
+            for (int copied = 0; copied < 2; copied++) {
+                for (size_t i = 0; i < MEMORY; i++) {
+                    target[i] = 0xC5;
+                }
+                void *given = copied ? memcpy(target + at, source, size) : memset(target + at, 0x19A, size);
+                right = right && given == target + at && only_these(target, at, size, copied);
+            }
+        }
+    }
+    told(right);
+}
+
 __attribute__((noreturn)) void run(void);
 void run(void)
 {
+    memory();
     told(done(vs_format(no_limit, image, IMAGE, content), 31));
     vs_started started = vs_start_up(no_limit, image, IMAGE, setup, content);
     told(done(started.answer, 0) && started.session.setup.rules == 1);
