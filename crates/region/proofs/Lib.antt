@@ -11,3 +11,5 @@ pub mod Scanning
 pub mod Whole
 -- Names judged against those before them, and marks
 pub mod Marked
+-- A usual entry
+pub mod Usuals

@@ -3,7 +3,7 @@
 -- Assumes nothing.
 use Prim.Native.Nat.{ℕ, _+_, _-_, _≤_, _<_}
 use native.Mathlib.Omega.{arith}
-use mathlib.Core.Path.{_≡_, refl, sym, ap, ap₂, _∙_}
+use mathlib.Core.Path.{_≡_, refl, sym, ap, ap₂, _∙_, subst}
 use mathlib.Core.Logic.{_≢_}
 use mathlib.Core.Bool.{Bool, true, false, not, _&&_, _||_, and-true, and-false, or-true, true≢false}
 use mathlib.Core.List.{List, [], _∷_, _++_, append-assoc}
@@ -317,3 +317,11 @@ module _ {form : Layout} {r noted : List ℕ} {at : ℕ} (c : Passed form r note
           judge = c .judge ∙ ap (judged (c .passed)) (w .walk) ∙ judged-next (c .passed) x (fromIn form r k) (fresh m q h);
           size = length-set noted (m .place) (note (getD noted (m .place) 0) (m .sign)) ∙ c .size;
         }
+
+    -- the first name of its place
+    pub next-first : (m : Mark) → m ≡ markAt (entryAs form r at e) → m .place < 1280 → getD noted (m .place) 0 ≡ 0
+        → Passed form r (set noted (m .place) (m .sign)) k
+    unfolding note isNoted
+    next-first m q b z =
+        let n : note (getD noted (m .place) 0) (m .sign) ≡ m .sign = rw z in
+        subst (λ (v : ℕ). Passed form r (set noted (m .place) v) k) n (next m q b (rw z))

@@ -3,7 +3,7 @@
 -- Assumes nothing.
 use Prim.Native.Nat.{ℕ}
 use mathlib.Core.Path.{_≡_, refl, ap, _∙_}
-use mathlib.Core.Bool.{Bool, true, false, cond, _&&_}
+use mathlib.Core.Bool.{Bool, true, false, cond, _&&_, and-true, and-false}
 use mathlib.Core.List.{List, [], _∷_}
 use lib.ListN.{length}
 use Rattle.model.specs.declared.Layout.{Layout}
@@ -11,12 +11,12 @@ use Rattle.model.specs.Lists.{all, any}
 use Rattle.model.specs.Name.{keyed}
 use Rattle.model.specs.Image.{regionHeaderSize}
 use Rattle.model.specs.Walk as walk
-use Rattle.model.specs.Region.{tailAtIn, knownState, within, rightLive, isEntry}
+use Rattle.model.specs.Region.{entriesIn, tailAtIn, knownState, within, rightLive, isEntry, undoubled}
 use Rattle.model.proofs.Walking.{entries-from}
 use Rattle.model.specs.Beside.{fromIn}
 use Rattle.layout.specs.declared.Entry as numbers
 use Rattle.region.specs.Walk.{entryAs, vendorAs}
-use Rattle.region.specs.Judge.{liveState, entrySound, entriesSound, doubledIn, scanOf}
+use Rattle.region.specs.Judge.{liveState, entrySound, entriesSound, doubledIn, allSound, scanOf}
 use Rattle.region.specs.declared.Scan.{Scan}
 
 -- ---- the scan
@@ -45,8 +45,12 @@ each size (e ∷ es) =
     regroup true false c false y z = refl
     regroup false b c x y z = refl
 
-pub scan-begin : (y : Layout) (r : List ℕ) → scanOf y r ≡ scanned (length r) regionHeaderSize (fromIn y r regionHeaderSize)
-unfolding scanOf entriesSound tailAtIn
+-- what the entries tell, doubled names apart
+pub singly : Layout → List ℕ → Scan
+singly y r = record { sound = entriesSound y r; tail = cond (entriesSound y r) (tailAtIn y r) 0 }
+
+pub scan-begin : (y : Layout) (r : List ℕ) → singly y r ≡ scanned (length r) regionHeaderSize (fromIn y r regionHeaderSize)
+unfolding singly entriesSound tailAtIn
 scan-begin y r =
     ap (λ (es : List walk.Entry). record {
       sound = all knownState es && all (within (length r)) es && all rightLive es;
@@ -70,6 +74,25 @@ module _ {l es : List walk.Entry} {x : walk.Entry} (first : l ≡ x ∷ es) wher
 
   pub any-here : (f : walk.Entry → Bool) → f x ≡ true → any f l ≡ true
   any-here f h = ap (any f) first ∙ rw h
+
+-- ---- both
+
+module _ (y : Layout) (r : List ℕ) where
+  pub scan-right : (at : ℕ) → singly y r ≡ record { sound = true; tail = at } → undoubled (entriesIn y r) ≡ true → scanOf y r ≡ record { sound = true; tail = at }
+  unfolding scanOf allSound singly
+  scan-right at h u =
+      let s : entriesSound y r ≡ true = ap (λ (x : Scan). x .sound) h in
+      rw (u, and-true (entriesSound y r)) h
+
+  pub scan-wrong : singly y r ≡ record { sound = false; tail = 0 } → scanOf y r ≡ record { sound = false; tail = 0 }
+  unfolding scanOf allSound singly
+  scan-wrong h =
+      let s : entriesSound y r ≡ false = ap (λ (x : Scan). x .sound) h in
+      rw s
+
+  pub scan-doubled : undoubled (entriesIn y r) ≡ false → scanOf y r ≡ record { sound = false; tail = 0 }
+  unfolding scanOf allSound
+  scan-doubled u = rw (u, and-false (entriesSound y r))
 
 -- ---- doubled names
 

@@ -3,7 +3,7 @@
 -- Assumes nothing.
 use Prim.Native.Nat.{ℕ}
 use native.Mathlib.Omega.{arith}
-use mathlib.Core.Path.{_≡_}
+use mathlib.Core.Path.{_≡_, _∙_}
 use mathlib.Core.Bool.{true, false, _&&_, and-assoc, and-false}
 use mathlib.Core.List.{List}
 use lib.ListN.{length, drop, length-drop}
@@ -11,7 +11,7 @@ use lib.Seq.{take-all}
 use Rattle.model.specs.Lists.{part, allFF}
 use Rattle.model.specs.declared.Layout.{Layout}
 use Rattle.model.specs.Region.{entriesIn, tailAtIn, tailIn, rightHeaderIn, undoubled, soundIn, cleanIn}
-use Rattle.region.specs.Judge.{entriesSound, scanOf, judgedIn}
+use Rattle.region.specs.Judge.{entriesSound, allSound, scanOf, judgedIn}
 use Rattle.region.specs.declared.Scan.{Scan}
 
 module _ (y : Layout) (r : List ℕ) where
@@ -22,14 +22,15 @@ module _ (y : Layout) (r : List ℕ) where
   pub wrong-header : rightHeaderIn y r ≡ false → soundIn y r ≡ false
   wrong-header h = rw (sound-parts, h)
 
-  pub wrong-entry : entriesSound y r ≡ false → soundIn y r ≡ false
-  wrong-entry s = rw (sound-parts, s, and-false (rightHeaderIn y r))
+  entries-parts : soundIn y r ≡ (rightHeaderIn y r && allSound y r)
+  unfolding allSound
+  entries-parts = sound-parts ∙ and-assoc (rightHeaderIn y r) (entriesSound y r) (undoubled (entriesIn y r))
 
-  pub doubled-name : undoubled (entriesIn y r) ≡ false → soundIn y r ≡ false
-  doubled-name u = rw (sound-parts, u, and-false (rightHeaderIn y r && entriesSound y r))
+  pub wrong-entry : allSound y r ≡ false → soundIn y r ≡ false
+  wrong-entry s = rw (entries-parts, s, and-false (rightHeaderIn y r))
 
-  pub all-right : rightHeaderIn y r ≡ true → entriesSound y r ≡ true → undoubled (entriesIn y r) ≡ true → soundIn y r ≡ true
-  all-right h s u = rw (sound-parts, h, s, u)
+  pub all-right : rightHeaderIn y r ≡ true → allSound y r ≡ true → soundIn y r ≡ true
+  all-right h s = rw (entries-parts, h, s)
 
   -- ---- what is answered
 
@@ -46,10 +47,10 @@ module _ (y : Layout) (r : List ℕ) where
   sounds s = rw (s, tail-part)
 
   -- what the scan tells
-  pub scan-sound : (s : Scan) → s ≡ scanOf y r → entriesSound y r ≡ s .sound
+  pub scan-sound : (s : Scan) → s ≡ scanOf y r → allSound y r ≡ s .sound
   unfolding scanOf
   scan-sound s e = rw e
 
-  pub scan-tail : (s : Scan) → s ≡ scanOf y r → entriesSound y r ≡ true → s .tail ≡ tailAtIn y r
+  pub scan-tail : (s : Scan) → s ≡ scanOf y r → allSound y r ≡ true → s .tail ≡ tailAtIn y r
   unfolding scanOf
   scan-tail s e h = rw (e, h)

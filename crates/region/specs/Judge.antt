@@ -1,15 +1,17 @@
 -- What is judged of a region, and of its entries one by one.
-use Prim.Native.Nat.{ℕ}
-use mathlib.Core.Bool.{Bool, cond, _&&_, _||_}
+use Prim.Native.Nat.{ℕ, _+_, _%_, _≤_}
+use mathlib.Core.Path.{_≡_}
+use mathlib.Core.Bool.{Bool, true, cond, _&&_, _||_}
 use mathlib.Core.List.{List, [], _∷_}
-use lib.ListN.{length}
+use lib.ListN.{length, getD}
 use lib.Dec.{eqb}
-use Rattle.model.specs.Lists.{all, any}
+use Rattle.model.specs.Lists.{all, any, among, part, u16At, u32At}
 use Rattle.model.specs.Name.{Key, wellNamed, recordName}
 use Rattle.model.specs.Walk.{Entry, stateOf, entryKey}
 use Rattle.model.specs.declared.Layout.{Layout}
-use Rattle.model.specs.Layout.{authenticated}
-use Rattle.model.specs.Region.{entriesIn, tailAtIn, knownState, within, live, rightLive, isEntry, soundIn, cleanIn}
+use Rattle.model.specs.Layout.{authenticated, headerLength, stateAt, attributesAt, nameSizeAt, dataSizeAt}
+use Rattle.model.specs.Entry.{startId}
+use Rattle.model.specs.Region.{entriesIn, tailAtIn, knownState, within, live, maxData, rightLive, isEntry, undoubled, soundIn, cleanIn}
 use Rattle.region.specs.declared.Scan.{Scan}
 use Rattle.region.specs.declared.Judged.{Judged}
 
@@ -37,9 +39,13 @@ entriesSound y r = all knownState (entriesIn y r) && all (within (length r)) (en
 unfoldable pub doubledIn : Entry → List Entry → Bool
 doubledIn e es = live e && any (isEntry (stateOf e) (entryKey e)) es
 
--- whether it holds of all; if so the offset of the tail, else 0
+-- every entry is sound by itself, and no name is doubled
+unfoldable pub allSound : Layout → List ℕ → Bool
+allSound y r = entriesSound y r && undoubled (entriesIn y r)
+
+-- whether that holds; if so the offset of the tail, else 0
 unfoldable pub scanOf : Layout → List ℕ → Scan
-scanOf y r = record { sound = entriesSound y r; tail = cond (entriesSound y r) (tailAtIn y r) 0 }
+scanOf y r = record { sound = allSound y r; tail = cond (allSound y r) (tailAtIn y r) 0 }
 
 -- *sound*, *clean*; if sound the offset of the tail, else 0
 unfoldable pub judgedIn : Layout → List ℕ → Judged
@@ -48,3 +54,29 @@ judgedIn y r = record { sound = soundIn y r; clean = cleanIn y r; tail = cond (s
 -- the same of the authenticated form
 abbrev pub judgedOf : List ℕ → Judged
 judgedOf = judgedIn authenticated
+
+-- ---- *usual* entries: in state 3F, no error record, sound by themselves
+
+-- a header begins as that of one
+pub record UsualFront (s : List ℕ) : Type 0 where
+  pub start : u16At s 0 ≡ startId
+  pub state : getD s stateAt 0 ≡ 0x3F
+  pub plain : among plainAttributes (u32At s attributesAt) ≡ true
+
+-- sizes that a name and data may have
+pub record RightSizes (name size : ℕ) : Type 0 where
+  pub some-data : 1 ≤ size
+  pub few-data : size ≤ maxData
+  pub long : 4 ≤ name
+  pub short : name ≤ 128
+  pub even : name % 2 ≡ 0
+
+-- such an entry is at the front of a part of the region; `name` is the size of its name, `end` that of header, name and data
+pub record UsualOf (y : Layout) (s : List ℕ) (name end : ℕ) : Type 0 where
+  pub front : UsualFront s
+  pub header : headerLength y ≤ length s
+  pub name-size : u32At s (nameSizeAt y) ≡ name
+  pub sizes : RightSizes name (u32At s (dataSizeAt y))
+  pub ends : headerLength y + name + u32At s (dataSizeAt y) ≡ end
+  pub within : end ≤ length s
+  pub named : wellNamed (part (headerLength y) name s) ≡ true

@@ -1,6 +1,6 @@
 -- Marks of names, by which a name that came before is found. The proofs ask of a mark only that it is a function of state, name and GUID, and that its
 -- sign is not 0.
-use Prim.Native.Nat.{ℕ, _+_, _-_, _/_, _%_, _^_}
+use Prim.Native.Nat.{ℕ, zero, suc, _+_, _-_, _/_, _%_, _^_}
 use mathlib.Core.Bool.{Bool, cond, not, _&&_, _||_}
 use mathlib.Core.List.{List, [], _∷_, _++_}
 use lib.ListN.{length, replicate}
@@ -9,7 +9,7 @@ use Rattle.model.specs.declared.Layout.{Layout}
 use Rattle.model.specs.Name.{Key, keyed}
 use Rattle.model.specs.Entry.{headerFieldsIn}
 use Rattle.model.specs.Walk.{Entry, stateOf, entryKey}
-use Rattle.slices.specs.Agree.{eightAt}
+use Rattle.slices.specs.Agree.{u64At}
 use Rattle.layout.specs.Head.{nameIn}
 use Rattle.layout.specs.declared.Entry as numbers
 use Rattle.region.specs.Judge.{liveState}
@@ -25,17 +25,31 @@ plus a b = (a + b) % 2 ^ 64
 
 -- the words of a GUID, and the last of the name behind it
 unfoldable pub outerWords : List ℕ → ℕ
-outerWords key = plus (plus (eightAt key 0) (eightAt key 8)) (eightAt key (length key - 8))
+outerWords key = plus (plus (u64At key 0) (u64At key 8)) (u64At key (length key - 8))
 
--- other words of the name, if it is long enough to have them
+-- the first word of the name, and two before its last
 unfoldable pub innerWords : List ℕ → ℕ
-innerWords key =
-    cond (leb 24 (length key))
-    (plus (plus (eightAt key 16) (eightAt key (length key / 2))) (plus (eightAt key (length key - 22)) (eightAt key (length key - 15))))
-    0
+innerWords key = plus (u64At key 16) (plus (u64At key (length key - 22)) (u64At key (length key - 15)))
 
+-- a sum, with so many words from an offset on, seven bytes apart
+unfoldable pub wordsFrom : List ℕ → ℕ → ℕ → ℕ → ℕ
+wordsFrom key zero at sum = sum
+wordsFrom key (suc left) at sum = wordsFrom key left (at + 7) (plus sum (u64At key at))
+
+-- the words of a longer name between its first and the last three
+unfoldable pub middleWords : List ℕ → ℕ
+middleWords key = wordsFrom key ((length key - 38) / 7) 22 0
+
+-- the words that a key is long enough for
 unfoldable pub weighed : List ℕ → ℕ
-weighed key = plus (outerWords key) (innerWords key)
+weighed key =
+    cond
+    (leb 16 (length key))
+    (cond
+    (leb 24 (length key))
+    (cond (leb 45 (length key)) (plus (plus (outerWords key) (innerWords key)) (middleWords key)) (plus (outerWords key) (innerWords key)))
+    (outerWords key))
+    0
 
 -- the mark of a GUID with the name behind it
 unfoldable pub keyMark : List ℕ → Mark

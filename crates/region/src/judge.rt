@@ -1,18 +1,21 @@
 // When a region is sound and clean, in every stored form.
 ghost use mathlib.Core.Path.{_≡_};
-ghost use mathlib.Core.Bool.{_&&_};
-ghost use lib.ListN.{length};
+ghost use mathlib.Core.Bool.{true, false, _&&_};
+ghost use Prim.Native.Nat.{_+_, _*_, _<_, _≤_};
+ghost use lib.ListN.{length, drop};
 ghost use Rattle.model.specs.Lists.{any, among};
 ghost use Rattle.model.specs.Name.{keyed};
+ghost use Rattle.model.specs.Layout.{headerLength};
 ghost use Rattle.model.specs.Entry.{states};
 ghost use Rattle.model.specs.Walk.{entryKey};
-ghost use Rattle.model.specs.Region.{entriesIn, rightLive, isEntry, undoubled};
+ghost use Rattle.model.specs.Region.{entriesIn, rightLive, isEntry};
 ghost use Rattle.region.specs.Walk.{entryAs};
-ghost use Rattle.region.specs.Judge.{plainAttributes, liveState, rightRecord, entrySound, doubledIn, scanOf, judgedIn, judgedOf};
+ghost use Rattle.region.specs.Judge.{plainAttributes, liveState, rightRecord, entrySound, doubledIn, scanOf, judgedIn, judgedOf, UsualFront, RightSizes, UsualOf};
 ghost use Rattle.region.specs.Marks.{isNoted, upTo};
 use crate::Judged;
 use crate::Scan;
 use crate::Turn;
+use crate::Usual;
 use crate::marks;
 use crate::walk;
 use layout::Entry;
@@ -105,30 +108,6 @@ fn entry_sound(y: Layout, s: &[u8], e: Entry) -> bool
     }
 }
 
-// One pass over the entries.
-fn scan(y: Layout, region: &[u8]) -> Scan
-    ensures { λ r. ⌜ r ≡ scanOf y (now (region .entry)) ⌝ }
-{
-    let mut at: usize = layout::REGION_HEADER;
-    loop {
-        let t = walk::turn_in(y, region, at);
-        let Turn::Entry(e, next) = t else {
-            return Scan {
-                sound: true,
-                tail: at,
-            };
-        };
-        if entry_sound(y, &region[at..], e) {
-            at = next;
-        } else {
-            return Scan {
-                sound: false,
-                tail: 0,
-            };
-        }
-    }
-}
-
 // Whether an entry before an offset has this state, name and GUID.
 fn came_before(y: Layout, region: &[u8], end: usize, state: u8, name: &[u8], vendor: &[u8]) -> bool
     ensures { λ r. ⌜ r ≡ any (isEntry state (keyed (now (name .entry)) (now (vendor .entry)))) (upTo end (entriesIn y (now (region .entry)))) ⌝ }
@@ -164,23 +143,155 @@ fn is_doubled(y: Layout, region: &[u8], at: usize, e: Entry, noted: u8, sign: u8
     }
 }
 
-// Whether no name with its GUID has two 3F or two 3E entries. An entry whose mark is not noted is the first of its name.
-fn undoubled(y: Layout, region: &[u8]) -> bool
-    ensures { λ r. ⌜ r ≡ undoubled (entriesIn y (now (region .entry))) ⌝ }
+// The answer where an entry is not known to be usual.
+fn not_usual() -> Usual
+    ensures { λ r. ⌜ r .name ≡ 0 ⌝ }
 {
+    Usual { name: 0, end: 0 }
+}
+
+// Whether a header begins as that of a usual entry: start id, state 3F, a zero byte, and attributes that are stored, an error record's apart. All are in one number,
+// which with attributes 07 is one constant: most entries have them.
+fn usual_front(s: &[u8]) -> bool
+    requires { ⌜ 8 ≤ length (now s) ⌝ }
+    ensures { λ r. ⌜ (r ≡ true → UsualFront (now (s .entry))) ⌝ }
+{
+    let front = slices::standing_eight(s, 0);
+    if front == 0x7003F55AA {
+        return true;
+    }
+    if front % 0x100000000 != 0x003F55AA {
+        return false;
+    }
+    plain_attributes((front / 0x100000000) as u32)
+}
+
+// How many characters so many bytes are; of an odd number more than any name has, so that one comparison asks for both.
+fn characters(n: u32) -> u32
+    ensures { λ r. ⌜ (r ≤ 64 → n ≡ 2 * r) ⌝ }
+{
+    n / 2 + n % 2 * 0x80000000
+}
+
+// Whether a live entry may have a name and data of so many bytes.
+fn right_sizes(name: u32, size: u32) -> bool
+    ensures { λ r. ⌜ (r ≡ true → RightSizes name size) ⌝ }
+{
+    if size < 1 {
+        return false;
+    }
+    if layout::LARGEST_DATA < size {
+        return false;
+    }
+    let count = characters(name);
+    if count < 2 {
+        return false;
+    }
+    count <= 64
+}
+
+// The entry at the front of `s`, if it is *usual*: in state 3F, no error record, sound by itself. Only the yes is proved, here and in the tests above: an entry that is not
+// known to be usual is judged as any other.
+fn usual_of(y: Layout, s: &[u8]) -> Usual
+    requires { ⌜ headerLength y ≤ length (now s) ⌝ }
+    ensures { λ r. ⌜ (0 < r .name → UsualOf y (now (s .entry)) (r .name) (r .end)) ⌝ }
+{
+    if usual_front(s) {
+        let name = slices::word(s, y.name_size()) as u32;
+        let size = slices::word(s, y.data_size()) as u32;
+        if right_sizes(name, size) {
+            let h = y.header();
+            let n = name as usize;
+            let end = h + n + size as usize;
+            if end <= s.len() {
+                if slices::is_zero_ended(&s[h..h + n]) {
+                    return Usual { name: n, end };
+                }
+            }
+        }
+    }
+    not_usual()
+}
+
+// The offset at which a header that ends with the region begins; 0 where none fits.
+fn last_header(y: Layout, region: &[u8]) -> usize
+    ensures { λ r. ⌜ (0 < r → r + headerLength y ≡ length (now (region .entry))) ⌝ }
+{
+    let h = y.header();
+    if region.len() < h {
+        return 0;
+    }
+    region.len() - h
+}
+
+// The usual entry at an offset. What begins with the last header has no room for a name.
+fn usual_at(y: Layout, region: &[u8], last: usize, at: usize) -> Usual
+    requires { ⌜ (0 < last → last + headerLength y ≡ length (now region)) ⌝ }
+    ensures { λ r. ⌜ (0 < r .name → (at ≤ length (now (region .entry))) × UsualOf y (drop at (now (region .entry))) (r .name) (r .end)) ⌝ }
+{
+    if last <= at {
+        return not_usual();
+    }
+    usual_of(y, &region[at..])
+}
+
+// The answer where an entry is not sound, or its name is doubled.
+fn unsound() -> Scan
+    ensures { λ r. ⌜ r ≡ record { sound = false; tail = 0 } ⌝ }
+{
+    Scan {
+        sound: false,
+        tail: 0,
+    }
+}
+
+// One pass over the entries: each is sound by itself, and no name with its GUID has two 3F or two 3E entries. An entry whose mark is not noted is the first of its
+// name. The inner loop passes usual entries whose marks are not noted, as nearly all are; at any other it stops, and the code after it judges that one.
+fn scan(y: Layout, region: &[u8]) -> Scan
+    ensures { λ r. ⌜ r ≡ scanOf y (now (region .entry)) ⌝ }
+{
+    let last = last_header(y, region);
     let mut noted = marks::no_marks();
     let mut at: usize = layout::REGION_HEADER;
     loop {
+        loop {
+            let u = usual_at(y, region, last, at);
+            let name = u.name;
+            if name == 0 {
+                break;
+            }
+            let v = at + y.vendor();
+            let m = marks::mark_of_key(&region[v..v + 16 + name]);
+            let i = m.place;
+            let old = noted[i];
+            if old == 0 {
+                noted[i] = m.sign;
+                at += layout::rounded(u.end);
+                continue;
+            }
+            if marks::is_noted(old, m.sign) {
+                break;
+            }
+            noted[i] = marks::note(old, m.sign);
+            at += layout::rounded(u.end);
+        }
         let t = walk::turn_in(y, region, at);
         let Turn::Entry(e, next) = t else {
-            return true;
+            return Scan {
+                sound: true,
+                tail: at,
+            };
         };
+        if !entry_sound(y, &region[at..], e) {
+            return unsound();
+        }
         let m = marks::mark_of(y, &region[at..], e);
         let i = m.place;
-        if is_doubled(y, region, at, e, noted[i], m.sign) {
-            return false;
+        let old = noted[i];
+        if is_doubled(y, region, at, e, old, m.sign) {
+            return unsound();
         }
-        noted[i] = marks::note(noted[i], m.sign);
+        noted[i] = marks::note(old, m.sign);
         at = next;
     }
 }
@@ -192,14 +303,12 @@ pub fn judge_in(y: Layout, region: &[u8]) -> Judged
     if layout::fixed::right_header(y, region) {
         let s = scan(y, region);
         if s.sound {
-            if undoubled(y, region) {
-                let tail = s.tail;
-                return Judged {
-                    sound: true,
-                    clean: slices::is_blank(slices::cut(region, tail, region.len())),
-                    tail,
-                };
-            }
+            let tail = s.tail;
+            return Judged {
+                sound: true,
+                clean: slices::is_blank(slices::cut(region, tail, region.len())),
+                tail,
+            };
         }
     }
     Judged {

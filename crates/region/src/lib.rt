@@ -11,7 +11,7 @@ pub enum Turn {
     Stop,
 }
 
-// What one pass over the entries tells: whether each is sound by itself, and then where the tail begins (else 0).
+// What one pass over the entries finds: whether each is sound by itself and no name is doubled, and then where the tail begins (else 0).
 pub struct Scan {
     pub sound: bool,
     pub tail: usize,
@@ -22,6 +22,12 @@ pub struct Judged {
     pub sound: bool,
     pub clean: bool,
     pub tail: usize,
+}
+
+// The sizes of a usual entry: of its name, and of header, name and data. A name of 0 bytes: it is not known to be usual.
+pub struct Usual {
+    pub name: usize,
+    pub end: usize,
 }
 
 // The mark of a name: its place in a table, and its sign there.

@@ -1,8 +1,9 @@
 // Marks, by which a name that came before is found without a look at every entry before it. A mark is a place, which is a number below a prime, and a
 // sign, both made from words of GUID and name. Equal names with equal GUIDs have equal marks, so a name whose mark is not noted is a new one.
 ghost use mathlib.Core.Path.{_≡_};
-ghost use Prim.Native.Nat.{_-_, _<_};
-ghost use Rattle.region.specs.Marks.{noMarks, plus, outerWords, innerWords, weighed, markIn, isNoted, note};
+ghost use Prim.Native.Nat.{_<_, _≤_};
+ghost use lib.ListN.{length};
+ghost use Rattle.region.specs.Marks.{noMarks, plus, outerWords, middleWords, innerWords, weighed, keyMark, markIn, isNoted, note};
 use crate::Mark;
 use crate::judge;
 use layout::Entry;
@@ -31,41 +32,76 @@ fn plus(a: u64, b: u64) -> u64
     std::num::wrapping_add_u64(a, b)
 }
 
-// Where the last eight of n bytes begin.
-fn last_eight(n: usize) -> usize
-    ensures { λ r. ⌜ r ≡ n - 8 ⌝ }
+// Words of a longer name between its first and the last three. They begin seven bytes apart, so that every character is in one of them, and one that is in two counts
+// differently in each.
+fn middle_words(key: &[u8]) -> u64
+    requires { ⌜ 45 ≤ length (now key) ⌝ }
+    ensures { λ r. ⌜ r ≡ middleWords (now (key .entry)) ⌝ }
 {
-    if n < 8 { 0 } else { n - 8 }
+    let mut left = (key.len() - 38) / 7;
+    let mut i: usize = 22;
+    let mut sum: u64 = 0;
+    while 0 < left {
+        sum = plus(sum, slices::standing_eight(key, i));
+        i += 7;
+        left -= 1;
+    }
+    sum
 }
 
-// The two words of the GUID, and the word at the end of the name.
+// The words of the GUID and the last of the name.
 fn outer_words(key: &[u8]) -> u64
+    requires { ⌜ 16 ≤ length (now key) ⌝ }
     ensures { λ r. ⌜ r ≡ outerWords (now (key .entry)) ⌝ }
 {
-    let vendor = plus(slices::eight(key, 0), slices::eight(key, 8));
-    plus(vendor, slices::eight(key, last_eight(key.len())))
+    let vendor = plus(
+        slices::standing_eight(key, 0),
+        slices::standing_eight(key, 8),
+    );
+    plus(vendor, slices::standing_eight(key, key.len() - 8))
 }
 
-// Words at the front of the name, in its middle and before its last one. Those before it begin seven bytes apart, so that a character counts otherwise in each.
+// The first word of the name, and two before its last. These begin seven bytes apart, too.
 fn inner_words(key: &[u8]) -> u64
+    requires { ⌜ 24 ≤ length (now key) ⌝ }
     ensures { λ r. ⌜ r ≡ innerWords (now (key .entry)) ⌝ }
 {
     let n = key.len();
-    if n < 24 {
-        return 0;
-    }
-    let early = plus(slices::eight(key, 16), slices::eight(key, n / 2));
-    plus(
-        early,
-        plus(slices::eight(key, n - 22), slices::eight(key, n - 15)),
-    )
+    let late = plus(
+        slices::standing_eight(key, n - 22),
+        slices::standing_eight(key, n - 15),
+    );
+    plus(slices::standing_eight(key, 16), late)
 }
 
-// The number that the mark of a key is made from.
+// The number that the mark of a key is made from: the words that it is long enough for.
 fn weighed(key: &[u8]) -> u64
     ensures { λ r. ⌜ r ≡ weighed (now (key .entry)) ⌝ }
 {
-    plus(outer_words(key), inner_words(key))
+    let n = key.len();
+    if n < 16 {
+        return 0;
+    }
+    let outer = outer_words(key);
+    if n < 24 {
+        return outer;
+    }
+    let most = plus(outer, inner_words(key));
+    if n < 45 {
+        return most;
+    }
+    plus(most, middle_words(key))
+}
+
+// The mark of a GUID with the name after it.
+pub(crate) fn mark_of_key(key: &[u8]) -> Mark
+    ensures { λ r. ⌜ (r ≡ keyMark (now (key .entry))) × (r .place < 1280) ⌝ }
+{
+    let w = weighed(key);
+    Mark {
+        place: (w % PLACES) as usize,
+        sign: (w / PLACES % SIGNS + 1) as u8,
+    }
 }
 
 // The mark of the entry at the front of `s`: that of its GUID and name if it is live, else one at a place that no name has.
@@ -73,11 +109,7 @@ pub(crate) fn mark_of(y: Layout, s: &[u8], e: Entry) -> Mark
     ensures { λ r. ⌜ (r ≡ markIn y (now (s .entry)) e) × (r .place < 1280) ⌝ }
 {
     if judge::is_live(e.state) {
-        let w = weighed(layout::key_of(y, s, e));
-        return Mark {
-            place: (w % PLACES) as usize,
-            sign: (w / PLACES % SIGNS + 1) as u8,
-        };
+        return mark_of_key(layout::key_of(y, s, e));
     }
     Mark {
         place: 1279,

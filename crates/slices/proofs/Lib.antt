@@ -7,3 +7,5 @@ pub mod Blank
 pub mod Ended
 -- Two lists compared from their ends
 pub mod Agreed
+-- A name tested in windows of its characters
+pub mod Windows

@@ -19,7 +19,3 @@ u64At s i = u32At s i + 4294967296 * u32At s (i + 4)
 -- four bytes as a number, 0 where they do not all stand
 unfoldable pub fourAt : List ℕ → ℕ → ℕ
 fourAt s i = cond (leb (i + 4) (length s)) (u32At s i) 0
-
--- eight bytes, likewise
-unfoldable pub eightAt : List ℕ → ℕ → ℕ
-eightAt s i = cond (leb (i + 8) (length s)) (u64At s i) 0

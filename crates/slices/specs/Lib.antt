@@ -1,2 +1,3 @@
--- Where two lists agree, and numbers of several bytes.
+-- Where two lists agree, and numbers of several bytes; the characters of a name.
 pub mod Agree
+pub mod Characters

@@ -3,7 +3,7 @@
 use mathlib.Core.Path.{sym, _∙_}
 use denote.Ref.{now}
 use borrow.Author.Needs.{needs}
-use Rattle.region.proofs.Whole.{wrong-header, wrong-entry, doubled-name, all-right, unsound, sounds, scan-sound, scan-tail}
+use Rattle.region.proofs.Whole.{wrong-header, wrong-entry, all-right, unsound, sounds, scan-sound, scan-tail}
 use Rattle.region.proofs.judge.judge_in.Statement.{statement}
 use Rattle.region.proofs.judge.judge_in.Tie as tie
 
@@ -13,9 +13,6 @@ right-header-requires c κs = search needs
 scan-requires : tie.Need-scan-requires
 scan-requires c κs = search needs
 
-undoubled-requires : tie.Need-undoubled-requires
-undoubled-requires c κs = search needs
-
 cut-requires : tie.Need-cut-requires
 cut-requires c κs = search needs
 
@@ -24,44 +21,27 @@ is-blank-requires c κs = search needs
 
 returns : tie.Need-returns
 returns c =
-    let y = c .before .before .before .before .before .before .before .before .before .args .y in
-    let r = now (c .before .before .before .before .before .before .before .before .before .args .region) in
-    let s = c .before .before .before .before .before .scan in
-    let h = sym (c .before .before .before .before .before .before .before .right-header .ensures)
-    ∙ c .before .before .before .before .before .before .if1 .taken in
-    let each = scan-sound y r (s .result) (s .ensures) ∙ c .before .before .before .before .if2 .taken in
-    let u = sym (c .before .before .before .undoubled .ensures) ∙ c .before .before .if3 .taken in
+    let y = c .before .before .before .before .before .before .before .args .y in
+    let r = now (c .before .before .before .before .before .before .before .args .region) in
+    let s = c .before .before .before .scan in
+    let h = sym (c .before .before .before .before .before .right-header .ensures)
+    ∙ c .before .before .before .before .if1 .taken in
+    let each = scan-sound y r (s .result) (s .ensures) ∙ c .before .before .if2 .taken in
     let t = scan-tail y r (s .result) (s .ensures) each in
-    rw (sounds y r (all-right y r h each u), c .is-blank .ensures, c .before .cut .ensures, t)
+    rw (sounds y r (all-right y r h each), c .is-blank .ensures, c .before .cut .ensures, t)
 
 returns-2 : tie.Need-returns-2
 returns-2 c =
-    let y = c .before .before .before .before .before .before .before .args .y in
-    let r = now (c .before .before .before .before .before .before .before .args .region) in
-    sym (unsound y r (doubled-name y r (sym (c .before .undoubled .ensures) ∙ c .if3 .left)))
-
-returns-3 : tie.Need-returns-3
-returns-3 c =
     let y = c .before .before .before .before .before .args .y in
     let r = now (c .before .before .before .before .before .args .region) in
     sym (unsound y r (wrong-entry y r (scan-sound y r (c .before .scan .result) (c .before .scan .ensures) ∙ c .if2 .left)))
 
-returns-4 : tie.Need-returns-4
-returns-4 c =
+returns-3 : tie.Need-returns-3
+returns-3 c =
     let y = c .before .before .before .args .y in
     let r = now (c .before .before .before .args .region) in
     sym (unsound y r (wrong-header y r (sym (c .before .right-header .ensures) ∙ c .if1 .left)))
 
 pub judge-in-spec : {M : Type 1} → statement M
 judge-in-spec =
-    tie.close
-    (tie.spec
-    right-header-requires
-    scan-requires
-    undoubled-requires
-    cut-requires
-    is-blank-requires
-    returns
-    returns-2
-    returns-3
-    returns-4)
+    tie.close (tie.spec right-header-requires scan-requires cut-requires is-blank-requires returns returns-2 returns-3)

@@ -1,81 +1,337 @@
--- `region::judge::scan` meets its contract. The loop's invariant: what the whole walk tells is what the walk from here on tells. What is left of the
--- region falls.
+-- `region::judge::scan` meets its contract. The loop's invariant: what the whole walk tells of each entry by itself is what the walk from here on tells; of every
+-- entry passed the mark is noted, and no name is doubled in the whole walk just if none from here on is, neither among themselves nor with those passed. What is
+-- left of the region falls; in the inner loop it is no more than where that began.
 -- Assumes nothing.
-use Prim.Native.Nat.{_-_}
+use Prim.Native.Nat.{ℕ, _+_, _-_, _≤_}
 use native.Mathlib.Omega.{arith}
 use mathlib.Core.Path.{_≡_, sym, ap, _∙_}
 use lib.ListN.{length}
 use denote.Ref.{now}
-use borrow.Author.Needs.{needs}
+use borrow.Author.Tests.{not-true, not-false}
 use Rattle.model.specs.Walk.{walkEnd}
 use Rattle.model.specs.Beside.{fromIn}
-use Rattle.region.specs.Judge.{scanOf}
 use Rattle.region.proofs.Judging.{front-sound}
-use Rattle.region.proofs.Scanning.{scanned, scan-begin, scan-next, scan-stop}
+use Rattle.region.proofs.Marked.{Passed, here-mark, begin, ended, doubled, next, next-first}
+use Rattle.region.proofs.Scanning.{singly, scanned, scan-begin, scan-next, scan-stop, scan-right, scan-wrong, scan-doubled}
 use Rattle.region.proofs.Turns.{at-entry, at-end}
+use Rattle.region.proofs.Usuals.{turned-usual, sound-usual, room-usual, mark-usual}
+use borrow.Author.Needs.{needs}
 use Rattle.region.proofs.judge.scan.Statement.{statement}
 use Rattle.region.proofs.judge.scan.Tie as tie
 
+abbrev Inv-loop2 : tie.InvT-loop2
+Inv-loop2 y region last noted₀ at₀ noted at =
+    (singly y region ≡ scanned (length region) at (fromIn y region at)) × Passed y region noted at × (length region - at ≤ length region - at₀)
+
+abbrev μ-loop2 : tie.MeasureT-loop2
+μ-loop2 y region last noted₀ at₀ noted at = length region - at
+
 abbrev Inv-loop : tie.InvT-loop
-Inv-loop y region at₀ at = scanOf y region ≡ scanned (length region) at (fromIn y region at)
+Inv-loop y region last noted₀ at₀ noted at = (singly y region ≡ scanned (length region) at (fromIn y region at)) × Passed y region noted at
 
 abbrev μ-loop : tie.MeasureT-loop
-μ-loop y region at₀ at = length region - at
+μ-loop y region last noted₀ at₀ noted at = length region - at
 
-loop-holds : tie.Need-loop-holds Inv-loop μ-loop
-loop-holds c = scan-begin (c .before .args .y) (now (c .before .args .region))
+last-header-requires : tie.Need-last-header-requires Inv-loop2 μ-loop2 Inv-loop μ-loop
+last-header-requires c κs = search needs
 
-turn-in-requires : tie.Need-turn-in-requires Inv-loop μ-loop
+no-marks-requires : tie.Need-no-marks-requires Inv-loop2 μ-loop2 Inv-loop μ-loop
+no-marks-requires c κs = search needs
+
+loop-holds : tie.Need-loop-holds Inv-loop2 μ-loop2 Inv-loop μ-loop
+loop-holds c =
+    let a = c .before .before .before .args in
+    (scan-begin (a .y) (now (a .region)), rw (c .no-marks .ensures) (begin (a .y) (now (a .region))))
+
+loop2-holds : tie.Need-loop2-holds Inv-loop2 μ-loop2 Inv-loop μ-loop
+loop2-holds c = (c .loop .inv .0, c .loop .inv .1, omega arith)
+
+usual-at-requires : tie.Need-usual-at-requires Inv-loop2 μ-loop2 Inv-loop μ-loop
+usual-at-requires c κs = search needs
+
+vendor-requires : tie.Need-vendor-requires Inv-loop2 μ-loop2 Inv-loop μ-loop
+vendor-requires c κs = search needs
+
+add-v : tie.Need-add-v Inv-loop2 μ-loop2 Inv-loop μ-loop
+add-v c =
+    let l = c .before .before .before in
+    let a = l .before .before .before .before .before .args in
+    let r = now (a .region) in
+    let t = c .before .before .usual-at in
+    let m = room-usual (a .y) r (l .loop2 .at) (t .result .name) (t .result .end) (t .ensures) (c .before .if1 .left) in
+    omega (arith, m .0, c .vendor .ensures .0)
+
+add-mark-of-key : tie.Need-add-mark-of-key Inv-loop2 μ-loop2 Inv-loop μ-loop
+add-mark-of-key c =
+    let l = c .before .before .before in
+    let a = l .before .before .before .before .before .args in
+    let r = now (a .region) in
+    let t = c .before .before .usual-at in
+    let m = room-usual (a .y) r (l .loop2 .at) (t .result .name) (t .result .end) (t .ensures) (c .before .if1 .left) in
+    omega (arith, m .0, c .vendor .ensures .0)
+
+add-mark-of-key-2 : tie.Need-add-mark-of-key-2 Inv-loop2 μ-loop2 Inv-loop μ-loop
+add-mark-of-key-2 c =
+    let l = c .before .before .before in
+    let a = l .before .before .before .before .before .args in
+    let r = now (a .region) in
+    let t = c .before .before .usual-at in
+    let m = room-usual (a .y) r (l .loop2 .at) (t .result .name) (t .result .end) (t .ensures) (c .before .if1 .left) in
+    omega (arith, m .0, c .vendor .ensures .0)
+
+sub-mark-of-key : tie.Need-sub-mark-of-key Inv-loop2 μ-loop2 Inv-loop μ-loop
+sub-mark-of-key c = omega arith
+
+part-mark-of-key-start : tie.Need-part-mark-of-key-start Inv-loop2 μ-loop2 Inv-loop μ-loop
+part-mark-of-key-start c =
+    let l = c .before .before .before in
+    let a = l .before .before .before .before .before .args in
+    let r = now (a .region) in
+    let t = c .before .before .usual-at in
+    let m = room-usual (a .y) r (l .loop2 .at) (t .result .name) (t .result .end) (t .ensures) (c .before .if1 .left) in
+    omega (arith, m .0, c .vendor .ensures .0)
+
+part-mark-of-key-end : tie.Need-part-mark-of-key-end Inv-loop2 μ-loop2 Inv-loop μ-loop
+part-mark-of-key-end c =
+    let l = c .before .before .before in
+    let a = l .before .before .before .before .before .args in
+    let r = now (a .region) in
+    let t = c .before .before .usual-at in
+    let m = room-usual (a .y) r (l .loop2 .at) (t .result .name) (t .result .end) (t .ensures) (c .before .if1 .left) in
+    omega (arith, m .0, c .vendor .ensures .0)
+
+mark-of-key-requires : tie.Need-mark-of-key-requires Inv-loop2 μ-loop2 Inv-loop μ-loop
+mark-of-key-requires c κs = search needs
+
+array-read-old : tie.Need-array-read-old Inv-loop2 μ-loop2 Inv-loop μ-loop
+array-read-old c = search needs
+
+array-write-noted : tie.Need-array-write-noted Inv-loop2 μ-loop2 Inv-loop μ-loop
+array-write-noted c = search needs
+
+rounded-requires : tie.Need-rounded-requires Inv-loop2 μ-loop2 Inv-loop μ-loop
+rounded-requires c κs =
+    let l = c .before .before .before .before .before .before in
+    let a = l .before .before .before .before .before .args in
+    let r = now (a .region) in
+    let t = c .before .before .before .before .before .usual-at in
+    let m = room-usual (a .y) r (l .loop2 .at) (t .result .name) (t .result .end) (t .ensures) (c .before .before .before .before .if1 .left) in
+    omega (arith, m .1)
+
+add-at : tie.Need-add-at Inv-loop2 μ-loop2 Inv-loop μ-loop
+add-at c =
+    let l = c .before .before .before .before .before .before .before in
+    let a = l .before .before .before .before .before .args in
+    let r = now (a .region) in
+    let t = c .before .before .before .before .before .before .usual-at in
+    let m = room-usual (a .y) r (l .loop2 .at) (t .result .name) (t .result .end) (t .ensures) (c .before .before .before .before .before .if1 .left) in
+    omega (arith, m .1, c .rounded .ensures)
+
+loop2-less : tie.Need-loop2-less Inv-loop2 μ-loop2 Inv-loop μ-loop
+loop2-less c =
+    let l = c .before .before .before .before .before .before .before in
+    let a = l .before .before .before .before .before .args in
+    let r = now (a .region) in
+    let t = c .before .before .before .before .before .before .usual-at in
+    let w = turned-usual (a .y) r (l .loop2 .at) (t .result .name) (t .result .end) (t .ensures) (c .before .before .before .before .before .if1 .left) in
+    rw (c .rounded .ensures) (w .less)
+
+loop2-again : tie.Need-loop2-again Inv-loop2 μ-loop2 Inv-loop μ-loop
+loop2-again c =
+    let l = c .before .before .before .before .before .before .before in
+    let a = l .before .before .before .before .before .args in
+    let r = now (a .region) in
+    let t = c .before .before .before .before .before .before .usual-at in
+    let w = turned-usual (a .y) r (l .loop2 .at) (t .result .name) (t .result .end) (t .ensures) (c .before .before .before .before .before .if1 .left) in
+    let e = c .before .before .mark-of-key .ensures in
+    let q = e .0 ∙ mark-usual (a .y) r (l .loop2 .at) (t .result .name) (t .result .end) (t .ensures) (c .before .before .before .before .before .if1 .left) _ (ap (λ (v : ℕ). l .loop2 .at + v) (c .before .before .before .before .vendor .ensures .0)) in
+    let own = sound-usual (a .y) r (l .loop2 .at) (t .result .name) (t .result .end) (t .ensures) (c .before .before .before .before .before .if1 .left) in
+    let less = w .less in
+    let here = l .loop2 .inv .2 in
+    rw (c .rounded .ensures) (l .loop2 .inv .0 ∙ scan-next (w .walk) _ _ _ own (w .next), next-first (l .loop2 .inv .1) w _ q (e .1) (c .before .if2 .taken), omega arith)
+
+is-noted-requires : tie.Need-is-noted-requires Inv-loop2 μ-loop2 Inv-loop μ-loop
+is-noted-requires c κs = search needs
+
+note-requires : tie.Need-note-requires Inv-loop2 μ-loop2 Inv-loop μ-loop
+note-requires c κs = search needs
+
+array-write-noted-2 : tie.Need-array-write-noted-2 Inv-loop2 μ-loop2 Inv-loop μ-loop
+array-write-noted-2 c = search needs
+
+rounded-requires-2 : tie.Need-rounded-requires-2 Inv-loop2 μ-loop2 Inv-loop μ-loop
+rounded-requires-2 c κs =
+    let l = c .before .before .before .before .before .before .before .before .before in
+    let a = l .before .before .before .before .before .args in
+    let r = now (a .region) in
+    let t = c .before .before .before .before .before .before .before .before .usual-at in
+    let m = room-usual (a .y) r (l .loop2 .at) (t .result .name) (t .result .end) (t .ensures) (c .before .before .before .before .before .before .before .if1 .left) in
+    omega (arith, m .1)
+
+add-at-2 : tie.Need-add-at-2 Inv-loop2 μ-loop2 Inv-loop μ-loop
+add-at-2 c =
+    let l = c .before .before .before .before .before .before .before .before .before .before in
+    let a = l .before .before .before .before .before .args in
+    let r = now (a .region) in
+    let t = c .before .before .before .before .before .before .before .before .before .usual-at in
+    let m = room-usual (a .y) r (l .loop2 .at) (t .result .name) (t .result .end) (t .ensures) (c .before .before .before .before .before .before .before .before .if1 .left) in
+    omega (arith, m .1, c .rounded2 .ensures)
+
+loop2-less-2 : tie.Need-loop2-less-2 Inv-loop2 μ-loop2 Inv-loop μ-loop
+loop2-less-2 c =
+    let l = c .before .before .before .before .before .before .before .before .before .before in
+    let a = l .before .before .before .before .before .args in
+    let r = now (a .region) in
+    let t = c .before .before .before .before .before .before .before .before .before .usual-at in
+    let w = turned-usual (a .y) r (l .loop2 .at) (t .result .name) (t .result .end) (t .ensures) (c .before .before .before .before .before .before .before .before .if1 .left) in
+    rw (c .rounded2 .ensures) (w .less)
+
+loop2-again-2 : tie.Need-loop2-again-2 Inv-loop2 μ-loop2 Inv-loop μ-loop
+loop2-again-2 c =
+    let l = c .before .before .before .before .before .before .before .before .before .before in
+    let a = l .before .before .before .before .before .args in
+    let r = now (a .region) in
+    let t = c .before .before .before .before .before .before .before .before .before .usual-at in
+    let w = turned-usual (a .y) r (l .loop2 .at) (t .result .name) (t .result .end) (t .ensures) (c .before .before .before .before .before .before .before .before .if1 .left) in
+    let e = c .before .before .before .before .before .mark-of-key .ensures in
+    let q = e .0 ∙ mark-usual (a .y) r (l .loop2 .at) (t .result .name) (t .result .end) (t .ensures) (c .before .before .before .before .before .before .before .before .if1 .left) _ (ap (λ (v : ℕ). l .loop2 .at + v) (c .before .before .before .before .before .before .before .vendor .ensures .0)) in
+    let own = sound-usual (a .y) r (l .loop2 .at) (t .result .name) (t .result .end) (t .ensures) (c .before .before .before .before .before .before .before .before .if1 .left) in
+    let less = w .less in
+    let here = l .loop2 .inv .2 in
+    let new = sym (c .before .before .before .is-noted .ensures) ∙ c .before .before .if3 .left in
+    rw (c .rounded2 .ensures, c .before .note .ensures) (l .loop2 .inv .0 ∙ scan-next (w .walk) _ _ _ own (w .next), next (l .loop2 .inv .1) w _ q (e .1) (rw new), omega arith)
+
+turn-in-requires : tie.Need-turn-in-requires Inv-loop2 μ-loop2 Inv-loop μ-loop
 turn-in-requires c κs = search needs
 
-enum-known-t : tie.Need-enum-known-t Inv-loop μ-loop
+enum-known-t : tie.Need-enum-known-t Inv-loop2 μ-loop2 Inv-loop μ-loop
 enum-known-t c = search needs
 
-enum-told : tie.Need-enum-told Inv-loop μ-loop
+enum-told : tie.Need-enum-told Inv-loop2 μ-loop2 Inv-loop μ-loop
 enum-told c = search needs
 
-returns : tie.Need-returns Inv-loop μ-loop
+returns : tie.Need-returns Inv-loop2 μ-loop2 Inv-loop μ-loop
 unfolding walkEnd
 returns c =
     let b = c .before .before in
-    sym (b .before .loop .inv ∙ ap (scanned _ _) (at-end (b .turn-in .ensures) (c .enum-told .given .1) .walk))
+    let l = b .before .before .before in
+    let a = l .before .before .before .before .before .args in
+    let z = at-end (b .turn-in .ensures) (c .enum-told .given .1) in
+    let i = l .loop2 .inv in
+    sym (scan-right (a .y) (now (a .region)) _ (i .0 ∙ ap (scanned _ _) (z .walk)) (ended (i .1) z))
 
-sub-entry-sound : tie.Need-sub-entry-sound Inv-loop μ-loop
+sub-entry-sound : tie.Need-sub-entry-sound Inv-loop2 μ-loop2 Inv-loop μ-loop
 sub-entry-sound c = at-entry (c .before .before .before .turn-in .ensures) (c .before .t .given .1) .inside
 
-part-entry-sound-start : tie.Need-part-entry-sound-start Inv-loop μ-loop
+part-entry-sound-start : tie.Need-part-entry-sound-start Inv-loop2 μ-loop2 Inv-loop μ-loop
 part-entry-sound-start c = let w = at-entry (c .before .before .before .turn-in .ensures) (c .before .t .given .1) in omega arith
 
-part-entry-sound-end : tie.Need-part-entry-sound-end Inv-loop μ-loop
+part-entry-sound-end : tie.Need-part-entry-sound-end Inv-loop2 μ-loop2 Inv-loop μ-loop
 part-entry-sound-end c = let w = at-entry (c .before .before .before .turn-in .ensures) (c .before .t .given .1) in omega arith
 
-entry-sound-requires : tie.Need-entry-sound-requires Inv-loop μ-loop
+entry-sound-requires : tie.Need-entry-sound-requires Inv-loop2 μ-loop2 Inv-loop μ-loop
 entry-sound-requires c κs = search needs
 
-loop-less : tie.Need-loop-less Inv-loop μ-loop
-loop-less c = let b = c .before .before .before .before in at-entry (b .before .before .turn-in .ensures) (b .t .given .1) .less
+unsound-requires : tie.Need-unsound-requires Inv-loop2 μ-loop2 Inv-loop μ-loop
+unsound-requires c κs = search needs
 
-loop-again : tie.Need-loop-again Inv-loop μ-loop
-loop-again c =
-    let b = c .before .before .before .before in
-    let w = at-entry (b .before .before .turn-in .ensures) (b .t .given .1) in
-    let own = sym (front-sound w) ∙ sym (c .before .entry-sound .ensures) in
-    b .before .before .before .loop .inv ∙ scan-next (w .walk) _ _ _ (own ∙ c .if1 .taken) (w .next)
-
-returns-2 : tie.Need-returns-2 Inv-loop μ-loop
+returns-2 : tie.Need-returns-2 Inv-loop2 μ-loop2 Inv-loop μ-loop
 returns-2 c =
-    let b = c .before .before .before .before in
-    let w = at-entry (b .before .before .turn-in .ensures) (b .t .given .1) in
-    let own = sym (front-sound w) ∙ sym (c .before .entry-sound .ensures) in
-    sym (b .before .before .before .loop .inv ∙ scan-stop (w .walk) _ _ (own ∙ c .if1 .left))
+    let d = c .before in
+    let l = d .before .before .before .before .before .before .before .before .before in
+    let a = l .before .before .before .before .before .args in
+    let w = at-entry (d .before .before .before .before .before .before .turn-in .ensures) (d .before .before .before .before .t .given .1) in
+    let own = sym (front-sound w) ∙ sym (d .before .entry-sound .ensures) in
+    c .unsound .ensures ∙ sym (scan-wrong (a .y) (now (a .region)) (l .loop2 .inv .0 ∙ scan-stop (w .walk) _ _ (own ∙ not-true _ (d .if4 .taken))))
+
+sub-mark-of : tie.Need-sub-mark-of Inv-loop2 μ-loop2 Inv-loop μ-loop
+sub-mark-of c = at-entry (c .before .before .before .before .before .before .turn-in .ensures) (c .before .before .before .before .t .given .1) .inside
+
+part-mark-of-start : tie.Need-part-mark-of-start Inv-loop2 μ-loop2 Inv-loop μ-loop
+part-mark-of-start c = let w = at-entry (c .before .before .before .before .before .before .turn-in .ensures) (c .before .before .before .before .t .given .1) in omega arith
+
+part-mark-of-end : tie.Need-part-mark-of-end Inv-loop2 μ-loop2 Inv-loop μ-loop
+part-mark-of-end c = let w = at-entry (c .before .before .before .before .before .before .turn-in .ensures) (c .before .before .before .before .t .given .1) in omega arith
+
+mark-of-requires : tie.Need-mark-of-requires Inv-loop2 μ-loop2 Inv-loop μ-loop
+mark-of-requires c κs = search needs
+
+array-read-old-2 : tie.Need-array-read-old-2 Inv-loop2 μ-loop2 Inv-loop μ-loop
+array-read-old-2 c = search needs
+
+is-doubled-requires : tie.Need-is-doubled-requires Inv-loop2 μ-loop2 Inv-loop μ-loop
+is-doubled-requires c κs = search needs
+
+unsound-requires-2 : tie.Need-unsound-requires-2 Inv-loop2 μ-loop2 Inv-loop μ-loop
+unsound-requires-2 c κs = search needs
+
+returns-3 : tie.Need-returns-3 Inv-loop2 μ-loop2 Inv-loop μ-loop
+returns-3 c =
+    let d = c .before in
+    let l = d .before .before .before .before .before .before .before .before .before .before .before .before .before in
+    let a = l .before .before .before .before .before .args in
+    let w = at-entry (d .before .before .before .before .before .before .before .before .before .before .turn-in .ensures) (d .before .before .before .before .before .before .before .before .t .given .1) in
+    c .unsound2 .ensures ∙ sym (scan-doubled (a .y) (now (a .region)) (doubled (l .loop2 .inv .1) w _ _ (sym (d .before .is-doubled .ensures) ∙ d .if5 .taken)))
+
+note-requires-2 : tie.Need-note-requires-2 Inv-loop2 μ-loop2 Inv-loop μ-loop
+note-requires-2 c κs = search needs
+
+array-write-noted-3 : tie.Need-array-write-noted-3 Inv-loop2 μ-loop2 Inv-loop μ-loop
+array-write-noted-3 c = search needs
+
+loop-less : tie.Need-loop-less Inv-loop2 μ-loop2 Inv-loop μ-loop
+loop-less c =
+    let w = at-entry (c .before .before .before .before .before .before .before .before .before .before .before .turn-in .ensures) (c .before .before .before .before .before .before .before .before .before .t .given .1) in
+    let less = w .less in
+    let here = c .before .before .before .before .before .before .before .before .before .before .before .before .before .before .loop2 .inv .2 in
+    omega arith
+
+loop-again : tie.Need-loop-again Inv-loop2 μ-loop2 Inv-loop μ-loop
+loop-again c =
+    let l = c .before .before .before .before .before .before .before .before .before .before .before .before .before .before in
+    let a = l .before .before .before .before .before .args in
+    let w = at-entry (c .before .before .before .before .before .before .before .before .before .before .before .turn-in .ensures) (c .before .before .before .before .before .before .before .before .before .t .given .1) in
+    let own = sym (front-sound w) ∙ sym (c .before .before .before .before .before .before .entry-sound .ensures) in
+    let e = c .before .before .before .mark-of .ensures in
+    let q = e .0 ∙ here-mark (a .y) (now (a .region)) (l .loop2 .at) (c .before .before .before .before .before .before .before .before .before .t .given .0 .0) in (
+      l .loop2 .inv .0 ∙ scan-next (w .walk) _ _ _ (own ∙ not-false _ (c .before .before .before .before .before .if4 .left)) (w .next),
+      rw (c .note2 .ensures) (next (l .loop2 .inv .1) w _ q (e .1) (sym (c .before .before .is-doubled .ensures) ∙ c .before .if5 .left)),
+    )
 
 pub scan-spec : {M : Type 1} → statement M
 scan-spec =
     tie.close
     (tie.spec
+    Inv-loop2
+    μ-loop2
     Inv-loop
     μ-loop
+    last-header-requires
+    no-marks-requires
     loop-holds
+    loop2-holds
+    usual-at-requires
+    vendor-requires
+    add-v
+    add-mark-of-key
+    add-mark-of-key-2
+    sub-mark-of-key
+    part-mark-of-key-start
+    part-mark-of-key-end
+    mark-of-key-requires
+    array-read-old
+    array-write-noted
+    rounded-requires
+    add-at
+    loop2-less
+    loop2-again
+    is-noted-requires
+    note-requires
+    array-write-noted-2
+    rounded-requires-2
+    add-at-2
+    loop2-less-2
+    loop2-again-2
     turn-in-requires
     enum-known-t
     enum-told
@@ -84,6 +340,17 @@ scan-spec =
     part-entry-sound-start
     part-entry-sound-end
     entry-sound-requires
+    unsound-requires
+    returns-2
+    sub-mark-of
+    part-mark-of-start
+    part-mark-of-end
+    mark-of-requires
+    array-read-old-2
+    is-doubled-requires
+    unsound-requires-2
+    returns-3
+    note-requires-2
+    array-write-noted-3
     loop-less
-    loop-again
-    returns-2)
+    loop-again)

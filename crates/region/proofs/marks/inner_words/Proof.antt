@@ -1,70 +1,48 @@
--- `region::marks::inner_words` meets its contract: the words are those of the definition, and a short key has none. Assumes nothing.
-use native.Mathlib.Omega.{arith}
+-- `region::marks::inner_words` meets its contract: the words are those of the definition. Assumes nothing.
 use mathlib.Core.Path.{ap₂, _∙_}
-use lib.ListN.{length}
-use denote.Ref.{now}
-use borrow.Author.Tests.{le-leb, lt-leb}
 use borrow.Author.Needs.{needs}
 use Rattle.region.specs.Marks.{plus, innerWords}
 use Rattle.region.proofs.marks.inner_words.Statement.{statement}
 use Rattle.region.proofs.marks.inner_words.Tie as tie
 
-returns : tie.Need-returns
-unfolding innerWords
-returns c =
-    let key = now (c .before .before .args .key) in
-    rw (lt-leb 24 (length key) (c .if1 .taken))
+sub-standing-eight : tie.Need-sub-standing-eight
+sub-standing-eight c = search needs
 
-eight-requires : tie.Need-eight-requires
-eight-requires c κs = search needs
+standing-eight-requires : tie.Need-standing-eight-requires
+standing-eight-requires c κs = search needs
 
-eight-requires-2 : tie.Need-eight-requires-2
-eight-requires-2 c κs = search needs
+sub-standing-eight-2 : tie.Need-sub-standing-eight-2
+sub-standing-eight-2 c = search needs
+
+standing-eight-requires-2 : tie.Need-standing-eight-requires-2
+standing-eight-requires-2 c κs = search needs
 
 plus-requires : tie.Need-plus-requires
 plus-requires c κs = search needs
 
-sub-eight : tie.Need-sub-eight
-sub-eight c = search needs
-
-eight-requires-3 : tie.Need-eight-requires-3
-eight-requires-3 c κs = search needs
-
-sub-eight-2 : tie.Need-sub-eight-2
-sub-eight-2 c = search needs
-
-eight-requires-4 : tie.Need-eight-requires-4
-eight-requires-4 c κs = search needs
+standing-eight-requires-3 : tie.Need-standing-eight-requires-3
+standing-eight-requires-3 c κs = search needs
 
 plus-requires-2 : tie.Need-plus-requires-2
 plus-requires-2 c κs = search needs
 
-plus-requires-3 : tie.Need-plus-requires-3
-plus-requires-3 c κs = search needs
-
-returns-2 : tie.Need-returns-2
+returns : tie.Need-returns
 unfolding innerWords
-returns-2 c =
-    let w = c .before .before .before .before .before .before in
-    let key = now (w .before .before .before .args .key) in
-    rw (le-leb 24 (length key) (omega arith))
-    (c .plus3 .ensures
-    ∙ ap₂ plus
-    (c .before .before .before .before .plus .ensures ∙ ap₂ plus (w .eight .ensures) (c .before .before .before .before .before .eight2 .ensures))
-    (c .before .plus2 .ensures ∙ ap₂ plus (c .before .before .before .eight3 .ensures) (c .before .before .eight4 .ensures)))
+returns c =
+    c .plus2 .ensures
+    ∙ ap₂ plus (c .before .standing-eight3 .ensures)
+    (c .before .before .plus .ensures
+    ∙ ap₂ plus (c .before .before .before .before .standing-eight .ensures) (c .before .before .before .standing-eight2 .ensures))
 
 pub inner-words-spec : {M : Type 1} → statement M
 inner-words-spec =
     tie.close
     (tie.spec
-    returns
-    eight-requires
-    eight-requires-2
+    sub-standing-eight
+    standing-eight-requires
+    sub-standing-eight-2
+    standing-eight-requires-2
     plus-requires
-    sub-eight
-    eight-requires-3
-    sub-eight-2
-    eight-requires-4
+    standing-eight-requires-3
     plus-requires-2
-    plus-requires-3
-    returns-2)
+    returns)
