@@ -1,8 +1,8 @@
 -- The data of an entry is a part of the region, since dropping twice is dropping once. Name and data follow
 -- each other, so together they hold no more than the rest of the region, and each no more than its size says. Hence the sizes of the values add up to no
--- more than the way that the walk has gone.
+-- more than the way that the walk has gone: to no more than the way to the tail.
 -- Assumes nothing.
-use Prim.Native.Nat.{ℕ, _+_, _-_, _≤_}
+use Prim.Native.Nat.{ℕ, zero, suc, _+_, _-_, _≤_, _<_}
 use native.Mathlib.Nat.{min-le-left, min-le-right}
 use native.Mathlib.Omega.{arith}
 use mathlib.Core.Path.{_≡_, refl, ap, _∙_}
@@ -19,12 +19,16 @@ use Rattle.model.specs.Lists.{part}
 use Rattle.model.specs.Change.{entrySizesIn, recordSizes, otherSizes}
 use Rattle.model.specs.Entry.{entrySizeIn, entrySize}
 use Rattle.model.specs.Walk as walk
-use Rattle.model.specs.Region.{entriesIn, entries, isValue, recordBit}
+use Rattle.model.specs.Region.{entriesIn, entries, tailAtIn, tailAt, isValue, values, recordBit}
+use Rattle.model.specs.Beside.{fromIn}
+use Rattle.model.proofs.Walking.{entries-from}
 use Rattle.layout.specs.declared.Entry as numbers
-use Rattle.region.specs.Walk.{entryAs, entryAt, strideIn}
-use Rattle.region.proofs.Turns.{Turned}
+use Rattle.region.specs.Walk.{entryAs, entryAt, strideIn, turnIn}
+use Rattle.region.specs.declared.Turn.{Turn}
+use Rattle.region.specs.declared.Turn.the-variants.{Entry, Stop}
+use Rattle.region.proofs.Turns.{Turned, Ended, at-entry, at-end}
 use Rattle.region.proofs.Entries.{unnamed, named}
-use Rattle.values.proofs.Listed.{listedIn, listed, listed-value}
+use Rattle.values.proofs.Listed.{listedIn, listed, listed-all, listed-none, listed-value, listed-next}
 
 part-fits : (r : List ℕ) (i n : ℕ) → (length (part i n r) ≤ n) × (length (part i n r) ≤ length r - i)
 part-fits r i n =
@@ -94,3 +98,37 @@ module _ {r : List ℕ} {at : ℕ} {e : numbers.Entry} {k : ℕ} (w : Turned aut
       → (recordSizes (listed r at) ≡ recordSizes (listed r k)) × (otherSizes (listed r at) ≡ size + otherSizes (listed r k))
   unfolding recordSizes otherSizes entrySizesIn entryAs walk.placed
   sums-other b = rw (listed-value w h, b) (refl, refl)
+
+-- ---- the way to the tail
+
+-- the values from an offset on take no more than the way from there to the tail
+abbrev Takes : List ℕ → ℕ → Type 0
+Takes r at = at + recordSizes (listed r at) + otherSizes (listed r at) ≤ walk.walkEnd at (fromIn authenticated r at)
+
+takes-none : {r : List ℕ} {at : ℕ} → Ended authenticated r at → Takes r at
+unfolding recordSizes otherSizes entrySizesIn walk.walkEnd
+takes-none {r} {at} z = rw (listed-none z, z .walk) (omega arith)
+
+takes-more : {r : List ℕ} {at : ℕ} {e : numbers.Entry} {k : ℕ} → Turned authenticated r at e k → Takes r k → Takes r at
+unfolding walk.walkEnd
+takes-more {r} {at} {e} {k} w h = rw (w .walk, w .next) (go (isValue (entries r) (entryAt r at e)) refl (recordBit (e .attributes)) refl)
+  where
+    go : (v : Bool) → isValue (entries r) (entryAt r at e) ≡ v → (b : Bool) → recordBit (e .attributes) ≡ b
+        → at + recordSizes (listed r at) + otherSizes (listed r at) ≤ walk.walkEnd k (fromIn authenticated r k)
+    go true v true b = let s = sums-record w v b in omega (arith, size-next w)
+    go true v false b = let s = sums-other w v b in omega (arith, size-next w)
+    go false v b q = rw (listed-next w v) (omega (arith, size-next w))
+
+takes-by : (r : List ℕ) (at : ℕ) → ((k : ℕ) → length r - k < length r - at → Takes r k) → (t : Turn) → turnIn authenticated r at ≡ t → Takes r at
+takes-by r at on (Entry e k) p = let w = at-entry refl p in takes-more w (on k (w .less))
+takes-by r at on Stop p = takes-none (at-end refl p)
+
+takes : (left : ℕ) (r : List ℕ) (at : ℕ) → length r - at ≤ left → Takes r at
+takes zero r at h = takes-by r at (λ k l. absurd (omega arith)) (turnIn authenticated r at) refl
+takes (suc n) r at h = takes-by r at (λ k l. takes n r k (omega arith)) (turnIn authenticated r at) refl
+
+pub sizes-before-tail : (r : List ℕ) → 28 + recordSizes (values (entries r)) + otherSizes (values (entries r)) ≤ tailAt r
+unfolding tailAtIn
+sizes-before-tail r =
+    let t = takes (length r) r 28 (omega arith) in
+    rw (listed-all authenticated r, entries-from authenticated r) t
