@@ -5,6 +5,8 @@ pub mod Broken
 pub mod Old
 -- The space of the values after a change
 pub mod Space
+-- Room after the tail
+pub mod AfterTail
 -- The decision by the parts in which it is judged
 pub mod Assembled
 -- What a decision says of the call, of the change and of the room

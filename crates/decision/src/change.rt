@@ -2,11 +2,12 @@
 ghost use mathlib.Core.Path.{_≡_};
 ghost use mathlib.Core.Bool.{true};
 ghost use mathlib.Core.List.{_++_};
+ghost use mathlib.Core.Option.{none};
 ghost use Prim.Native.Nat.{_+_, _<_, _≤_, _^_};
 ghost use lib.ListN.{length};
 ghost use Rattle.model.specs.Name.{keyed};
 ghost use Rattle.model.specs.Entry.{rounded};
-ghost use Rattle.model.specs.Region.{recordBit, entries, values};
+ghost use Rattle.model.specs.Region.{recordBit, entries, values, tailAt};
 ghost use Rattle.model.specs.Limits.{limitsFor};
 ghost use Rattle.model.specs.Change.{recordSizes, otherSizes};
 ghost use Rattle.model.specs.Rules.{firstBroken};
@@ -242,8 +243,34 @@ pub fn outcome(region: &[u8], old: Found, attributes: u32, proper: &[u8]) -> Dec
     }
 }
 
-// And by room, where a value is to be put.
-pub fn roomed(
+// Whether a value, no error record, fits between the tail and what is kept free. If so, rules 13 and 18 are kept whatever the sums are: all values lie before the
+// tail, so they take no more than its offset. Only the yes is proved: deleted entries lie before the tail too, so where this says no the sums may still leave room.
+fn fits_after_tail(
+    t: Terms,
+    region: &[u8],
+    tail: usize,
+    old: Found,
+    name: usize,
+    attributes: u32,
+    size: usize,
+) -> bool
+    requires { ⌜ (length (now region) ≤ 28672) × (name < 2 ^ 63) × (size < 2 ^ 63) × (tail ≡ tailAt (now region)) × (tail ≤ length (now region)) ⌝ }
+    ensures { λ r. ⌜ (r ≡ true → firstBroken (roomAfter t (now (region .entry)) old (recordBit attributes)
+        (rounded (60 + name + newSize (now (region .entry)) old attributes size))) ≡ none) ⌝ }
+{
+    if layout::is_error_record(attributes) {
+        return false;
+    }
+    let data = new_size(region, old, attributes, size);
+    if (layout::LARGEST_DATA as usize) < data {
+        return false;
+    }
+    let taken = tail + layout::entry_size(name, data);
+    taken + t.records as usize + t.reserve as usize <= region.len()
+}
+
+// A decision, judged by room where a value is to be put: by the sums of all values.
+fn roomed_by_sums(
     item: Decision,
     t: Terms,
     region: &[u8],
@@ -274,4 +301,29 @@ pub fn roomed(
         Decision::Nothing => item,
         Decision::Broken(_) => item,
     }
+}
+
+// The same. The sums, which walk over the region, are made only where the tail leaves too little.
+pub fn roomed(
+    item: Decision,
+    t: Terms,
+    region: &[u8],
+    tail: usize,
+    old: Found,
+    name: usize,
+    attributes: u32,
+    size: usize,
+) -> Decision
+    requires { ⌜ (length (now region) ≤ 28672) × (name < 2 ^ 63) × (size < 2 ^ 63)
+        × (oldRecords (now region) old ≤ recordSizes (values (entries (now region))))
+        × (oldOthers (now region) old ≤ otherSizes (values (entries (now region)))) ⌝ }
+    requires { ⌜ (item ≡ Decision.Put → newSize (now region) old attributes size ≤ 2048) ⌝ }
+    requires { ⌜ (tail ≡ tailAt (now region)) × (tail ≤ length (now region)) ⌝ }
+    ensures { λ r. ⌜ r ≡ roomedBy item (firstBroken (roomAfter t (now (region .entry)) old (recordBit attributes)
+        (rounded (60 + name + newSize (now (region .entry)) old attributes size)))) ⌝ }
+{
+    if fits_after_tail(t, region, tail, old, name, attributes, size) {
+        return item;
+    }
+    roomed_by_sums(item, t, region, old, name, attributes, size)
 }

@@ -6,7 +6,7 @@ ghost use Prim.Native.Nat.{_≤_};
 ghost use lib.ListN.{length};
 ghost use Rattle.model.specs.Lists.{isSome};
 ghost use Rattle.model.specs.Name.{keyed};
-ghost use Rattle.model.specs.Region.{sound, entries, values, added, replacing, standing};
+ghost use Rattle.model.specs.Region.{sound, entries, values, tailAt, added, replacing, standing};
 ghost use Rattle.model.specs.Request.{keyPK, wantedVerdicts};
 ghost use Rattle.model.specs.Limits.{limitsFor};
 ghost use Rattle.model.specs.Rules.{firstBroken};
@@ -30,6 +30,13 @@ pub enum Decision {
     Nothing,
     Remove,
     Put,
+}
+
+// The numbers of a set: its attributes, "physical presence and the verdict".
+pub struct Asking {
+    pub attributes: u32,
+    pub presence: u32,
+    pub verdict: u32,
 }
 
 // With it the places of the name's entries, which the set marks.
@@ -123,26 +130,28 @@ fn judge(
     }
 }
 
-// The decision on a set, and the places of the name's entries. Whether 21 is broken is asked first, when the table of rules is copied once at most, and told in its place.
+// The decision on a set, by the region and the offset of its tail, and the places of the name's entries. Whether 21 is broken is asked first, when the table of rules is
+// copied once at most, and reported in its place.
 pub fn decide(
     u: Setup,
     t: Terms,
     region: &[u8],
+    tail: usize,
     name: &[u8],
     vendor: &[u8; 16],
-    attributes: u32,
+    asking: Asking,
     bytes: &[u8],
-    presence: u32,
-    verdict: u32,
 ) -> Decided
     requires { ⌜ sound (now region) ≡ true ⌝ }
     requires { ⌜ length (now region) ≤ 28672 ⌝ }
+    requires { ⌜ (tail ≡ tailAt (now region)) × (tail ≤ length (now region)) ⌝ }
     ensures { λ r. ⌜ (r .what ≡ decisionOf (limitsFor u (keyed (now (name .entry)) (now (vendor .entry)))) t
-        (requestOf (now (name .entry)) (now (vendor .entry)) attributes (now (bytes .entry)) presence verdict)
+        (requestOf (now (name .entry)) (now (vendor .entry)) (asking .attributes) (now (bytes .entry)) (asking .presence) (asking .verdict))
         (length (now (region .entry))) (values (entries (now (region .entry)))))
         × (r .places .added ≡ foundOf (added (keyed (now (name .entry)) (now (vendor .entry))) (entries (now (region .entry)))))
         × (r .places .replacing ≡ foundOf (replacing (keyed (now (name .entry)) (now (vendor .entry))) (entries (now (region .entry))))) ⌝ }
 {
+    let attributes = asking.attributes;
     let places = lookup::places(region, name, vendor);
     let old = lookup::standing(places);
     let proper = policy::proper(attributes, bytes);
@@ -155,13 +164,14 @@ pub fn decide(
         vendor,
         attributes,
         bytes,
-        presence,
-        verdict,
+        asking.presence,
+        asking.verdict,
     );
     let what = change::roomed(
         change::limited(item, forbidden),
         t,
         region,
+        tail,
         old,
         name.len(),
         attributes,

@@ -18,7 +18,7 @@ use Rattle.model.specs.Name.{keyed}
 use Rattle.model.specs.Image.{block, regionSize, region}
 use Rattle.model.specs.Entry.{Value}
 use Rattle.model.specs.Walk as walk
-use Rattle.model.specs.Region.{entries, sound, values, valuesOf, added, replacing, standing, find, valuesIn}
+use Rattle.model.specs.Region.{entries, sound, tailAt, values, valuesOf, added, replacing, standing, find, valuesIn}
 use Rattle.model.specs.Request.{Request, requestKey, stampToStore}
 use Rattle.model.specs.Limits.{limitsFor}
 use Rattle.model.specs.Change.{Change, nothing, remove, put, changeIn, newData, newStamp, newValue}
@@ -66,11 +66,11 @@ image-refused s q img rule h =
     ap (λ (o : Option Rule). onSome o refuse (changePlan img (changeIn q vs))) broken
 
 -- what the decision asks of the region that was cut
-pub region-asked : {img r : List ℕ} {b at : ℕ} → IsReady img b at → r ≡ part 0 (4096 * b) img → (sound r ≡ true) × (length r ≤ 28672)
+pub region-asked : {img r : List ℕ} {b at : ℕ} → IsReady img b at → r ≡ part 0 (4096 * b) img → (sound r ≡ true) × ((length r ≤ 28672) × ((at ≡ tailAt r) × (at ≤ length r)))
 region-asked ready cut =
     let is = cut ∙ ready .cut in
     let n = ap length is in
-    (ap sound is ∙ ready .sounds, omega (arith, ready .few, ready .long))
+    (ap sound is ∙ ready .sounds, (omega (arith, ready .few, ready .long), (sym (ap tailAt is ∙ ready .tail-at), omega (arith, ready .tail-within))))
 
 -- the region that was cut, with the decision over it and the places found in it
 module _ (s : Session) (name vendor : List ℕ) (a : ℕ) (bytes : List ℕ) (presence verdict : ℕ) (places : Places)

@@ -14,6 +14,7 @@ ghost use Rattle.decision.specs.Decision.{requestOf};
 ghost use Rattle.plan.specs.Planned.{Kept, Plans};
 ghost use Rattle.engine.specs.Format.{wipePlan};
 use change::Standing;
+use decision::Asking;
 use decision::Decision;
 use image::Check;
 use model::Answer;
@@ -24,13 +25,6 @@ use plan::Op;
 use plan::Plan;
 use plan::Planned;
 use plan::Step;
-
-// The numbers of a set: its attributes, "physical presence and the verdict".
-struct Asking {
-    attributes: u32,
-    presence: u32,
-    verdict: u32,
-}
 
 // A set over an image that is ready, of b blocks and with this tail: rules 3 to 13, 17, 18 and 21, then what it does to the values.
 fn plan_ready(
@@ -59,12 +53,11 @@ fn plan_ready(
         s.setup,
         session::terms(s, name, vendor),
         slices::cut(image, 0, layout::BLOCK * b),
+        tail,
         name,
         vendor,
-        attributes,
+        asking,
         bytes,
-        asking.presence,
-        asking.verdict,
     );
     let what = d.what;
     let places = d.places;

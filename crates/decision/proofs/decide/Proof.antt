@@ -16,6 +16,7 @@ use Rattle.values.specs.Found.{elseFound}
 use Rattle.values.proofs.Finds.{found-else}
 use Rattle.decision.specs.Decision.{requestOf, itemOf}
 use Rattle.decision.specs.declared.Decision.{Decision}
+use Rattle.decision.specs.declared.Decision.the-variants.{Put}
 use Rattle.decision.specs.Parts.{keptData, leavesBy, newSize, roomAfter, limitedBy, roomedBy}
 use Rattle.decision.proofs.Assembled.{limited-put, new-size, old-records, old-others, decision-here}
 use Rattle.decision.proofs.Accepted.{item-small}
@@ -55,14 +56,16 @@ roomed-requires c κs =
     let g = c .before .before .before .before .before .before .before .before .before .before .good in
     let es = entries (now (a .region)) in
     let k = keyed (now (a .name)) (now (a .vendor)) in
-    let q = requestOf (now (a .name)) (now (a .vendor)) (a .attributes) (now (a .bytes)) (a .presence) (a .verdict) in
+    let q = requestOf (now (a .name)) (now (a .vendor)) (a .asking .attributes) (now (a .bytes)) (a .asking .presence) (a .asking .verdict) in
     let l = c .before .before .before .before .before .places .ensures in
     let old = c .before .before .before .before .standing .ensures ∙ ap₂ elseFound (l .0) (l .1) ∙ sym (found-else (added k es) (replacing k es)) in
-    let size = ap (λ (b : List ℕ). newSize (now (a .region)) (c .before .before .before .before .standing .result) (a .attributes) (length b)) (c .before .before .before .proper .ensures) in
+    let size = ap (λ (b : List ℕ). newSize (now (a .region)) (c .before .before .before .before .standing .result) (a .asking .attributes) (length b)) (c .before .before .before .proper .ensures) in
     let new = new-size (a .t) q (now (a .region)) (p .0) (c .before .before .before .before .standing .result) old in
-    let found = c .before .before .before .before .standing .result in (
-      (p .1, search (needs, g .1 .1 .1 .0), search (needs, c .before .before .before .proper), old-records (a .t) q (now (a .region)) (p .0) found old, old-others (a .t) q (now (a .region)) (p .0) found old),
-      λ e. omega (arith, size, new, item-small (a .t) q (values es) (sym (c .before .judge .ensures) ∙ limited-put (c .before .before .forbids .result) (c .before .judge .result) (sym (c .limited .ensures) ∙ e))),
+    let found = c .before .before .before .before .standing .result in
+    let small : c .limited .result ≡ Put → newSize (now (a .region)) found (a .asking .attributes) (length (now (c .before .before .before .proper .result))) ≤ 2048 =
+    λ e. omega (arith, size, new, item-small (a .t) q (values es) (sym (c .before .judge .ensures) ∙ limited-put (c .before .before .forbids .result) (c .before .judge .result) (sym (c .limited .ensures) ∙ e))) in (
+      (p .1 .0, search (needs, g .1 .1 .1 .1 .0), search (needs, c .before .before .before .proper), old-records (a .t) q (now (a .region)) (p .0) found old, old-others (a .t) q (now (a .region)) (p .0) found old),
+      (small, (p .1 .1 .0, omega (arith, p .1 .0, p .1 .1 .1))),
     )
 
 returns : tie.Need-returns
@@ -73,19 +76,19 @@ returns c =
     let r = now (a .region) in
     let es = entries r in
     let k = keyed (now (a .name)) (now (a .vendor)) in
-    let q = requestOf (now (a .name)) (now (a .vendor)) (a .attributes) (now (a .bytes)) (a .presence) (a .verdict) in
+    let q = requestOf (now (a .name)) (now (a .vendor)) (a .asking .attributes) (now (a .bytes)) (a .asking .presence) (a .asking .verdict) in
     let l = c .before .before .before .before .before .before .places .ensures in
     let found = c .before .before .before .before .before .standing .result in
     let old = c .before .before .before .before .before .standing .ensures ∙ ap₂ elseFound (l .0) (l .1) ∙ sym (found-else (added k es) (replacing k es)) in
-    let size : ℕ → ℕ = λ n. rounded (60 + length (now (a .name)) + newSize r found (a .attributes) n) in
+    let size : ℕ → ℕ = λ n. rounded (60 + length (now (a .name)) + newSize r found (a .asking .attributes) n) in
     let ls : List Limit = limitsFor (a .u) k in
-    let kept : List ℕ = keptData r found (a .attributes) in (
+    let kept : List ℕ = keptData r found (a .asking .attributes) in (
       c .roomed .ensures
-          ∙ ap₂ (λ (d : Decision) (b : List ℕ). roomedBy d (firstBroken (roomAfter (a .t) r found (recordBit (a .attributes)) (size (length b)))))
+          ∙ ap₂ (λ (d : Decision) (b : List ℕ). roomedBy d (firstBroken (roomAfter (a .t) r found (recordBit (a .asking .attributes)) (size (length b)))))
           (c .before .limited .ensures
           ∙ ap₂ limitedBy
           (c .before .before .before .forbids .ensures
-          ∙ ap (λ (b : List ℕ). brokenBy ls (leavesBy found (a .attributes) (length b)) (kept ++ b)) (c .before .before .before .before .proper .ensures))
+          ∙ ap (λ (b : List ℕ). brokenBy ls (leavesBy found (a .asking .attributes) (length b)) (kept ++ b)) (c .before .before .before .before .proper .ensures))
           (c .before .before .judge .ensures))
           (c .before .before .before .before .proper .ensures)
           ∙ sym (decision-here (a .t) q r (p .0) found old ls),
