@@ -95,10 +95,11 @@ fn single(index: usize) -> Vec<u8> {
     name(char::from_u32(1 + index as u32).expect("a small number").encode_utf8(&mut [0; 4]))
 }
 
-/// Names of so many characters that differ only in the fifth, and so in no word that the engine's check makes its marks from: every mark is the same.
+/// Names of so many characters that differ in the fifth and in the last but one, whose sum is one. Each is in one word of those that the engine's check makes its marks
+/// from, at the same place in it, so that every mark is the same.
 fn alike(index: usize, characters: usize) -> Vec<u8> {
-    let fifth = char::from_u32(0x100 + index as u32).expect("a small number");
-    name(&format!("Same{fifth}{:x<1$}", "", characters - 5))
+    let [fifth, late] = [0x100 + index as u32, 0x4000 - index as u32].map(|number| char::from_u32(number).expect("a character"));
+    name(&format!("Same{fifth}{:x<1$}{late}x", "", characters - 7))
 }
 
 fn put(region: &mut Vec<u8>, name: &[u8], data: &[u8]) {
