@@ -21,6 +21,8 @@ pub mod Values
 pub mod Encode
 -- The work block under its marks
 pub mod WorkBlock
+-- Changes one after another
+pub mod Changes
 -- What the rules leave of a call that breaks none
 pub mod Requests
 -- A start-up that is given nothing

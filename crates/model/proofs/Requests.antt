@@ -2,33 +2,33 @@
 -- to delete is there. A list of rules of which none is broken has every test false, and each fact is read off the tests that deny it; that a change
 -- puts a value says besides that the set neither deletes nor appends nothing.
 -- Assumes nothing.
-use Prim.Native.Nat.{ℕ, _+_, _-_, _/_, _%_, _≤_}
+use Prim.Native.Nat.{ℕ, _-_, _/_, _%_, _≤_}
 use native.Mathlib.Omega.{arith}
-use mathlib.Core.Path.{_≡_, refl, ap, _∙_}
+use mathlib.Core.Path.{_≡_, refl, sym, ap, _∙_}
 use mathlib.Core.Bool.{Bool, true, false, cond, not, _&&_, _||_, and-false, true≢false, false≢true}
 use mathlib.Core.List.{List, [], _∷_, _++_}
 use mathlib.Core.Option.{Option, none, some}
 use lib.ListN.{length, take, replicate, length-append, length-take}
-use lib.Dec.{eqb, leb, ltb}
+use lib.Dec.{eqb, leb}
 use borrow.Author.Tests.{ltb-false, leb-true, eqb-true, eqb-false, ne-eqb, not-false}
 use Rattle.model.specs.declared.Session.{Session}
-use Rattle.model.specs.declared.Terms.{Terms}
 use Rattle.model.specs.declared.Rule.{Rule}
 use Rattle.model.specs.Layout.{authenticated}
 use Rattle.model.specs.Lists.{allFF, among, isSome, onSome, orElse}
 use Rattle.model.specs.Name.{Key, wellNamed, recordName}
-use Rattle.model.specs.Image.{rightLength, regionHeaderSize, regionSize, region, work, spare}
+use Rattle.model.specs.Image.{rightLength, regionSize, region, work, spare}
 use Rattle.model.specs.Entry.{Value, keyOf}
 use Rattle.model.specs.Region.{maxData, storedAttributes, recordBit, tail, sound, clean, cleanIn, valuesOf, valuesIn, find}
 use Rattle.model.specs.Work.{idle, readyForCall, readyIn, readyForStartUp}
 use Rattle.model.specs.Request.{Request, requestKey, stampSize, timeBased, appends, withoutAppend, dataProper, stampToStore, later, properAt, rightDescriptor}
-use Rattle.model.specs.Change.{nothing, remove, put, deletes, emptyAppend, equalTo, newData, laterOf, newStamp, newValue, changeOf, changeIn, step, steps, spaceOf, isErrorRecord, otherSizes}
+use Rattle.model.specs.Change.{nothing, remove, put, deletes, emptyAppend, equalTo, newData, laterOf, newStamp, newValue, changeOf, changeIn, step, steps, spaceOf}
 use Rattle.model.specs.Rules.{firstBroken, rule1, rule2In, rule2StartUp, rule3, rule4, rule8, rule11, rule12, rule13, rule17, termsOf, imageRulesIn, requestRules, standingRules, resultRules, itemRules, settingRules, roomRules, setBroken, getBroken, nextBroken, startUpBroken}
 use Rattle.model.specs.Answers.{ruleNumber}
 use Rattle.model.specs.Beside.{Valid}
-use Rattle.model.proofs.Encode.{AllValid, sound-valid}
-use Rattle.model.proofs.Chunks.{region-chunked}
-use Rattle.model.proofs.Parts.{right-parts, parts-region}
+use Rattle.model.proofs.Encode.{AllValid, sound-valid, sound-fits}
+use Rattle.model.proofs.Changes.{Fitting, room-after}
+use Rattle.model.proofs.Chunks.{Chunked, region-chunked}
+use Rattle.model.proofs.Parts.{right-parts, parts-region, parts-size}
 use Rattle.model.proofs.Values.{find-holds}
 use Rattle.model.proofs.Tests.{or-split, and-split}
 
@@ -189,16 +189,27 @@ new-stamp P r old p f = go (appends (r .attributes) && timeBased (r .attributes)
     go true none f = p
     go true (some v) f = pick (later (stampToStore r) (v .stamp)) p (f v refl)
 
--- the values of an image that is ready are valid
-image-valid : (img : List ℕ) → rightLength img ≡ true → readyForCall img ≡ true → AllValid authenticated (valuesOf img)
-unfolding valuesIn readyIn cleanIn
-image-valid img l h =
-    let i = right-parts img l in
-    let a = and-split (clean (region img) && allFF (spare img)) (idle (work img)) h .0 in
-    let c = and-split (clean (region img)) (allFF (spare img)) a .0 in
-    let s = and-split (sound (region img)) (allFF (tail (region img))) c .0 in
-    sound-valid authenticated (region img) (region-chunked authenticated (i .b) (ap length (ap region (i .whole) ∙ parts-region (i .parts))
-    ∙ i .parts .region-long) s)
+-- the values of an image that is ready are valid and fit
+module _ (img : List ℕ) (l : rightLength img ≡ true) (h : readyForCall img ≡ true) where
+  image-long : length (region img) ≡ regionSize img
+  image-long = let i = right-parts img l in ap length (ap region (i .whole) ∙ parts-region (i .parts)) ∙ i .parts .region-long ∙ sym (ap regionSize (i .whole) ∙ parts-size (i .parts))
+
+  image-chunked : Chunked authenticated (region img)
+  unfolding readyIn cleanIn
+  image-chunked =
+      let i = right-parts img l in
+      let a = and-split (clean (region img) && allFF (spare img)) (idle (work img)) h .0 in
+      let c = and-split (clean (region img)) (allFF (spare img)) a .0 in
+      let s = and-split (sound (region img)) (allFF (tail (region img))) c .0 in
+      region-chunked authenticated (i .b) (ap length (ap region (i .whole) ∙ parts-region (i .parts)) ∙ i .parts .region-long) s
+
+  pub image-valid : AllValid authenticated (valuesOf img)
+  unfolding valuesIn
+  image-valid = sound-valid authenticated (region img) image-chunked
+
+  pub image-fits : spaceOf (valuesOf img) ≤ regionSize img
+  unfolding valuesIn
+  image-fits = rw (← image-long) (sound-fits authenticated (region img) image-chunked)
 
 stamp-length : (r : Request) → rule8 (r .attributes) (r .bytes) ≡ false → length (stampToStore r) ≡ 16
 unfolding rule8 stampToStore
@@ -209,15 +220,6 @@ stamp-length r h = go (timeBased (r .attributes)) (rightDescriptor (r .bytes)) r
     go true true e h = let l = descriptor-length (r .bytes) e in rw length-take (omega arith)
     go true false e h = absurd (true≢false h)
     go false d e h = refl
-
--- where there is room for a value, all values fit
-room-fits : (t : Terms) (size : ℕ) (v : Value) (vs : List Value) → rule13 t size (put v ∷ []) vs ≡ false → spaceOf (step (put v) vs) ≤ size
-unfolding rule13 steps
-room-fits t size v vs h =
-    ltb-false size (spaceOf (step (put v) vs))
-    (or-split
-    ((not (isErrorRecord v) || false) && ltb size (regionHeaderSize + otherSizes (step (put v) vs) + t .records + t .reserve))
-    (ltb size (spaceOf (step (put v) vs))) h .1)
 
 -- ---- a set that breaks no rule
 
@@ -261,17 +263,29 @@ module _ (s : Session) (r : Request) (img : List ℕ) (accepted : setBroken s r 
         few-data = rw (p .made) at few;
       })
 
-  pub put-fits : (v : Value) → changeIn r (valuesOf img) ≡ put v → spaceOf (step (put v) (valuesOf img)) ≤ regionSize img
-  unfolding setBroken imageRulesIn itemRules requestRules standingRules resultRules settingRules roomRules
-  put-fits v c =
-      let h : rule13 (termsOf s (requestKey r)) (regionSize img) (changeIn r (valuesOf img) ∷ []) (valuesOf img) ≡ false = unbroken _ 13 accepted in
-      room-fits (termsOf s (requestKey r)) (regionSize img) v (valuesOf img) (rw c at h)
-
   pub remove-present : (k : Key) → changeIn r (valuesOf img) ≡ remove k → isSome (find k (valuesOf img)) ≡ true
   unfolding setBroken imageRulesIn itemRules requestRules standingRules resultRules rule11 changeIn
   remove-present k c =
       let h : rule11 (changeIn r (valuesOf img)) (find (requestKey r) (valuesOf img)) ≡ false = unbroken _ 11 accepted in
       rw (removes r (find (requestKey r) (valuesOf img)) k c) (not-false (isSome (find (requestKey r) (valuesOf img))) (rw c at h))
+
+  -- all values fit after it
+  set-room : spaceOf (steps (changeIn r (valuesOf img) ∷ []) (valuesOf img)) ≤ regionSize img
+  unfolding setBroken imageRulesIn itemRules requestRules standingRules resultRules settingRules roomRules
+  set-room =
+      let h : rule13 (termsOf s (requestKey r)) (regionSize img) (changeIn r (valuesOf img) ∷ []) (valuesOf img) ≡ false = unbroken _ 13 accepted in
+      room-after (termsOf s (requestKey r)) (regionSize img) (changeIn r (valuesOf img) ∷ []) (valuesOf img) h (image-fits img set-length set-ready)
+
+  pub put-fits : (v : Value) → changeIn r (valuesOf img) ≡ put v → spaceOf (step (put v) (valuesOf img)) ≤ regionSize img
+  unfolding steps
+  put-fits v c = rw c at set-room
+
+  pub set-fitting : length (r .vendor) ≡ 16 → Fitting (changeIn r (valuesOf img) ∷ []) (valuesOf img) (regionSize img)
+  set-fitting g =
+      record { valid = (λ v c. put-is-valid v c g, tt); room = set-room; there = λ k e. remove-present k (only e) }
+    where
+      only : {k : Key} → changeIn r (valuesOf img) ∷ [] ≡ remove k ∷ [] → changeIn r (valuesOf img) ≡ remove k
+      only e = cc
 
 -- ---- the other calls
 

@@ -1,10 +1,10 @@
--- 01, the run, the book and Demand 3; and the two claims about bits. Each claim is a type; `recovery` proves them.
+-- 01, the run, the book and Demand 3, by kinds of calls; and the two claims about bits. Each claim is a type; `recovery` proves them.
 use Prim.Native.Nat.{ℕ, _+_, _<_}
 use mathlib.Core.Path.{_≡_}
 use mathlib.Core.Logic.{_≢_}
 use mathlib.Core.Bool.{Bool, true, false, _&&_, _||_}
 use mathlib.Core.List.{List, [], _∷_}
-use mathlib.Core.Option.{none}
+use mathlib.Core.Option.{Option, none}
 use lib.ListN.{length, getD}
 use lib.Dec.{eqb, leb, ltb}
 use lib.Bits.{bitAnd}
@@ -13,18 +13,20 @@ use Rattle.model.specs.declared.Session.{Session}
 use Rattle.model.specs.declared.Layout.{Layout}
 use Rattle.model.specs.Layout.{authenticated, stateAt}
 use Rattle.model.specs.declared.Context.{Context}
-use Rattle.model.specs.Lists.{any}
+use Rattle.model.specs.declared.Rule.{Rule}
+use Rattle.model.specs.Lists.{any, onSome}
 use Rattle.model.specs.Image.{region, workAt}
 use Rattle.model.specs.Name.{Key}
 use Rattle.model.specs.Entry.{Value}
 use Rattle.model.specs.Region.{entries, tailAt, valuesOf}
 use Rattle.model.specs.Work.{recordSpace}
 use Rattle.model.specs.Request.{Request}
-use Rattle.model.specs.Change.{Change, nothing, remove, put, changeIn, step}
+use Rattle.model.specs.Change.{Change, nothing, remove, put, steps, changeIn}
+use Rattle.model.specs.Rules.{setBroken, getBroken, nextBroken, startUpBroken}
 use Rattle.model.specs.Stores.{Store, page, erase, apply, Bytes, Uncleared, Cut, Clears, difference}
-use Rattle.model.specs.Set.{Plan, setPlan, fitsTail}
-use Rattle.model.specs.StartUp.{startUpPlan, formatPlan}
-use Rattle.model.specs.Answers.{Outcome, done, stopped, refused, outcome, imageAfter, madeOf, pageOf, storesOf, decided, getPlan, nextPlan}
+use Rattle.model.specs.Set.{Plan, refuse, make, fitsTail, changesPlan}
+use Rattle.model.specs.StartUp.{startUpStores, startUpPlan, formatPlan}
+use Rattle.model.specs.Answers.{Outcome, done, stopped, refused, outcome, imageAfter, madeOf, pageOf, storesOf, decided}
 use Rattle.model.specs.Move.{moveBroken, imageMoved}
 
 -- "sets (deletes among them), gets, next-names and start-ups": each with its session and arguments, a start-up with custom mode, R, H and rules for settings
@@ -34,12 +36,45 @@ pub data Call : Type 0 where
   next : Session → Key → List ℕ → Call
   startUp : Setup → Call
 
--- what each is to do to an image
+-- "The first broken is the answer": the rule that each breaks first
+abbrev pub callBroken : Call → List ℕ → Option Rule
+callBroken (set s r) img = setBroken s r img
+callBroken (get s k buffer) img = getBroken s k buffer img
+callBroken (next s k buffer) img = nextBroken s k buffer img
+callBroken (startUp setup) img = startUpBroken img
+
+-- a call that breaks none reads, writes changes that follow from the values, or starts up
+pub data Kind : Type 0 where
+  reads : Kind
+  writes : (List Value → List Change) → Kind
+  startsUp : Kind
+
+-- "Of these calls only a set" changes the values: it writes one change
+abbrev pub kindOf : Call → Kind
+kindOf (set s r) = writes (λ vs. changeIn r vs ∷ [])
+kindOf (get s k buffer) = reads
+kindOf (next s k buffer) = reads
+kindOf (startUp setup) = startsUp
+
+-- the stores of each kind: get and next-name make none; a start-up decides nothing
+abbrev pub doing : Kind → List ℕ → Plan
+doing reads img = make [] []
+doing (writes changes) img = changesPlan img (changes (valuesOf img))
+doing startsUp img = make [] (startUpStores img)
+
+-- what each call is to do to an image
 unfoldable pub planOf : Call → List ℕ → Plan
-planOf (set s r) img = setPlan s r img
-planOf (get s k buffer) img = getPlan s k buffer img
-planOf (next s k buffer) img = nextPlan s k buffer img
-planOf (startUp setup) img = startUpPlan img
+planOf c img = onSome (callBroken c img) refuse (doing (kindOf c) img)
+
+-- a set, a delete or an append, whole; a get; a next-name
+abbrev pub setPlan : Session → Request → List ℕ → Plan
+setPlan s r img = planOf (set s r) img
+
+abbrev pub getPlan : Session → Key → List ℕ → List ℕ → Plan
+getPlan s k buffer img = planOf (get s k buffer) img
+
+abbrev pub nextPlan : Session → Key → List ℕ → List ℕ → Plan
+nextPlan s k buffer img = planOf (next s k buffer) img
 
 -- arguments are bytes, a GUID is 16 of them
 abbrev pub Sized : Call → Type 0
@@ -48,12 +83,15 @@ Sized (get s k buffer) = Unit {0}
 Sized (next s k buffer) = Unit {0}
 Sized (startUp setup) = Unit {0}
 
+-- the changes of each kind
+abbrev pub changesBy : Kind → List Value → List Change
+changesBy reads vs = []
+changesBy (writes changes) vs = changes vs
+changesBy startsUp vs = []
+
 -- the book: "only a set that is done, or had that store complete, changes it"
 unfoldable pub entered : Call → List Value → List Value
-entered (set s r) book = step (changeIn r book) book
-entered (get s k buffer) book = book
-entered (next s k buffer) book = book
-entered (startUp setup) book = book
+entered c book = steps (changesBy (kindOf c) book) book
 
 -- of a call that ran: done, or ended before its end with its deciding store complete; a refusal before any store has none
 abbrev pub counts : Outcome → Bool → Bool
@@ -111,17 +149,16 @@ pub data Begins (img : List ℕ) : Type 0 where
   moved-in : MovedInto img → Begins img
 
 -- the claim about one call of a run: a start-up that is done leaves the values of the book
-abbrev pub Agrees : Call → Context → List ℕ → List Value → Type 0
-Agrees (set s r) x img book = Unit {0}
-Agrees (get s k buffer) x img book = Unit {0}
-Agrees (next s k buffer) x img book = Unit {0}
-Agrees (startUp setup) x img book =
+abbrev pub Agrees : Kind → Context → List ℕ → List Value → Type 0
+Agrees reads x img book = Unit {0}
+Agrees (writes changes) x img book = Unit {0}
+Agrees startsUp x img book =
     (stores : ℕ) → outcome x (startUpPlan img) img ≡ done stores → valuesOf (imageAfter x (startUpPlan img) img) ≡ book
 
 -- "after every start-up in it that is done, the image's list of values equals the book as it then stands"
 abbrev pub AgreesAll : {start img : List ℕ} {book : List Value} → Run start img book → Type 0
 AgreesAll begin = Unit {0}
-AgreesAll (ran {img} {book} run c sized x) = AgreesAll run × Agrees c x img book
+AgreesAll (ran {img} {book} run c sized x) = AgreesAll run × Agrees (kindOf c) x img book
 AgreesAll (cut run c sized w k left) = AgreesAll run
 
 -- *Demand 3*. It is also 02 (b), "A cut keeps data and stamp together": a cut append leaves the book as it was, or enters `newValue`, which has both
@@ -167,14 +204,15 @@ inPlace img nothing = true
 inPlace img (remove k) = true
 inPlace img (put v) = fitsTail (region img) v
 
+-- of a call that makes one change, in place
 abbrev pub StatesClearOneBit : ℕ → Call → List ℕ → Type 0
-StatesClearOneBit w (set s r) img =
-    inPlace img (changeIn r (valuesOf img)) ≡ true → ClearsOne (isState img) (storesOf w (setPlan s r img)) img
-StatesClearOneBit w (get s k buffer) img = Unit {0}
-StatesClearOneBit w (next s k buffer) img = Unit {0}
-StatesClearOneBit w (startUp setup) img = Unit {0}
+StatesClearOneBit w c img =
+    (change : Change)
+    → changesBy (kindOf c) (valuesOf img) ≡ change ∷ []
+    → inPlace img change ≡ true
+    → ClearsOne (isState img) (storesOf w (planOf c img)) img
 
--- "Every change of state clears exactly one bit": every mark of a record, by any call, and of a state, by a set in place
+-- "Every change of state clears exactly one bit": every mark of a record, by any call, and of a state, by a change in place
 abbrev pub MarksClearOneBit : Type 0
 MarksClearOneBit =
     (w : ℕ) (img : List ℕ)

@@ -4,7 +4,6 @@ use mathlib.Core.Bool.{Bool, cond}
 use mathlib.Core.List.{List, [], _∷_, _++_}
 use lib.ListN.{length}
 use lib.Dec.{leb}
-use Rattle.model.specs.declared.Session.{Session}
 use Rattle.model.specs.declared.Rule.{Rule}
 use Rattle.model.specs.Lists.{onSome}
 use Rattle.model.specs.Image.{region}
@@ -13,9 +12,7 @@ use Rattle.model.specs.Layout.{stateAt}
 use Rattle.model.specs.Entry.{headerSize, Value, keyOf, entrySize, headerFront, headerRest}
 use Rattle.model.specs.Walk.{Entry, stateOf}
 use Rattle.model.specs.Region.{entries, tailAt, valuesOf, added, replacing, standing}
-use Rattle.model.specs.Request.{Request}
-use Rattle.model.specs.Change.{Change, nothing, remove, put, changeIn, step}
-use Rattle.model.specs.Rules.{setBroken}
+use Rattle.model.specs.Change.{Change, nothing, remove, put, step, steps}
 use Rattle.model.specs.Stores.{Write, header, run, mark}
 use Rattle.model.specs.Compact.{compactTo, compactOn}
 
@@ -60,19 +57,25 @@ deleteTo k es = leftover k es ++ onSome (standing k es) (λ e. markState (e .at)
 unfoldable pub fitsTail : List ℕ → Value → Bool
 fitsTail r v = leb (tailAt r + entrySize v) (length r)
 
+-- a compaction that leaves a list of values
+abbrev pub compactPlan : List ℕ → List Value → Plan
+compactPlan img vs = make (compactTo img vs) (compactOn img vs)
+
 -- the stores of a change: none; a delete; a tail write; "Otherwise the region is compacted with the change folded in"
 unfoldable pub putPlan : List ℕ → Value → Plan
 putPlan img v =
     cond
     (fitsTail (region img) v)
     (make (tailTo (tailAt (region img)) v (entries (region img))) (tailOn v (entries (region img))))
-    (make (compactTo img (step (put v) (valuesOf img))) (compactOn img (step (put v) (valuesOf img))))
+    (compactPlan img (step (put v) (valuesOf img)))
 
 unfoldable pub changePlan : List ℕ → Change → Plan
 changePlan img nothing = make [] []
 changePlan img (remove k) = make (deleteTo k (entries (region img))) []
 changePlan img (put v) = putPlan img v
 
--- a set, a delete or an append, whole
-unfoldable pub setPlan : Session → Request → List ℕ → Plan
-setPlan s r img = onSome (setBroken s r img) refuse (changePlan img (changeIn r (valuesOf img)))
+-- of changes one after another: one is made so; of several the region is compacted with all of them folded in
+abbrev pub changesPlan : List ℕ → List Change → Plan
+changesPlan img [] = make [] []
+changesPlan img (c ∷ []) = changePlan img c
+changesPlan img (c ∷ d ∷ cs) = compactPlan img (steps (c ∷ d ∷ cs) (valuesOf img))
