@@ -6,35 +6,33 @@ use native.Mathlib.Omega.{arith}
 use mathlib.Core.Path.{_≡_, refl, sym, ap, _∙_, subst}
 use mathlib.Core.Logic.{_≢_}
 use mathlib.Core.Bool.{Bool, true, false, not, cond, _||_, and-false, true≢false}
-use mathlib.Core.List.{List, [], _++_}
+use mathlib.Core.List.{List, [], _∷_, _++_}
 use mathlib.Core.Option.{Option, none, some}
 use lib.Dec.{eqb, leb}
 use borrow.Author.Tests.{ne-eqb, lt-leb, le-ltb}
-use Rattle.model.specs.declared.Session.{Session}
 use Rattle.model.specs.declared.Rule.{Rule}
 use Rattle.model.specs.declared.Rule.the-variants.{Length}
-use Rattle.model.specs.Lists.{any, onSome}
+use Rattle.model.specs.Lists.{any, isEmpty, onSome}
 use Rattle.model.specs.Image.{block, rightLength, regionSize, region}
 use Rattle.model.specs.Layout.{stateAt}
 use Rattle.model.specs.Entry.{Value}
 use Rattle.model.specs.Region.{entries, tailAt, valuesOf}
 use Rattle.model.specs.Work.{recordSpace}
-use Rattle.model.specs.Request.{Request}
-use Rattle.model.specs.Change.{put, changeIn}
-use Rattle.model.specs.Rules.{firstBroken, rule1, setBroken, formatBroken}
+use Rattle.model.specs.Change.{Change}
+use Rattle.model.specs.Rules.{firstBroken, rule1, formatBroken}
 use Rattle.model.specs.Stores.{stores, Bytes}
-use Rattle.model.specs.Set.{Plan, refuse, make, changePlan, setPlan}
+use Rattle.model.specs.Set.{Plan, refuse, make, changesPlan}
 use Rattle.model.specs.StartUp.{formatStores, formatPlan}
 use Rattle.model.specs.Answers.{storesOf}
-use Rattle.model.specs.Book.{Call, set, get, next, startUp, planOf, Sized, isRecord, isState, inPlace, StatesClearOneBit, NoBitRises, MarksClearOneBit}
+use Rattle.model.specs.Book.{Call, callBroken, Kind, reads, writes, startsUp, kindOf, doing, planOf, Sized, changesBy, ClearsOne, isRecord, isState, inPlace, NoBitRises, MarksClearOneBit}
 use Rattle.model.proofs.Parts.{parts-size, parts-region}
-use Rattle.model.proofs.Requests.{set-length, set-ready, put-is-valid, put-fits, startUp-length, startUp-ready}
-use Rattle.recovery.proofs.EveryCall.{callBroken, acceptedPlan, plan-of}
+use Rattle.model.proofs.Changes.{Fitting}
+use Rattle.recovery.proofs.EveryCall.{Lets, Accepted, accepted}
 use Rattle.recovery.proofs.StartingUp.{Ready, ready-of}
-use Rattle.recovery.proofs.ByteLists.{bytes-left, put-bytes, image-values}
+use Rattle.recovery.proofs.ByteLists.{bytes-left}
 use Rattle.recovery.proofs.Clearing.{Along, along-clears, along-one}
 use Rattle.recovery.proofs.BitsOfCompaction.{Bare, startUp-along, format-along}
-use Rattle.recovery.proofs.BitsOfSets.{Tailed, Putting, change-along, states-below, clean-chunked}
+use Rattle.recovery.proofs.BitsOfSets.{Tailed, onlyInPlace, changes-along, states-below, clean-chunked}
 
 -- ---- the places of the marks
 
@@ -59,45 +57,34 @@ unfolding storesOf
 unless-refused marks w img none p h = h refl
 unless-refused marks w img (some rule) p h = tt
 
--- ---- a set
+-- ---- changes
 
-module _ (marks : ℕ → Bool) (w : ℕ) (s : Session) (q : Request) (img : List ℕ) (bytes : Bytes img) (sized : Sized (set s q)) (tailed : Ready img → Tailed marks img)
-    (bare : inPlace img (changeIn q (valuesOf img)) ≡ false → Bare marks (regionSize img)) where
-  accepted-along : setBroken s q img ≡ none → Along marks (storesOf w (changePlan img (changeIn q (valuesOf img)))) img
-  accepted-along e =
-      let c = changeIn q (valuesOf img) in
-      let i = ready-of img (set-length s q img e) (set-ready s q img e) in
+module _ (marks : ℕ → Bool) (w : ℕ) (img : List ℕ) (bytes : Bytes img) (tailed : Ready img → Tailed marks img) where
+  writes-along : (changes : List Value → List Change) → Lets changes img → (onlyInPlace img (changes (valuesOf img)) ≡ false → Bare marks (regionSize img))
+      → Along marks (storesOf w (changesPlan img (changes (valuesOf img)))) img
+  writes-along changes l bare =
+      let i = ready-of img (l .long) (l .ready) in
       let p = i .parts in
-      let joined : List ℕ = i .r ++ (i .w ++ i .s) in
-      let putting : (v : Value) → c ≡ put v → Putting joined v = λ v h.
-      subst (λ (x : List ℕ). Putting x v) (i .whole) (record {
-        valid = put-is-valid s q img e v h (sized .2);
-        bytewise = put-bytes q (valuesOf img) v h (image-values img bytes) (sized .0) (sized .1) (sized .3);
-        room = put-fits s q img e v h;
-      }) in
-      let bared : inPlace joined c ≡ false → Bare marks (block * i .b) = λ h.
-      subst (Bare marks) (ap regionSize (i .whole) ∙ parts-size p) (bare (ap (λ (x : List ℕ). inPlace x c) (i .whole) ∙ h)) in
-      subst (λ (x : List ℕ). Along marks (storesOf w (changePlan x c)) x) (sym (i .whole))
-      (change-along marks w p (i .cleaned) (i .free) (i .rested) (bytes-left (i .r) (i .w ++ i .s) (subst Bytes (i .whole) bytes))
-      (subst (Tailed marks) (i .whole) (tailed i)) c putting bared)
-
-  set-along : Along marks (storesOf w (setPlan s q img)) img
-  unfolding setPlan
-  set-along = unless-refused marks w img (setBroken s q img) (changePlan img (changeIn q (valuesOf img))) accepted-along
+      let cs = changes (valuesOf img) in
+      let bared : onlyInPlace (i .r ++ (i .w ++ i .s)) cs ≡ false → Bare marks (block * i .b) = λ h.
+      subst (Bare marks) (ap regionSize (i .whole) ∙ parts-size p) (bare (ap (λ (x : List ℕ). onlyInPlace x cs) (i .whole) ∙ h)) in
+      subst (λ (x : List ℕ). Along marks (storesOf w (changesPlan x cs)) x) (sym (i .whole))
+      (changes-along marks w p (i .cleaned) (i .free) (i .rested) (bytes-left (i .r) (i .w ++ i .s) (subst Bytes (i .whole) bytes))
+      (subst (Tailed marks) (i .whole) (tailed i)) cs (subst (λ (x : List ℕ). Fitting cs (valuesOf x) (regionSize x)) (i .whole) (l .fitting)) (l .bytewise bytes) bared)
 
 -- ---- every call, with the marks of records
 
-call-along : (w : ℕ) (img : List ℕ) → Bytes img → (c : Call) → Sized c → Along (isRecord img) (storesOf w (planOf c img)) img
+kind-along : (w : ℕ) (img : List ℕ) → Bytes img → (k : Kind) → Accepted k img → Along (isRecord img) (storesOf w (doing k img)) img
 unfolding storesOf stores
+kind-along w img bytes reads a = tt
+kind-along w img bytes (writes changes) a =
+    writes-along (isRecord img) w img bytes (λ i j h l n. records-bare img .below j l) changes a (λ h. records-bare img)
+kind-along w img bytes startsUp a = startUp-along (isRecord img) img (a .0) (a .1) bytes (records-bare img) w
+
+call-along : (w : ℕ) (img : List ℕ) → Bytes img → (c : Call) → Sized c → Along (isRecord img) (storesOf w (planOf c img)) img
+unfolding planOf
 call-along w img bytes c sized =
-    subst (λ (p : Plan). Along (isRecord img) (storesOf w p) img) (sym (plan-of c img))
-    (unless-refused (isRecord img) w img (callBroken c img) (acceptedPlan c img) (own c sized))
-  where
-    own : (c : Call) → Sized c → callBroken c img ≡ none → Along (isRecord img) (storesOf w (acceptedPlan c img)) img
-    own (set s q) sized e = accepted-along (isRecord img) w s q img bytes sized (λ i j h l n. records-bare img .below j l) (λ h. records-bare img) e
-    own (get s k buffer) sized e = tt
-    own (next s k buffer) sized e = tt
-    own (startUp setup) sized e = startUp-along (isRecord img) img (startUp-length img e) (startUp-ready img e) bytes (records-bare img) w
+    unless-refused (isRecord img) w img (callBroken c img) (doing (kindOf c) img) (λ e. kind-along w img bytes (kindOf c) (accepted c img sized e))
 
 -- ---- the two claims
 
@@ -119,13 +106,18 @@ no-bit-rises w img bytes = (
   along-clears (λ i. false) (storesOf w (formatPlan img)) img (format-clears w img),
 )
 
+-- with the marks of states, of one change in place
+states-along : (w : ℕ) (img : List ℕ) → Bytes img → (o : Option Rule) (k : Kind) → (o ≡ none → Accepted k img)
+    → (c : Change) → changesBy k (valuesOf img) ≡ c ∷ [] → inPlace img c ≡ true → ClearsOne (isState img) (storesOf w (onSome o refuse (doing k img))) img
+states-along w img bytes o reads a c one h = absurd (true≢false (ap isEmpty one))
+states-along w img bytes o (writes changes) a c one h =
+    let placed : onlyInPlace img (changes (valuesOf img)) ≡ true = ap (onlyInPlace img) one ∙ h in
+    along-one (isState img) (storesOf w (onSome o refuse (changesPlan img (changes (valuesOf img))))) img
+    (unless-refused (isState img) w img o (changesPlan img (changes (valuesOf img)))
+    (λ e. writes-along (isState img) w img bytes (states-tailed img) changes (a e) (λ n. absurd (true≢false (sym placed ∙ n)))))
+states-along w img bytes o startsUp a c one h = absurd (true≢false (ap isEmpty one))
+
 pub marks-clear-one-bit : MarksClearOneBit
-marks-clear-one-bit w img bytes c sized = (along-one (isRecord img) (storesOf w (planOf c img)) img (call-along w img bytes c sized), states c sized)
-  where
-    states : (c : Call) → Sized c → StatesClearOneBit w c img
-    states (set s q) sized = λ h.
-        along-one (isState img) (storesOf w (setPlan s q img)) img
-        (set-along (isState img) w s q img bytes sized (states-tailed img) (λ e. absurd (true≢false (sym h ∙ e))))
-    states (get s k buffer) sized = tt
-    states (next s k buffer) sized = tt
-    states (startUp setup) sized = tt
+unfolding planOf
+marks-clear-one-bit w img bytes c sized =
+    (along-one (isRecord img) (storesOf w (planOf c img)) img (call-along w img bytes c sized), states-along w img bytes (callBroken c img) (kindOf c) (accepted c img sized))

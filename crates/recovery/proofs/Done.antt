@@ -16,24 +16,23 @@ use Rattle.model.specs.Region.{valuesOf, find}
 use Rattle.model.specs.Session.{isYes}
 use Rattle.model.specs.Request.{Request, requestKey}
 use Rattle.model.specs.Limits.{limitsFor, meets}
-use Rattle.model.specs.Change.{Change, changeIn, leaves}
+use Rattle.model.specs.Change.{Change, changeIn, steps, leaves}
 use Rattle.model.specs.Rules.{rule21, imageRulesIn, requestRules, standingRules, resultRules, itemRules, settingRules, setBroken}
 use Rattle.model.specs.Stores.{Store, stores, applyAll}
-use Rattle.model.specs.Set.{Plan, setPlan}
+use Rattle.model.specs.Set.{Plan}
 use Rattle.model.specs.Answers.{done, outcome, imageAfter, pageOf, storesOf}
-use Rattle.model.specs.Book.{Call, set, planOf, entered}
+use Rattle.model.specs.Book.{Call, set, callBroken, kindOf, doing, planOf, setPlan, entered}
 use Rattle.model.proofs.Stores.{stores-append, applyAll-append}
 use Rattle.model.proofs.Tests.{or-split}
 use Rattle.model.proofs.Looking.{find-changed}
 use Rattle.model.proofs.Requests.{set-length, set-ready, unbroken}
 use Rattle.recovery.specs.Claims.{SetDone, forbidden, SetsKeepSettings}
-use Rattle.recovery.proofs.EveryCall.{callBroken, acceptedPlan, plan-of}
 use Rattle.recovery.proofs.StartingUp.{Ready, ready-of, ready-is, ready-holds}
 use Rattle.recovery.proofs.Theorem.{CallKept, set-kept, done-accepted, all-made}
 
 pub call-accepted : (c : Call) (img : List ℕ) (x : Context) (count : ℕ) → outcome x (planOf c img) img ≡ done count → callBroken c img ≡ none
-call-accepted c img x count h =
-    done-accepted x count (callBroken c img) (acceptedPlan c img) img (subst (λ (p : Plan). outcome x p img ≡ done count) (plan-of c img) h)
+unfolding planOf
+call-accepted c img x count h = done-accepted x count (callBroken c img) (doing (kindOf c) img) img h
 
 -- what is left of an image that held K
 pub record LeftReady (c : Call) (K : List Value) (left : List ℕ) : Type 0 where
@@ -60,7 +59,7 @@ set-leaves s r img long e w =
     kept-all (set s r) img (valuesOf img) (set-kept s r img (valuesOf img) e long holds) w
 
 pub set-done : SetDone
-unfolding planOf entered
+unfolding entered steps
 set-done s r img x count long h =
     let accepted = call-accepted (set s r) img x count h in
     let left : LeftReady (set s r) (valuesOf img) (imageAfter x (setPlan s r img) img) =
@@ -86,7 +85,7 @@ tried s r img accepted = unbroken _ 21 accepted
 -- a set that breaks no rule, all its stores made, with every w
 pub settings-kept : (s : Session) (r : Request) (img : List ℕ) → length (r .vendor) ≡ 16 → setBroken s r img ≡ none → (w : ℕ)
     → forbidden (limitsFor (s .setup) (requestKey r)) (find (requestKey r) (valuesOf (applyAll (storesOf w (setPlan s r img)) img))) ≡ false
-unfolding planOf entered
+unfolding entered steps
 settings-kept s r img long accepted w =
     let vs = valuesOf img in
     let left : find (requestKey r) (valuesOf (applyAll (storesOf w (setPlan s r img)) img)) ≡ leaves (changeIn r vs) (find (requestKey r) vs) =
@@ -94,7 +93,6 @@ settings-kept s r img long accepted w =
     rw left (none-forbids (limitsFor (s .setup) (requestKey r)) (changeIn r vs) (find (requestKey r) vs) (tried s r img accepted))
 
 pub sets-keep-settings : SetsKeepSettings
-unfolding planOf
 sets-keep-settings s r img x count long h =
     ap
     (λ (left : List ℕ). forbidden (limitsFor (s .setup) (requestKey r)) (find (requestKey r) (valuesOf left)))

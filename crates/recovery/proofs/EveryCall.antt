@@ -1,42 +1,54 @@
--- Every call alike: it is refused by the first rule that it breaks, and otherwise does what is its own. So what holds of a refusal is said once, for all calls.
+-- Every call alike: it is refused by the first rule that it breaks, and otherwise does what its kind does. So what holds of a refusal, and of a kind, is said once; a call has of
+-- its own what its rules leave where it breaks none.
 -- Assumes nothing.
 use Prim.Native.Nat.{ℕ}
-use mathlib.Core.Path.{_≡_, refl, ap, _∙_}
-use mathlib.Core.List.{List, []}
+use mathlib.Core.Path.{_≡_, ap}
+use mathlib.Core.Bool.{true}
+use mathlib.Core.List.{List}
 use mathlib.Core.Option.{Option, none, some}
 use Rattle.model.specs.declared.Rule.{Rule}
 use Rattle.model.specs.Lists.{onSome}
+use Rattle.model.specs.Image.{rightLength, regionSize}
+use Rattle.model.specs.Entry.{Value}
 use Rattle.model.specs.Region.{valuesOf}
-use Rattle.model.specs.Change.{changeIn}
-use Rattle.model.specs.Rules.{setBroken, getBroken, nextBroken, startUpBroken}
-use Rattle.model.specs.Set.{Plan, refuse, make, changePlan, setPlan}
-use Rattle.model.specs.StartUp.{startUpStores, startUpPlan}
-use Rattle.model.specs.Answers.{getPlan, nextPlan}
-use Rattle.model.specs.Book.{Call, set, get, next, startUp, planOf}
+use Rattle.model.specs.Work.{readyForCall, readyForStartUp}
+use Rattle.model.specs.Change.{Change}
+use Rattle.model.specs.Stores.{Bytes}
+use Rattle.model.specs.Set.{refuse}
+use Rattle.model.specs.Book.{Call, set, get, next, startUp, callBroken, Kind, reads, writes, startsUp, kindOf, doing, planOf, Sized}
+use Rattle.model.proofs.Changes.{EachPut, Fitting}
+use Rattle.model.proofs.Requests.{set-length, set-ready, set-fitting, get-ready, next-ready, startUp-length, startUp-ready}
+use Rattle.recovery.proofs.ByteLists.{Bytewise, image-values, put-bytes}
 
--- the first rule that a call breaks
-abbrev pub callBroken : Call → List ℕ → Option Rule
-callBroken (set s r) img = setBroken s r img
-callBroken (get s k buffer) img = getBroken s k buffer img
-callBroken (next s k buffer) img = nextBroken s k buffer img
-callBroken (startUp setup) img = startUpBroken img
-
--- what it does where it breaks none
-abbrev pub acceptedPlan : Call → List ℕ → Plan
-acceptedPlan (set s r) img = changePlan img (changeIn r (valuesOf img))
-acceptedPlan (get s k buffer) img = make [] []
-acceptedPlan (next s k buffer) img = make [] []
-acceptedPlan (startUp setup) img = make [] (startUpStores img)
-
-pub plan-of : (c : Call) (img : List ℕ) → planOf c img ≡ onSome (callBroken c img) refuse (acceptedPlan c img)
-unfolding planOf setPlan getPlan nextPlan startUpPlan
-plan-of (set s r) img = refl
-plan-of (get s k buffer) img = refl
-plan-of (next s k buffer) img = refl
-plan-of (startUp setup) img = refl
-
-pub plan-accepted : (c : Call) (img : List ℕ) → callBroken c img ≡ none → planOf c img ≡ acceptedPlan c img
-plan-accepted c img e = plan-of c img ∙ ap (λ (o : Option Rule). onSome o refuse (acceptedPlan c img)) e
+pub plan-accepted : (c : Call) (img : List ℕ) → callBroken c img ≡ none → planOf c img ≡ doing (kindOf c) img
+unfolding planOf
+plan-accepted c img e = ap (λ (o : Option Rule). onSome o refuse (doing (kindOf c) img)) e
 
 pub plan-refused : (c : Call) (img : List ℕ) (rule : Rule) → callBroken c img ≡ some rule → planOf c img ≡ refuse rule
-plan-refused c img rule e = plan-of c img ∙ ap (λ (o : Option Rule). onSome o refuse (acceptedPlan c img)) e
+unfolding planOf
+plan-refused c img rule e = ap (λ (o : Option Rule). onSome o refuse (doing (kindOf c) img)) e
+
+-- what the rules leave of changes on an image: it is ready, and they fit; on an image of bytes they put bytes
+pub record Lets (changes : List Value → List Change) (img : List ℕ) : Type 0 where
+  pub long : rightLength img ≡ true
+  pub ready : readyForCall img ≡ true
+  pub fitting : Fitting (changes (valuesOf img)) (valuesOf img) (regionSize img)
+  pub bytewise : Bytes img → EachPut Bytewise (changes (valuesOf img))
+
+-- and of a call, by its kind
+abbrev pub Accepted : Kind → List ℕ → Type 0
+Accepted reads img = (rightLength img ≡ true) × (readyForCall img ≡ true)
+Accepted (writes changes) img = Lets changes img
+Accepted startsUp img = (rightLength img ≡ true) × (readyForStartUp img ≡ true)
+
+-- this is what each call has of its own
+pub accepted : (c : Call) (img : List ℕ) → Sized c → callBroken c img ≡ none → Accepted (kindOf c) img
+accepted (set s r) img sized e = record {
+  long = set-length s r img e;
+  ready = set-ready s r img e;
+  fitting = set-fitting s r img e (sized .2);
+  bytewise = λ bytes. (λ v c. put-bytes r (valuesOf img) v c (image-values img bytes) (sized .0) (sized .1) (sized .3), tt);
+}
+accepted (get s k buffer) img sized e = get-ready s k buffer img e
+accepted (next s k buffer) img sized e = next-ready s k buffer img e
+accepted (startUp setup) img sized e = (startUp-length img e, startUp-ready img e)

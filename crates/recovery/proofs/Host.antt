@@ -20,19 +20,19 @@ use Rattle.model.specs.Region.{valuesOf, find}
 use Rattle.model.specs.Request.{requestKey}
 use Rattle.model.specs.Rules.{startUpBroken}
 use Rattle.model.specs.Stores.{Store, Write, stores, applyAll, after, Cut}
-use Rattle.model.specs.Set.{Plan, refuse, make, setPlan}
+use Rattle.model.specs.Set.{Plan, refuse, make}
 use Rattle.model.specs.StartUp.{startUpPlan, startUpStores}
 use Rattle.model.specs.Answers.{ruleNumber, storesOf, decided}
-use Rattle.model.specs.Book.{Call, set, get, next, startUp, planOf, Sized, entered, bookAfter}
+use Rattle.model.specs.Book.{Call, set, callBroken, planOf, setPlan, Sized, entered, bookAfter}
 use Rattle.model.proofs.Stores.{after-all, stores-append}
 use Rattle.plan.specs.declared.HostOp.{HostOp}
 use Rattle.plan.specs.declared.HostPlan.{HostPlan}
 use Rattle.plan.specs.Planned.{upTo}
 use Rattle.plan.specs.Told.{storesOfNumbers, expandNumbers, noOperations, refusalOf, Told}
 use Rattle.recovery.specs.Claims.{forbidden}
-use Rattle.recovery.specs.Host.{PlannedFor, carriedOut, decidingDone, Hosting, none-yet, carried-out, power-failed, HostBegun, by-start-up, by-move, HostKeepsTheBook, HostKeepsSettings}
+use Rattle.recovery.specs.Host.{carriedOut, decidingDone, Hosting, none-yet, carried-out, power-failed, HostBegun, by-start-up, by-move, HostKeepsTheBook, HostKeepsSettings}
 use Rattle.recovery.proofs.Invariant.{Holding}
-use Rattle.recovery.proofs.EveryCall.{callBroken, plan-refused}
+use Rattle.recovery.proofs.EveryCall.{plan-refused}
 use Rattle.recovery.proofs.Done.{settings-kept}
 use Rattle.recovery.proofs.Interface.{move-begins, session-limits}
 use Rattle.recovery.proofs.StartingUp.{Ready, ready-holds}
@@ -167,28 +167,19 @@ module _ (w : ℕ) (K : List Value) (part : List ℕ) (c : Call) (sized : Sized 
 
 -- ---- so the part holds the book
 
-told-of : (c : Call) (part content : List ℕ) (p : HostPlan) → PlannedFor c part content p → Told (planOf c part) content p
-unfolding planOf
-told-of (set s r) part content p t = t
-told-of (get s k buffer) part content p t = t
-told-of (next s k buffer) part content p t = t
-told-of (startUp setup) part content p t = t
-
 hosting-holds : (start : List ℕ) → Ready start → {part : List ℕ} {book : List Value} → Hosting start part book → Holding book part
 hosting-holds start ready none-yet = ready-holds start ready
 hosting-holds start ready (carried-out {part} {book} hosting c sized content p planned w) =
     let holds = hosting-holds start ready hosting in
     let plan = planOf c part in
-    let t = told-of c part content p planned in
     let k = length (storesOf w plan) in
-    subst (λ (x : List ℕ). Holding (bookAfter c (eqb (p .rule) 0) book) x) (sym (told-left w plan content p part t))
-    (subst (λ (vs : List Value). Holding vs (after k (storesOf w plan) part)) (told-carried w book part c sized holds content p t)
+    subst (λ (x : List ℕ). Holding (bookAfter c (eqb (p .rule) 0) book) x) (sym (told-left w plan content p part planned))
+    (subst (λ (vs : List Value). Holding vs (after k (storesOf w plan) part)) (told-carried w book part c sized holds content p planned)
     (call-cut w book part (after k (storesOf w plan) part) c sized holds k (inl refl)))
 hosting-holds start ready (power-failed {part} {part′} {book} hosting c sized content p planned w k left) =
     let holds = hosting-holds start ready hosting in
-    let t = told-of c part content p planned in
-    subst (λ (vs : List Value). Holding vs part′) (told-decided w book part c sized holds content p t k)
-    (call-cut w book part part′ c sized holds k (subst (λ (ss : List Store). Cut ss k part part′) (told-stores w (planOf c part) content p t) left))
+    subst (λ (vs : List Value). Holding vs part′) (told-decided w book part c sized holds content p planned k)
+    (call-cut w book part part′ c sized holds k (subst (λ (ss : List Store). Cut ss k part part′) (told-stores w (planOf c part) content p planned) left))
 
 -- ---- what it begins on
 
@@ -226,7 +217,7 @@ told-unbroken c part content p t zero = go (callBroken c part) refl
 pub host-keeps-settings : HostKeepsSettings
 host-keeps-settings setup s r part content p i long planned zero w =
     let k = requestKey r in
-    let accepted = told-unbroken (set s r) part content p (told-of (set s r) part content p planned) zero in
+    let accepted = told-unbroken (set s r) part content p planned zero in
     ap₂
     (λ (ls : List Limit) (left : List ℕ). forbidden ls (find k (valuesOf left)))
     (sym (session-limits i k))

@@ -12,7 +12,6 @@ use Rattle.model.specs.declared.Layout.{Layout}
 use Rattle.model.specs.declared.Limit.{Limit}
 use Rattle.model.specs.declared.Setup.{Setup}
 use Rattle.model.specs.declared.Session.{Session}
-use Rattle.model.specs.declared.Answer.{Answer}
 use Rattle.model.specs.declared.Answer.the-variants.{Done}
 use Rattle.model.specs.declared.Context.{Context}
 use Rattle.model.specs.declared.Rule.{Rule}
@@ -27,50 +26,38 @@ use Rattle.model.specs.Request.{requestKey}
 use Rattle.model.specs.Limits.{limitsFor}
 use Rattle.model.specs.Rules.{lockBroken}
 use Rattle.model.specs.Stores.{stores, after, applyAll}
-use Rattle.model.specs.Set.{Plan, refuse, make}
-use Rattle.model.specs.Answers.{Outcome, done, refused, ruleNumber, answerOf, outcome, imageAfter, madeOf, pageOf, storesOf, decided, lockSession}
+use Rattle.model.specs.Set.{refuse, make}
+use Rattle.model.specs.StartUp.{startUpPlan}
+use Rattle.model.specs.Answers.{Outcome, done, refused, ruleNumber, answerOf, imageAfter, madeOf, pageOf, storesOf, decided, lockSession}
 use Rattle.model.specs.Move.{moveBroken, moveAnswer}
-use Rattle.model.specs.Book.{Call, set, get, next, startUp, planOf, counts, bookAfter, Run, begin, ran, cut, Begins, started, moved-in}
-use Rattle.recovery.specs.Interface.{Returned, MoveReturned, Begun, by-start-up, by-move, Calls, none-yet, returned, power-failed, InterfaceKeepsTheBook, InSession, fresh, moved, lock-asked, InterfaceKeepsSettings}
-use Rattle.recovery.proofs.EveryCall.{callBroken, acceptedPlan, plan-of}
+use Rattle.model.specs.Book.{Call, startUp, callBroken, Kind, reads, kindOf, doing, planOf, counts, bookAfter, Run, begin, ran, cut, Begins, started, moved-in}
+use Rattle.recovery.specs.Interface.{MoveReturned, Begun, by-start-up, by-move, Calls, none-yet, returned, power-failed, InterfaceKeepsTheBook, InSession, fresh, moved, lock-asked, InterfaceKeepsSettings}
 use Rattle.recovery.specs.Claims.{forbidden}
 use Rattle.recovery.proofs.Theorem.{demand3}
 use Rattle.recovery.proofs.Done.{sets-keep-settings}
 
--- get and next-name make no stores
+-- a call that reads leaves the image: what a function that is lent it shared ensures
 none-made : (x : Context) (o : Option Rule) (img : List ℕ) → imageAfter x (onSome o refuse (make [] [])) img ≡ img
 unfolding imageAfter storesOf stores after applyAll
 none-made x (some rule) img = rw take-nil
 none-made x none img = rw take-nil
 
-reading-image : (x : Context) (c : Call) (img : List ℕ) → acceptedPlan c img ≡ make [] [] → imageAfter x (planOf c img) img ≡ img
-reading-image x c img e =
-    ap (λ (p : Plan). imageAfter x p img) (plan-of c img ∙ ap (λ (p : Plan). onSome (callBroken c img) refuse p) e) ∙ none-made x (callBroken c img) img
-
--- a call that returned did what its plan says
-record Step (c : Call) (x : Context) (img img′ : List ℕ) (a : Answer) : Type 0 where
-  told : answerOf a ≡ outcome x (planOf c img) img
-  left : img′ ≡ imageAfter x (planOf c img) img
-
-step-of : (c : Call) (x : Context) (img img′ : List ℕ) (a : Answer) → Returned c x img img′ a → Step c x img img′ a
+pub reading-image : (x : Context) (c : Call) (img : List ℕ) → kindOf c ≡ reads → imageAfter x (planOf c img) img ≡ img
 unfolding planOf
-step-of (set s r) x img img′ a m = record { told = m .0; left = m .1 }
-step-of (get s k buffer) x img img′ a m = record { told = m .0; left = m .1 ∙ sym (reading-image x (get s k buffer) img refl) }
-step-of (next s k buffer) x img img′ a m = record { told = m .0; left = m .1 ∙ sym (reading-image x (next s k buffer) img refl) }
-step-of (startUp setup) x img img′ a m = record { told = m .0; left = m .1 }
+reading-image x c img e =
+    ap (λ (k : Kind). imageAfter x (onSome (callBroken c img) refuse (doing k img)) img) e ∙ none-made x (callBroken c img) img
 
 -- so the calls are a run
 pub calls-run : {start img : List ℕ} {book : List Value} → Calls start img book → Run start img book
 calls-run none-yet = begin
 calls-run {start} (returned {img} {img′} {book} calls c sized x a m) =
-    let s = step-of c x img img′ a m in
     let made = madeOf x (planOf c img) img in
     subst
     (λ (i : List ℕ). Run start i (bookAfter c (counts (answerOf a) (decided (pageOf x) made (planOf c img))) book))
-    (sym (s .left))
+    (sym (m .1))
     (subst
     (λ (o : Outcome). Run start (imageAfter x (planOf c img) img) (bookAfter c (counts o (decided (pageOf x) made (planOf c img))) book))
-    (sym (s .told))
+    (sym (m .0))
     (ran (calls-run calls) c sized x))
 calls-run (power-failed calls c sized x k left) = cut (calls-run calls) c sized (pageOf x) k left
 
@@ -91,11 +78,13 @@ move-begins start from source target m =
     moved-in (record { form = from; source = source; target = target; accepted = accepted-move from authenticated source target (m .0); left = m .1 })
 
 begun-begins : (start : List ℕ) → Begun start → Begins start
+unfolding planOf startUpPlan
 begun-begins start (by-start-up before bytes setup x stores up) =
     started (record { before = before; bytes = bytes; context = x; stores = stores; finished = sym (up .0); left = up .1 })
 begun-begins start (by-move from source target m) = move-begins start from source target m
 
 pub interface-keeps-the-book : InterfaceKeepsTheBook
+unfolding planOf startUpPlan
 interface-keeps-the-book start img img′ book setup x stores begun calls again =
     let all = demand3 start _ _ (begun-begins start begun) (ran (calls-run calls) (startUp setup) tt x) in
     ap valuesOf (again .1) ∙ all .1 stores (sym (again .0))

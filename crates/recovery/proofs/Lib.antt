@@ -13,7 +13,7 @@ pub mod Marks
 pub mod TailWrite
 -- A set that breaks no rule, however cut
 pub mod Sets
--- Every call alike: refused, or what is its own
+-- Every call alike: refused, or what its kind does
 pub mod EveryCall
 -- Runs: the invariant with the book, and Demand 3
 pub mod Theorem
@@ -27,7 +27,7 @@ pub mod ByteLists
 pub mod Clearing
 -- The same of a compaction, a start-up and formatting
 pub mod BitsOfCompaction
--- The same of a set
+-- The same of changes
 pub mod BitsOfSets
 -- The two claims about bits, of every call
 pub mod Bits

@@ -1,5 +1,5 @@
--- Demand 3. Every call of a run keeps the invariant with the book: refused it stores nothing, and otherwise by what it keeps up to and from its deciding store (`CallKept`), where a
--- start-up keeps the values and a get and a next-name store nothing. A done start-up leaves the image ready, and then its values are the book.
+-- Demand 3. Every call of a run keeps the invariant with the book: refused it stores nothing, and otherwise by what its kind keeps up to and from its deciding store (`CallKept`), where a
+-- start-up keeps the values and a call that reads stores nothing. A done start-up leaves the image ready, and then its values are the book.
 -- Assumes nothing.
 use Prim.Native.Nat.{ℕ, _+_, _*_, _-_, _≤_, _<_, min}
 use native.Mathlib.Omega.{arith}
@@ -23,26 +23,26 @@ use Rattle.model.specs.Image.{block, blocks, rightLength, regionSize, region, w
 use Rattle.model.specs.Entry.{Value, keyOf}
 use Rattle.model.specs.Walk.{Entry, stateOf, entryValue}
 use Rattle.model.specs.Region.{entries, tailAt, tail, values, valuesOf, sound, clean, find, added, standing}
-use Rattle.model.specs.Work.{wellFormed, endsInFC, idle, pending, readyForCall, readyForStartUp, readyIn}
+use Rattle.model.specs.Work.{wellFormed, endsInFC, idle, pending, readyForStartUp, readyIn}
 use Rattle.model.specs.Request.{Request}
-use Rattle.model.specs.Change.{Change, nothing, remove, put, changeIn, step, without, spaceOf}
+use Rattle.model.specs.Change.{Change, nothing, remove, put, changeIn, step, steps, without}
 use Rattle.model.specs.Rules.{setBroken, startUpBroken}
 use Rattle.model.specs.Stores.{Store, Write, write, clear, stores, run, mark, applyAll, after, reach, Cut}
 use Rattle.model.specs.Compact.{encode, allUsed, nextRecord, compactTo, compactOn, fillSpare}
-use Rattle.model.specs.Set.{Plan, refuse, make, markState, leftover, entryStores, deleteTo, tailTo, tailOn, fitsTail, putPlan, changePlan}
+use Rattle.model.specs.Set.{Plan, refuse, make, markState, leftover, entryStores, deleteTo, tailTo, tailOn, fitsTail, putPlan, compactPlan, changePlan, changesPlan}
 use Rattle.model.specs.StartUp.{startUpStores, startUpPlan}
 use Rattle.model.specs.Answers.{ruleNumber, done, stopped, refused, outcome, ended, deadOf, pageOf, madeOf, imageAfter, storesOf, decided}
-use Rattle.model.specs.Book.{Call, set, get, next, startUp, planOf, Sized, entered, counts, bookAfter, Run, begin, ran, cut, StartedUp, MovedInto, Begins, started, moved-in, Agrees, AgreesAll, Demand3}
+use Rattle.model.specs.Book.{Call, set, callBroken, Kind, reads, writes, startsUp, kindOf, doing, planOf, Sized, changesBy, entered, counts, bookAfter, Run, begin, ran, cut, StartedUp, MovedInto, Begins, started, moved-in, Agrees, AgreesAll, Demand3}
 use Rattle.model.proofs.Tests.{or-left, or-right, true-and}
 use Rattle.model.proofs.Stores.{after-all, stores-append}
 use Rattle.model.proofs.Chunks.{Chunked, region-chunked}
 use Rattle.model.proofs.Values.{find-standing}
 use Rattle.recovery.proofs.Cuts.{Safe, cut-at, Goes, goes-nowhere}
-use Rattle.recovery.proofs.EveryCall.{callBroken, plan-accepted, plan-refused}
+use Rattle.recovery.proofs.EveryCall.{plan-accepted, plan-refused, Accepted, accepted}
 use Rattle.model.proofs.Parts.{Parts, parts-region, parts-work, parts-spare, parts-size, parts-right}
-use Rattle.model.specs.Beside.{Valid}
-use Rattle.model.proofs.Encode.{sound-valid, sound-distinct, put-valid, put-distinct}
-use Rattle.model.proofs.Requests.{set-length, set-ready, put-is-valid, put-fits, remove-present, get-ready, next-ready, startUp-length, startUp-ready, startUp-accepted}
+use Rattle.model.proofs.Changes.{Fitting, steps-valid, steps-distinct}
+use Rattle.model.proofs.Encode.{sound-valid, sound-distinct}
+use Rattle.model.proofs.Requests.{set-length, set-ready, set-fitting, startUp-length, startUp-ready, startUp-accepted}
 use Rattle.recovery.proofs.Invariant.{Holding, in-spare, in-region}
 use Rattle.recovery.proofs.Compaction.{clean-sound}
 use Rattle.model.specs.Move.{moved, imageMoved}
@@ -51,14 +51,24 @@ use Rattle.recovery.proofs.StartingUp.{Ready, ready-of, ready-holds, st
 use Rattle.recovery.proofs.Marks.{State}
 use Rattle.recovery.proofs.Sets.{Kept, its-state, nothing-kept, delete-kept, tail-kept, compact-kept}
 
--- ---- a call that breaks no rule: it keeps K up to its deciding store, and the book with the call entered from there on
+-- ---- a call that breaks no rule: its plan keeps K up to the deciding store, and K′ from there on
 
-pub record CallKept (c : Call) (img : List ℕ) (K : List Value) : Type 0 where
+pub record PlanKept (planned : Plan) (img : List ℕ) (K K′ : List Value) : Type 0 where
   pub to : List Write
   pub on : List Write
-  pub plan : planOf c img ≡ make to on
-  pub kept : Kept K (entered c K) to on img
-  pub decides : isEmpty to ≡ true → entered c K ≡ K
+  pub plan : planned ≡ make to on
+  pub kept : Kept K K′ to on img
+  pub decides : isEmpty to ≡ true → K′ ≡ K
+
+planned-as : {p q : Plan} {img : List ℕ} {K K′ : List Value} → q ≡ p → PlanKept p img K K′ → PlanKept q img K K′
+planned-as e k = record { to = k .to; on = k .on; plan = e ∙ k .plan; kept = k .kept; decides = k .decides }
+
+-- where it enters the changes of its kind
+abbrev KindKept : Kind → List ℕ → List Value → Type 0
+KindKept k img K = PlanKept (doing k img) img K (steps (changesBy k K) K)
+
+abbrev pub CallKept : Call → List ℕ → List Value → Type 0
+CallKept c img K = PlanKept (planOf c img) img K (entered c K)
 
 last-there : {A : Type 0} (l : List A) (a : A) → isEmpty (l ++ (a ∷ [])) ≡ false
 last-there [] a = refl
@@ -76,15 +86,11 @@ module _ {b : ℕ} {r w s : List ℕ} (p : Parts b r w s) (rested : idle w ≡ t
   unfolding valuesIn
   its-values = ap (λ (l : List ℕ). values (entries l)) (parts-region p)
 
-  pub record PlanKept (c : Change) : Type 0 where
-    pub to : List Write
-    pub on : List Write
-    pub plan : changePlan joined-image c ≡ make to on
-    pub kept : Kept its-list (step c its-list) to on joined-image
-    pub decides : isEmpty to ≡ true → step c its-list ≡ its-list
+  -- by a plan, with changes entered
+  abbrev By : Plan → List Change → Type 0
+  By plan cs = PlanKept plan joined-image its-list (steps cs its-list)
 
-  pub nothing-plan : PlanKept nothing
-  unfolding changePlan step
+  nothing-plan : PlanKept (make [] []) joined-image its-list its-list
   nothing-plan = record { to = []; on = []; plan = refl; kept = nothing-kept p rested free cleaned; decides = λ e. refl }
 
   -- a delete of a value that stands has a store
@@ -102,8 +108,8 @@ module _ {b : ℕ} {r w s : List ℕ} (p : Parts b r w s) (rested : idle w ≡ t
       go none e = absurd (false≢true (ap isSome (sym (looked ∙ ap (λ (o : Option Entry). onSome o (λ e. some (entryValue e)) none) e)) ∙ present))
       go (some x) e = rw e (last-there (leftover k (entries r)) (write (x .at + stateAt) ((stateOf x - 0x02) ∷ [])))
 
-  pub remove-plan : (k : Key) → isSome (find k its-list) ≡ true → PlanKept (remove k)
-  unfolding changePlan step
+  remove-plan : (k : Key) → isSome (find k its-list) ≡ true → By (changePlan joined-image (remove k)) (remove k ∷ [])
+  unfolding changePlan steps step
   remove-plan k present = record {
     to = deleteTo k (entries r);
     on = [];
@@ -112,8 +118,8 @@ module _ {b : ℕ} {r w s : List ℕ} (p : Parts b r w s) (rested : idle w ≡ t
     decides = λ e. absurd (true≢false (sym e ∙ delete-some k present));
   }
 
-  put-as : (v : Value) {to on : List Write} → Kept its-list (without (keyOf v) its-list ++ (v ∷ [])) to on joined-image → Kept its-list (step (put v) its-list) to on joined-image
-  unfolding step
+  put-as : (v : Value) {to on : List Write} → Kept its-list (without (keyOf v) its-list ++ (v ∷ [])) to on joined-image → Kept its-list (steps (put v ∷ []) its-list) to on joined-image
+  unfolding steps step
   put-as v k = k
 
   -- a write and a compaction have stores before their deciding ones
@@ -135,34 +141,46 @@ module _ {b : ℕ} {r w s : List ℕ} (p : Parts b r w s) (rested : idle w ≡ t
   unfolding putPlan
   put-tail v h = rw (parts-region p, h)
 
-  put-compact : (v : Value) → fitsTail r v ≡ false → putPlan joined-image v ≡ make (compactTo joined-image (step (put v) its-list)) (compactOn joined-image (step (put v) its-list))
-  unfolding putPlan
+  put-compact : (v : Value) → fitsTail r v ≡ false → putPlan joined-image v ≡ compactPlan joined-image (steps (put v ∷ []) its-list)
+  unfolding putPlan steps
   put-compact v h = rw (parts-region p, h, its-values)
 
-  pub put-plan : (v : Value) → Valid v → spaceOf (step (put v) its-list) ≤ block * b → PlanKept (put v)
-  unfolding changePlan
-  put-plan v valid fits = go (fitsTail r v) refl
-    where
-      chunked : Chunked authenticated r
-      chunked = region-chunked authenticated b (p .region-long) (clean-sound r cleaned)
+  -- a compaction with changes folded in
+  compact-plan : (cs : List Change) → Fitting cs its-list (block * b) → By (compactPlan joined-image (steps cs its-list)) cs
+  compact-plan cs f =
+      let chunked : Chunked authenticated r = region-chunked authenticated b (p .region-long) (clean-sound r cleaned) in
+      record {
+        to = compactTo joined-image (steps cs its-list);
+        on = compactOn joined-image (steps cs its-list);
+        plan = refl;
+        kept =
+            compact-kept p rested free cleaned (steps cs its-list) (steps-valid cs its-list (f .valid) (sound-valid authenticated r chunked))
+            (steps-distinct cs its-list (sound-distinct authenticated r chunked)) (f .room);
+        decides = λ e. absurd (true≢false (sym e ∙ compact-some joined-image (steps cs its-list)));
+      }
 
-      go : (t : Bool) → fitsTail r v ≡ t → PlanKept (put v)
+  put-plan : (v : Value) → Fitting (put v ∷ []) its-list (block * b) → By (changePlan joined-image (put v)) (put v ∷ [])
+  unfolding changePlan
+  put-plan v f = go (fitsTail r v) refl
+    where
+      go : (t : Bool) → fitsTail r v ≡ t → By (putPlan joined-image v) (put v ∷ [])
       go true h = record {
         to = tailTo (tailAt r) v (entries r);
         on = tailOn v (entries r);
         plan = put-tail v h;
-        kept = put-as v (tail-kept p rested free cleaned v valid h);
+        kept = put-as v (tail-kept p rested free cleaned v (f .valid .0 v refl) h);
         decides = λ e. absurd (true≢false (sym e ∙ tail-some (tailAt r) v (entries r)));
       }
-      go false h = record {
-        to = compactTo joined-image (step (put v) its-list);
-        on = compactOn joined-image (step (put v) its-list);
-        plan = put-compact v h;
-        kept =
-            compact-kept p rested free cleaned (step (put v) its-list) (put-valid authenticated v its-list valid (sound-valid authenticated r chunked))
-            (put-distinct v its-list (sound-distinct authenticated r chunked)) fits;
-        decides = λ e. absurd (true≢false (sym e ∙ compact-some joined-image (step (put v) its-list)));
-      }
+      go false h = planned-as (put-compact v h) (compact-plan (put v ∷ []) f)
+
+  changes-plan : (cs : List Change) → Fitting cs its-list (block * b) → By (changesPlan joined-image cs) cs
+  unfolding changePlan steps step
+  changes-plan [] f = nothing-plan
+  changes-plan (nothing ∷ []) f = nothing-plan
+  changes-plan (remove k ∷ []) f = remove-plan k (f .there k refl)
+  changes-plan (put v ∷ []) f = put-plan v f
+  changes-plan (c ∷ d ∷ cs) f =
+      planned-as (ap (λ (vs : List Value). compactPlan joined-image (steps (c ∷ d ∷ cs) vs)) its-values) (compact-plan (c ∷ d ∷ cs) f)
 
 -- ---- the values of a ready image that holds K
 
@@ -181,88 +199,64 @@ kept-as : {K K₁ K′ K₁′ : List Value} {to on : List Write} {img img₁ : 
 kept-as {K} {K₁} {K′} {K₁′} {to} {on} {img} {img₁} e f g k =
     subst (λ (x : List ℕ). Kept K₁ K₁′ to on x) g (subst (λ (x : List Value). Kept K₁ x to on img) f (subst (λ (x : List Value). Kept x K′ to on img) e k))
 
--- a set accepted on an image that holds K
-module _ (s : Session) (q : Request) (img : List ℕ) (K : List Value) (accepted : setBroken s q img ≡ none) (long : length (q .vendor) ≡ 16) (holds : Holding K img) where
-  set-ready-image : Ready img
-  set-ready-image = ready-of img (set-length s q img accepted) (set-ready s q img accepted)
+-- ---- every kind of call, where no rule is broken
 
-  set-values : valuesOf img ≡ K
-  set-values = ready-values img K set-ready-image holds
+-- changes of a ready image
+writes-kept : (changes : List Value → List Change) (img : List ℕ) (K : List Value) → (i : Ready img) → Fitting (changes (valuesOf img)) (valuesOf img) (regionSize img)
+    → Holding K img → KindKept (writes changes) img K
+writes-kept changes img K i f holds =
+    let p = i .parts in
+    let held = ready-values img K i holds in
+    -- the values and the region's size by parts
+    let same : valuesOf img ≡ values (entries (i .r)) = ap valuesOf (i .whole) ∙ its-values p (i .rested) (i .free) (i .cleaned) in
+    let here : values (entries (i .r)) ≡ K = sym same ∙ held in
+    let cs = changes (valuesOf img) in
+    let asked : cs ≡ changes K = ap changes held in
+    let fits : Fitting cs (values (entries (i .r))) (block * i .b) =
+    subst (Fitting cs (values (entries (i .r)))) (ap regionSize (i .whole) ∙ parts-size p) (subst (λ (vs : List Value). Fitting cs vs (regionSize img)) same f) in
+    let k = changes-plan p (i .rested) (i .free) (i .cleaned) cs fits in
+    record {
+      to = k .to;
+      on = k .on;
+      plan = ap (λ (x : List ℕ). changesPlan x cs) (i .whole) ∙ k .plan;
+      kept = kept-as here (ap (steps cs) here ∙ ap (λ (x : List Change). steps x K) asked) (sym (i .whole)) (k .kept);
+      decides = λ h. ap (λ (x : List Change). steps x K) (sym asked) ∙ ap (steps cs) (sym here) ∙ k .decides h ∙ here;
+    }
 
-  pub set-kept : CallKept (set s q) img K
-  unfolding entered
-  set-kept = go (changeIn q (valuesOf img)) refl
-    where
-      i : Ready img
-      i = set-ready-image
-
-      p : Parts (i .b) (i .r) (i .w) (i .s)
-      p = i .parts
-
-      -- the values by parts
-      same : valuesOf img ≡ values (entries (i .r))
-      same = ap valuesOf (i .whole) ∙ its-values p (i .rested) (i .free) (i .cleaned)
-
-      held : values (entries (i .r)) ≡ K
-      held = sym same ∙ set-values
-
-      from : (c : Change) → changeIn q (valuesOf img) ≡ c → PlanKept p (i .rested) (i .free) (i .cleaned) c → CallKept (set s q) img K
-      from c e k =
-          let asked : c ≡ changeIn q K = sym e ∙ ap (changeIn q) set-values in
-          record {
-            to = k .to;
-            on = k .on;
-            plan =
-                plan-accepted (set s q) img accepted
-                ∙ ap (changePlan img) e
-                ∙ ap (λ (x : List ℕ). changePlan x c) (i .whole)
-                ∙ k .plan;
-            kept = kept-as held (ap (step c) held ∙ ap (λ (x : Change). step x K) asked) (sym (i .whole)) (k .kept);
-            decides = λ h. ap (λ (x : Change). step x K) (sym asked) ∙ ap (step c) (sym held) ∙ k .decides h ∙ held;
-          }
-
-      go : (c : Change) → changeIn q (valuesOf img) ≡ c → CallKept (set s q) img K
-      go nothing e = from nothing e (nothing-plan p (i .rested) (i .free) (i .cleaned))
-      go (remove k) e =
-          from (remove k) e (remove-plan p (i .rested) (i .free) (i .cleaned) k (ap (λ (vs : List Value). isSome (find k vs)) (sym same) ∙ remove-present s q img accepted k e))
-      go (put v) e =
-          let fits = put-fits s q img accepted v e in
-          let room : spaceOf (step (put v) (values (entries (i .r)))) ≤ block * i .b =
-          subst (λ (n : ℕ). spaceOf (step (put v) (values (entries (i .r)))) ≤ n) (ap regionSize (i .whole) ∙ parts-size p)
-          (subst (λ (vs : List Value). spaceOf (step (put v) vs) ≤ regionSize img) same fits) in
-          from (put v) e (put-plan p (i .rested) (i .free) (i .cleaned) v (put-is-valid s q img accepted v e long) room)
-
--- ---- every call that breaks no rule
-
--- one that decides nothing and enters nothing, as start-up, get and next-name: what it stores keeps K
-leaving-kept : (c : Call) (img : List ℕ) (K : List Value) (on : List Write) (end : List ℕ) → planOf c img ≡ make [] on → entered c K ≡ K
-    → Goes (Holding K) on img end → Ready end → valuesOf end ≡ K → CallKept c img K
-leaving-kept c img K on end plan same goes ready held = record {
+-- one that decides nothing and enters nothing: what it stores keeps K
+leaving-kept : (img : List ℕ) (K : List Value) (on : List Write) (end : List ℕ) → Goes (Holding K) on img end → Ready end → valuesOf end ≡ K
+    → PlanKept (make [] on) img K K
+leaving-kept img K on end goes ready held = record {
   to = [];
   on = on;
-  plan = plan;
-  kept = subst (λ (vs : List Value). Kept K vs [] on img) (sym same)
-      (record { middle = img; end = end; to-goes = goes-nowhere (Holding K) img; on-goes = goes; ready = ready; held = held });
-  decides = λ e. same;
+  plan = refl;
+  kept = record { middle = img; end = end; to-goes = goes-nowhere (Holding K) img; on-goes = goes; ready = ready; held = held };
+  decides = λ e. refl;
 }
 
--- one without stores, which needs a ready image
-reading-kept : (c : Call) (img : List ℕ) (K : List Value) → planOf c img ≡ make [] [] → entered c K ≡ K → (rightLength img ≡ true) × (readyForCall img ≡ true)
-    → Holding K img → CallKept c img K
-reading-kept c img K plan same right holds =
-    let ready = ready-of img (right .0) (right .1) in
-    leaving-kept c img K [] img plan same (goes-nowhere (Holding K) img) ready (ready-values img K ready holds)
+kind-kept : (k : Kind) (img : List ℕ) (K : List Value) → Accepted k img → Holding K img → KindKept k img K
+unfolding steps
+kind-kept reads img K a holds =
+    let ready = ready-of img (a .0) (a .1) in
+    leaving-kept img K [] img (goes-nowhere (Holding K) img) ready (ready-values img K ready holds)
+kind-kept (writes changes) img K a holds = writes-kept changes img K (ready-of img (a .long) (a .ready)) (a .fitting) holds
+kind-kept startsUp img K a holds =
+    let up = startUp-holding K img holds in
+    leaving-kept img K (startUpStores img) (up .end) (up .goes) (up .ready) (up .held)
+
+-- so of a call
+from-kind : (c : Call) (img : List ℕ) (K : List Value) → callBroken c img ≡ none → KindKept (kindOf c) img K → CallKept c img K
+unfolding entered
+from-kind c img K e k = planned-as (plan-accepted c img e) k
 
 pub call-kept : (c : Call) (img : List ℕ) (K : List Value) → Sized c → callBroken c img ≡ none → Holding K img → CallKept c img K
-unfolding entered
-call-kept (set s q) img K sized e holds = set-kept s q img K e (sized .2) holds
-call-kept (get s key buffer) img K sized e holds =
-    reading-kept (get s key buffer) img K (plan-accepted (get s key buffer) img e) refl (get-ready s key buffer img e) holds
-call-kept (next s key buffer) img K sized e holds =
-    reading-kept (next s key buffer) img K (plan-accepted (next s key buffer) img e) refl (next-ready s key buffer img e) holds
-call-kept (startUp setup) img K sized e holds =
-    let up = startUp-holding K img holds in
-    leaving-kept (startUp setup) img K (startUpStores img) (up .end) (plan-accepted (startUp setup) img e) refl (up .goes) (up .ready) (up .held)
+call-kept c img K sized e holds = from-kind c img K e (kind-kept (kindOf c) img K (accepted c img sized e) holds)
+
+-- of a set, its bytes aside
+pub set-kept : (s : Session) (r : Request) (img : List ℕ) (K : List Value) → setBroken s r img ≡ none → length (r .vendor) ≡ 16 → Holding K img → CallKept (set s r) img K
+set-kept s r img K e long holds =
+    let ready = ready-of img (set-length s r img e) (set-ready s r img e) in
+    from-kind (set s r) img K e (writes-kept (λ vs. changeIn r vs ∷ []) img K ready (set-fitting s r img e long) holds)
 
 -- in a run a start-up is never refused
 pub holding-accepted : (K : List Value) (img : List ℕ) → Holding K img → startUpBroken img ≡ none
@@ -478,15 +472,14 @@ pub startUp-values : (K : List Value) (img : List ℕ) → Holding K img → (x 
     → valuesOf (imageAfter x (startUpPlan img) img) ≡ K
 startUp-values K img holds x count h = ap valuesOf (finished x count img h .left) ∙ startUp-holds (pageOf x) K img holds
 
-agrees : (K : List Value) (img : List ℕ) → Holding K img → (c : Call) (x : Context) → Agrees c x img K
-agrees K img holds (set s q) x = tt
-agrees K img holds (get s key buffer) x = tt
-agrees K img holds (next s key buffer) x = tt
-agrees K img holds (startUp setup) x = λ count h. startUp-values K img holds x count h
+agrees : (K : List Value) (img : List ℕ) → Holding K img → (k : Kind) (x : Context) → Agrees k x img K
+agrees K img holds reads x = tt
+agrees K img holds (writes changes) x = tt
+agrees K img holds startsUp x = λ count h. startUp-values K img holds x count h
 
 agrees-all : (start : List ℕ) → Begins start → {img : List ℕ} {book : List Value} → (r : Run start img book) → AgreesAll r
 agrees-all start st begin = tt
-agrees-all start st (ran {img} {book} r c sized x) = (agrees-all start st r, agrees book img (run-holds start st r) c x)
+agrees-all start st (ran {img} {book} r c sized x) = (agrees-all start st r, agrees book img (run-holds start st r) (kindOf c) x)
 agrees-all start st (cut r c sized w k left) = agrees-all start st r
 
 pub demand3 : Demand3

@@ -16,18 +16,18 @@ use Rattle.model.specs.Entry.{headerSize, Value, keyOf, headerFront, headerRest
 use Rattle.model.specs.Walk.{Entry, stateOf}
 use Rattle.model.specs.Region.{entries, tailAt, tail, valuesOf, added, replacing, standing}
 use Rattle.model.specs.Work.{usedRecords, pending, idle}
-use Rattle.model.specs.Change.{Change, nothing, remove, put, changeIn, step}
-use Rattle.model.specs.Rules.{setBroken, getBroken, nextBroken, startUpBroken, formatBroken}
+use Rattle.model.specs.Change.{Change, nothing, remove, put, step, steps}
+use Rattle.model.specs.Rules.{formatBroken}
 use Rattle.model.specs.Stores.{Store, byte, erase, Write, header, clear, stores, storesOne, todaysOne, bytewise, applyAll, after, run, mark, erases}
 use Rattle.model.specs.Compact.{encode, allUsed, nextRecord, fillSpare, finish, compactTo, compactOn}
-use Rattle.model.specs.Set.{Plan, refuse, make, markState, leftover, entryStores, tailTo, tailOn, deleteTo, fitsTail, putPlan, changePlan, setPlan}
-use Rattle.model.specs.StartUp.{resume, tidySpare, tidyWork, tidyTail, andThen, startUpStores, startUpPlan, formatStores, formatPlan}
-use Rattle.model.specs.Answers.{done, stopped, storesOf, pageOf, outcome, getPlan, nextPlan}
-use Rattle.model.specs.Book.{Call, set, get, next, startUp, planOf}
+use Rattle.model.specs.Set.{Plan, refuse, make, markState, leftover, entryStores, tailTo, tailOn, deleteTo, fitsTail, putPlan, changePlan, changesPlan}
+use Rattle.model.specs.StartUp.{resume, tidySpare, tidyWork, tidyTail, andThen, startUpStores, formatStores, formatPlan}
+use Rattle.model.specs.Answers.{done, stopped, storesOf, pageOf, outcome}
+use Rattle.model.specs.Book.{Call, callBroken, Kind, reads, writes, startsUp, kindOf, doing, planOf}
 use Rattle.model.proofs.Stores.{stores-append, stores-one, stores-run, stores-mark, pages-bytewise, one-today, stores-todays, left-today}
 use Rattle.model.proofs.Failing.{outcome-none, image-none}
 use Rattle.model.proofs.Encode.{length-front}
-use Rattle.recovery.specs.Today.{TodaysStores, erasesToday, stateMark, leftoverToday, entryToday, tailToday, deleteToday, finishToday, compactToday, changeToday, resumeToday, spareToday, workToday, restToday, thenToday, startUpToday, formatToday, callToday, TodaysSequence, answerToday, TodaysAnswers}
+use Rattle.recovery.specs.Today.{TodaysStores, erasesToday, stateMark, leftoverToday, entryToday, tailToday, deleteToday, finishToday, compactToday, changeToday, resumeToday, spareToday, workToday, restToday, thenToday, startUpToday, formatToday, changesToday, doingToday, callToday, TodaysSequence, answerToday, TodaysAnswers}
 
 -- ---- any writes
 
@@ -174,17 +174,21 @@ is-format : (img : List ℕ) → Is (formatStores img) (formatToday img)
 unfolding formatStores formatToday
 is-format img = is-append (is-erases 0 (2 * blocks img + 1)) (is-run 0 (regionHeader (regionSize img)))
 
-none-today : (o : Option Rule) → storesOf 1 (onSome o refuse (make [] [])) ≡ []
+changes-today : (img : List ℕ) (cs : List Change) → storesOf 1 (changesPlan img cs) ≡ changesToday img cs
 unfolding storesOf stores
-none-today none = refl
-none-today (some rule) = refl
+changes-today img [] = refl
+changes-today img (c ∷ []) = change-today img c
+changes-today img (c ∷ d ∷ cs) = is-compact img (steps (c ∷ d ∷ cs) (valuesOf img)) .is
+
+doing-today : (k : Kind) (img : List ℕ) → storesOf 1 (doing k img) ≡ doingToday k img
+unfolding storesOf stores
+doing-today reads img = refl
+doing-today (writes changes) img = changes-today img (changes (valuesOf img))
+doing-today startsUp img = is-startUp img .is
 
 call-today : (c : Call) (img : List ℕ) → storesOf 1 (planOf c img) ≡ callToday c img
-unfolding planOf callToday setPlan getPlan nextPlan startUpPlan storesOf
-call-today (set s r) img = plan-some (setBroken s r img) (changePlan img (changeIn r (valuesOf img))) (changeToday img (changeIn r (valuesOf img))) (change-today img (changeIn r (valuesOf img)))
-call-today (get s k buffer) img = none-today (getBroken s k buffer img)
-call-today (next s k buffer) img = none-today (nextBroken s k buffer img)
-call-today (startUp setup) img = plan-some (startUpBroken img) (make [] (startUpStores img)) (startUpToday img) (is-startUp img .is)
+unfolding planOf callToday
+call-today c img = plan-some (callBroken c img) (doing (kindOf c) img) (doingToday (kindOf c) img) (doing-today (kindOf c) img)
 
 pub todays-sequence : TodaysSequence
 unfolding formatPlan storesOf

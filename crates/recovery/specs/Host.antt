@@ -17,10 +17,8 @@ use Rattle.model.specs.Region.{valuesOf, find}
 use Rattle.model.specs.Request.{Request, requestKey}
 use Rattle.model.specs.Limits.{limitsFor}
 use Rattle.model.specs.Stores.{Bytes, stores, applyAll, Cut}
-use Rattle.model.specs.Set.{setPlan}
 use Rattle.model.specs.StartUp.{startUpPlan}
-use Rattle.model.specs.Answers.{getPlan, nextPlan}
-use Rattle.model.specs.Book.{Call, set, get, next, startUp, Sized, bookAfter}
+use Rattle.model.specs.Book.{Call, set, planOf, Sized, bookAfter}
 use Rattle.plan.specs.declared.HostPlan.{HostPlan}
 use Rattle.plan.specs.Told.{expandNumbers, Told}
 use Rattle.recovery.specs.Claims.{forbidden}
@@ -34,10 +32,7 @@ StartUpPlanned part content p = Told (startUpPlan part) content p
 -- A call was planned over these bytes. `vs_plan_set` ensures it of its own arguments. It and `vs_plan_start_up` require nothing, so such a plan exists for every set
 -- and every start-up, on any part. A get or next-name has no planning function: as a step its plan is its refusal, or operations without a store.
 abbrev pub PlannedFor : Call → List ℕ → List ℕ → HostPlan → Type 0
-PlannedFor (set s r) part content p = Told (setPlan s r part) content p
-PlannedFor (get s k buffer) part content p = Told (getPlan s k buffer part) content p
-PlannedFor (next s k buffer) part content p = Told (nextPlan s k buffer part) content p
-PlannedFor (startUp setup) part content p = StartUpPlanned part content p
+PlannedFor c part content p = Told (planOf c part) content p
 
 -- the part when all operations are carried out, in stores of at most w bytes; after a refusal there are none, so it is as before
 abbrev pub carriedOut : ℕ → List ℕ → HostPlan → List ℕ → List ℕ

@@ -18,22 +18,15 @@ use Rattle.model.specs.Session.{freshSession, movedTo}
 use Rattle.model.specs.Request.{Request, requestKey}
 use Rattle.model.specs.Limits.{limitsFor}
 use Rattle.model.specs.Stores.{Bytes, Cut}
-use Rattle.model.specs.Set.{setPlan}
-use Rattle.model.specs.StartUp.{startUpPlan}
-use Rattle.model.specs.Answers.{answerOf, outcome, imageAfter, madeOf, pageOf, storesOf, decided, getPlan, nextPlan, lockSession}
+use Rattle.model.specs.Answers.{answerOf, outcome, imageAfter, madeOf, pageOf, storesOf, decided, lockSession}
 use Rattle.model.specs.Move.{moveAnswer, imageMoved}
-use Rattle.model.specs.Book.{Call, set, get, next, startUp, planOf, Sized, counts, bookAfter}
+use Rattle.model.specs.Book.{Call, set, startUp, planOf, Sized, counts, bookAfter}
 use Rattle.recovery.specs.Claims.{forbidden}
 
 -- A call of the interface has returned: its arguments, its context, the image before and after, and the answer. `engine::write::set`, `engine::read::get` and `next_name`, which
 -- are lent the image shared, and `engine::start::start_up` ensure it of their own arguments, for every input.
 abbrev pub Returned : Call → Context → List ℕ → List ℕ → Answer → Type 0
-Returned (set s r) x img img′ a =
-    (answerOf a ≡ outcome x (setPlan s r img) img) × (img′ ≡ imageAfter x (setPlan s r img) img)
-Returned (get s k buffer) x img img′ a = (answerOf a ≡ outcome x (getPlan s k buffer img) img) × (img′ ≡ img)
-Returned (next s k buffer) x img img′ a = (answerOf a ≡ outcome x (nextPlan s k buffer img) img) × (img′ ≡ img)
-Returned (startUp setup) x img img′ a =
-    (answerOf a ≡ outcome x (startUpPlan img) img) × (img′ ≡ imageAfter x (startUpPlan img) img)
+Returned c x img img′ a = (answerOf a ≡ outcome x (planOf c img) img) × (img′ ≡ imageAfter x (planOf c img) img)
 
 -- 02 (d): a move from one form to another has returned: the source, the target before and after, and the answer. `convert::move_values` ensures it of its own
 -- arguments, for any two forms and every input; it is lent the source shared.

@@ -15,14 +15,14 @@ use Rattle.model.specs.Entry.{headerSize, Value, keyOf, headerFront, headerRest
 use Rattle.model.specs.Walk.{Entry, stateOf}
 use Rattle.model.specs.Region.{entries, tailAt, tail, valuesOf, added, replacing, standing}
 use Rattle.model.specs.Work.{usedRecords, pending, idle}
-use Rattle.model.specs.Change.{Change, nothing, remove, put, changeIn, step}
-use Rattle.model.specs.Rules.{setBroken, startUpBroken, formatBroken}
+use Rattle.model.specs.Change.{Change, nothing, remove, put, step, steps}
+use Rattle.model.specs.Rules.{formatBroken}
 use Rattle.model.specs.Stores.{Store, byte, erase, Write, stores, bytewise, todays, applyAll, after}
 use Rattle.model.specs.Compact.{encode, allUsed, nextRecord}
 use Rattle.model.specs.Set.{Plan, refuse, make, fitsTail}
 use Rattle.model.specs.StartUp.{formatPlan}
 use Rattle.model.specs.Answers.{Outcome, done, stopped, refused, ruleNumber, storesOf, pageOf, outcome, imageAfter}
-use Rattle.model.specs.Book.{Call, set, get, next, startUp, planOf}
+use Rattle.model.specs.Book.{Call, callBroken, Kind, reads, writes, startsUp, kindOf, planOf}
 
 -- ---- of any writes
 
@@ -89,6 +89,12 @@ changeToday img (put v) =
     (tailToday (tailAt (region img)) v (entries (region img)))
     (compactToday img (step (put v) (valuesOf img)))
 
+-- of several changes one compaction, with all of them folded in
+abbrev pub changesToday : List ℕ → List Change → List Store
+changesToday img [] = []
+changesToday img (c ∷ []) = changeToday img c
+changesToday img (c ∷ d ∷ cs) = compactToday img (steps (c ∷ d ∷ cs) (valuesOf img))
+
 -- "Start-up: if pending, resume at the erase of the region. Then erase the spare's blocks if it is not all FF, the work block if it is not well formed or ends in FC, and
 -- compact with no change if the tail is not all FF."
 unfoldable pub resumeToday : List ℕ → List Store
@@ -113,12 +119,15 @@ startUpToday img = thenToday resumeToday (thenToday spareToday (thenToday workTo
 unfoldable pub formatToday : List ℕ → List Store
 formatToday img = erasesToday 0 (2 * blocks img + 1) ++ bytewise 0 (regionHeader (regionSize img))
 
--- a refused call makes no stores, and neither does a get or a next-name
+-- by kinds: a get or a next-name makes no stores,
+abbrev pub doingToday : Kind → List ℕ → List Store
+doingToday reads img = []
+doingToday (writes changes) img = changesToday img (changes (valuesOf img))
+doingToday startsUp img = startUpToday img
+
+-- and neither does a refused call
 unfoldable pub callToday : Call → List ℕ → List Store
-callToday (set s r) img = onSome (setBroken s r img) (λ rule. []) (changeToday img (changeIn r (valuesOf img)))
-callToday (get s k buffer) img = []
-callToday (next s k buffer) img = []
-callToday (startUp setup) img = onSome (startUpBroken img) (λ rule. []) (startUpToday img)
+callToday c img = onSome (callBroken c img) (λ rule. []) (doingToday (kindOf c) img)
 
 abbrev pub TodaysSequence : Type 0
 TodaysSequence =
