@@ -19,10 +19,12 @@ use Rattle.model.specs.Walk.{Entry, entryValue, placed}
 use Rattle.model.specs.Region.{entries, values, valuesOf, valuesIn}
 use Rattle.model.specs.Session.{countedPhase, atRuntime}
 use Rattle.model.specs.Rules.{firstBroken, rule3, rule3Next, rule11Read, rule14, valueToGet, valueToName, gotBytes, namedBytes, getBroken, nextBroken}
-use Rattle.model.specs.Answers.{ruleNumber, refusal, written, done, refused, outcome, getReply, nextReply, getPlan, nextPlan}
+use Rattle.model.specs.Answers.{ruleNumber, refusal, written, done, refused, outcome, getReply, nextReply}
 use Rattle.model.specs.Beside.{Gives}
 use Rattle.model.specs.Book as book
+use Rattle.model.specs.Book.{planOf}
 use Rattle.recovery.specs.Interface.{Returned}
+use Rattle.recovery.proofs.Interface.{reading-image}
 use Rattle.model.specs.Set.{refuse, make}
 use Rattle.model.specs.declared.Session.{Session}
 use Rattle.model.specs.declared.Context.{Context}
@@ -158,9 +160,9 @@ pub get-answered : (x : Context) (s : Session) (k : Key) (buffer img : List ℕ)
     → Read img (valueToGet (atRuntime s) k (valuesOf img)) gotBytes (λ v. v .attributes) buffer (wellNamed (k .name)) got after
     → Returned (book.get s k buffer) x img img (got .answer)
     × Gives (getReply s k buffer img) (got .size) (got .attributes) (got .needed) after
-unfolding getPlan getReply getBroken rule3 readBroken replyOf
+unfolding planOf getReply getBroken rule3 readBroken replyOf
 get-answered x s k buffer img h =
-    ((h .answer ∙ sym (no-stores x (getBroken s k buffer img) img), refl), (h .size, h .attributes, h .needed, h .buffer))
+    ((h .answer ∙ sym (no-stores x (getBroken s k buffer img) img), sym (reading-image x (book.get s k buffer) img refl)), (h .size, h .attributes, h .needed, h .buffer))
 
 -- a name has no attributes
 no-attributes : (s : Session) (k : Key) (buffer img : List ℕ) → nextReply s k buffer img .attributes ≡ 0
@@ -177,6 +179,6 @@ pub next-answered : (x : Context) (s : Session) (k : Key) (buffer img : List ℕ
     → Answered (nextBrokenAt (s .phase) k buffer img) (nextReplyAt (s .phase) k buffer img) got after
     → Returned (book.next s k buffer) x img img (got .answer)
     × Gives (nextReply s k buffer img) (got .size) 0 (got .needed) after
-unfolding nextPlan nextReply nextBroken rule3Next readBroken replyOf atRuntime
+unfolding planOf nextReply nextBroken rule3Next readBroken replyOf atRuntime
 next-answered x s k buffer img h =
-    ((h .answer ∙ sym (no-stores x (nextBroken s k buffer img) img), refl), (h .size, sym (no-attributes s k buffer img), h .needed, h .buffer))
+    ((h .answer ∙ sym (no-stores x (nextBroken s k buffer img) img), sym (reading-image x (book.next s k buffer) img refl)), (h .size, sym (no-attributes s k buffer img), h .needed, h .buffer))

@@ -24,7 +24,7 @@ use Rattle.model.specs.Limits.{limitsFor}
 use Rattle.model.specs.Change.{Change, nothing, remove, put, changeIn, newData, newStamp, newValue}
 use Rattle.model.specs.Rules.{firstBroken, termsOf, imageRules, requestRules, standingRules, itemRules, settingRules, roomRules, rule8, setBroken, imageRulesIn}
 use Rattle.model.specs.Stores.{Store, Bytes}
-use Rattle.model.specs.Set.{Plan, refuse, make, fitsTail, deleteTo, putPlan, changePlan, setPlan}
+use Rattle.model.specs.Set.{Plan, refuse, make, fitsTail, deleteTo, putPlan, changePlan}
 use Rattle.model.specs.Answers.{storesOf}
 use Rattle.model.proofs.Chunks.{sound-parts}
 use Rattle.model.proofs.Values.{find-standing}
@@ -34,7 +34,7 @@ use Rattle.values.specs.declared.Places.{Places}
 use Rattle.image.proofs.Ready.{refused-rule}
 use Rattle.image.specs.Check.{callOf, IsReady}
 use Rattle.image.specs.declared.Check.the-variants.{Refused}
-use Rattle.model.specs.Book.{set, planOf, Sized, ClearsOne, isState, isRecord, inPlace}
+use Rattle.model.specs.Book.{set, planOf, setPlan, Sized, ClearsOne, isState, isRecord, inPlace}
 use Rattle.recovery.proofs.Bits.{marks-clear-one-bit}
 use Rattle.plan.specs.declared.Op.{Op}
 use Rattle.plan.specs.declared.Planned.{Planned}
@@ -54,7 +54,7 @@ use Rattle.engine.proofs.Bits.{remove-clears}
 
 -- rule 1 or 2 is broken
 pub image-refused : (s : Session) (q : Request) (img : List ℕ) (rule : Rule) → callOf img ≡ Refused rule → setPlan s q img ≡ refuse rule
-unfolding setPlan setBroken
+unfolding planOf setBroken
 image-refused s q img rule h =
     let vs : List Value = valuesOf img in
     let i : List (Rule × Bool) = imageRules img in
@@ -108,13 +108,13 @@ module _ (s : Session) (name vendor : List ℕ) (a : ℕ) (bytes : List ℕ) (pr
   broken = set-broken s q img (ready .unbroken) ∙ ap brokenOf decided
 
   plan : (c : Change) → brokenOf what ≡ none → changeIn q (valuesOf img) ≡ c → setPlan s q img ≡ changePlan img c
-  unfolding setPlan
+  unfolding planOf
   plan c n e = rw (broken ∙ n, e)
 
   -- ---- refused, or no stores
 
   pub set-refused : {rule : Rule} → what ≡ decision.Broken rule → setPlan s q img ≡ refuse rule
-  unfolding setPlan
+  unfolding planOf
   set-refused h = rw (broken ∙ ap brokenOf h)
 
   pub set-nothing : what ≡ decision.Nothing → setPlan s q img ≡ make [] []
@@ -209,7 +209,7 @@ module _ (s : Session) (name vendor : List ℕ) (a : ℕ) (bytes : List ℕ) (pr
   -- *what was planned*
   pub put-plans : what ≡ decision.Put → Bytes img → Sized (set s q) → (before : List ℕ) {c : List ℕ} {p : Planned} → PutPlanned img (valueToPut img name vendor a bytes) c p
       → Plans (setPlan s q img) img before c p
-  unfolding planOf inPlace
+  unfolding inPlace
   put-plans h bytes-img args before {c} {p} d =
       let v = valueToPut img name vendor a bytes in
       record {
@@ -219,6 +219,6 @@ module _ (s : Session) (name vendor : List ℕ) (a : ℕ) (bytes : List ℕ) (pr
         ready =
             d .ready
             (λ fits w. subst (λ (ss : List Store). ClearsOne (isState img) ss img) (ap (storesOf w) (put-plan h))
-            (marks-clear-one-bit w img bytes-img (set s q) args .1 (ap (inPlace img) (asked-change h) ∙ fits)))
+            (marks-clear-one-bit w img bytes-img (set s q) args .1 (changeIn q (valuesOf img)) refl (ap (inPlace img) (asked-change h) ∙ fits)))
             (λ w. subst (λ (ss : List Store). ClearsOne (isRecord img) ss img) (ap (storesOf w) (put-plan h)) (marks-clear-one-bit w img bytes-img (set s q) args .0));
       }

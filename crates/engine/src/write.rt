@@ -2,12 +2,11 @@
 ghost use mathlib.Core.Path.{_≡_};
 ghost use Prim.Native.Nat.{_≤_};
 ghost use lib.ListN.{length};
-ghost use Rattle.model.specs.Set.{setPlan};
 ghost use Rattle.model.specs.StartUp.{formatPlan};
 ghost use Rattle.model.specs.Stores.{Bytes};
 ghost use Rattle.model.specs.Answers.{answerOf, outcome, imageAfter};
 ghost use Rattle.model.specs.Book as book;
-ghost use Rattle.model.specs.Book.{Sized};
+ghost use Rattle.model.specs.Book.{setPlan, Sized};
 ghost use Rattle.recovery.specs.Interface.{Returned};
 ghost use Rattle.image.specs.Check.{IsReady};
 ghost use Rattle.decision.specs.Decision.{requestOf};

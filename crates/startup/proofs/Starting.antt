@@ -112,7 +112,7 @@ plan-stores img b t f n = rw (plan-makes img b t f)
 -- records of a start-up clear one bit each
 records-clear : (img : List ℕ) (b : ℕ) (t : Bool) → Accepted img b t → Bytes img → (xs : List Write) → startUpStores img ≡ xs
     → (n : ℕ) → ClearsOne (isRecord img) (stores n xs) img
-unfolding planOf
+unfolding planOf startUpPlan
 records-clear img b t f bytes xs e n =
     subst (λ (l : List Store). ClearsOne (isRecord img) l img) (plan-stores img b t f n ∙ ap (stores n) e)
     (marks-clear-one-bit n img bytes (startUp plainSetup) tt .0)

@@ -1,4 +1,6 @@
 -- `capi::vs_start_up` meets its contract: it is the engine's, with the answer in numbers. Assumes nothing.
+use Rattle.model.specs.StartUp.{startUpPlan}
+use Rattle.model.specs.Book.{planOf}
 use mathlib.Core.Path.{ap, _∙_}
 use Rattle.capi.specs.Numbers.{numbersOf}
 use borrow.Author.Needs.{needs}
@@ -15,6 +17,7 @@ same-length : tie.Need-same-length
 same-length c = search needs
 
 returns : tie.Need-returns
+unfolding planOf startUpPlan
 returns c =
     let e = c .before .before .before .before .start-up .ensures in (c .numbers .ensures ∙ ap numbersOf (e .0 .0), e .1, e .0 .1, e .2)
 

@@ -1,5 +1,7 @@
 -- `engine::start::start_up` meets its contract: planned, then carried out. Assumes nothing.
 use denote.Ref.{now}
+use Rattle.model.specs.StartUp.{startUpPlan}
+use Rattle.model.specs.Book.{planOf}
 use Rattle.engine.proofs.Carrying.{planned-end}
 use borrow.Author.Needs.{needs}
 use Rattle.engine.proofs.start.start_up.Statement.{statement}
@@ -18,6 +20,7 @@ same-length : tie.Need-same-length
 same-length c = search needs
 
 returns : tie.Need-returns
+unfolding planOf startUpPlan
 returns c =
     let a = c .before .before .before .before .before .before .before .before .before .before .before .args in
     (planned-end (a .c) (now (a .image)) (c .before .before .before .before .before .before .plan-start-up .ensures .same) (c .before .before .carry-out .ensures), c .before .before .before .before .before .before .before .before .before .fresh .ensures, c .before .before .before .before .before .before .plan-start-up .ensures .kept)
