@@ -17,19 +17,23 @@ use varstore::paper::region;
 
 const BLOCK: usize = 4096;
 const VENDOR: Guid = [1, 2, 3, 4, 5, 6, 7, 8, 9, 10, 11, 12, 13, 14, 15, 16];
+const NONE: Variable = (Vec::new(), VENDOR);
 const BEGIN: Key = Key { name: &[0, 0], vendor: &VENDOR };
+
+/// A name with its GUID.
+type Variable = (Vec<u8>, Guid);
 
 /// What a turn works on: the variable is the one that it gets or sets.
 struct Desk {
     session: Session,
-    variable: Vec<u8>,
+    variable: Variable,
     image: Vec<u8>,
     buffer: [u8; 2048],
 }
 
 struct Case {
     name: &'static str,
-    variable: Vec<u8>,
+    variable: Variable,
     image: Vec<u8>,
     turns: usize,
     turn: fn(&Calls, &mut Desk) -> Answer,
@@ -86,25 +90,32 @@ fn name(text: &str) -> Vec<u8> {
 }
 
 /// Names of one front that differ late, as the settings of a device do.
-fn numbered(index: usize) -> Vec<u8> {
-    name(&format!("SET{index:04}"))
+fn numbered(index: usize) -> Variable {
+    (name(&format!("SET{index:04}")), VENDOR)
 }
 
 /// The smallest name of a number.
-fn single(index: usize) -> Vec<u8> {
-    name(char::from_u32(1 + index as u32).expect("a small number").encode_utf8(&mut [0; 4]))
+fn single(index: usize) -> Variable {
+    (name(char::from_u32(1 + index as u32).expect("a small number").encode_utf8(&mut [0; 4])), VENDOR)
 }
 
-/// Names of so many characters that differ in the fifth and in the last but one, whose sum is one. Each is in one word of those that the engine's check makes its marks
+/// Names of so many characters that differ in the second and the fifth, whose sum is one. Each of these is in one word of those that the engine's check makes its marks
 /// from, at the same place in it, so that every mark is the same.
-fn alike(index: usize, characters: usize) -> Vec<u8> {
-    let [fifth, late] = [0x100 + index as u32, 0x4000 - index as u32].map(|number| char::from_u32(number).expect("a character"));
-    name(&format!("Same{fifth}{:x<1$}{late}x", "", characters - 7))
+fn alike(index: usize, characters: usize) -> Variable {
+    let [second, fifth] = [0x4000 - index as u32, 0x100 + index as u32].map(|number| char::from_u32(number).expect("a character"));
+    (name(&format!("S{second}me{fifth}{:x<1$}", "", characters - 5)), VENDOR)
 }
 
-fn put(region: &mut Vec<u8>, name: &[u8], data: &[u8]) {
+/// One name under GUIDs whose first words differ by multiples of 1,279 places times 128 signs, so that every mark is the same.
+fn alike_under(index: usize) -> Variable {
+    let mut vendor = VENDOR;
+    vendor[..8].copy_from_slice(&(index as u64 * 1279 * 128).to_le_bytes());
+    (name("AB"), vendor)
+}
+
+fn put(region: &mut Vec<u8>, variable: &Variable, data: &[u8]) {
     let contents = Contents { attributes: 0x07, stamp: &[0; 16], old: data, new: &[] };
-    entry::write::<Authenticated>(region, Key { name, vendor: &VENDOR }, &contents);
+    entry::write::<Authenticated>(region, Key { name: &variable.0, vendor: &variable.1 }, &contents);
 }
 
 /// A region's bytes up to its tail, made an image: work block and spare are blank.
@@ -120,15 +131,15 @@ fn region_of(blocks: usize, count: usize) -> Vec<u8> {
     region
 }
 
-/// Seven blocks full of values of one byte under these names, and the last name.
-fn full_of(names: impl Fn(usize) -> Vec<u8>) -> (Vec<u8>, Vec<u8>) {
-    let (mut region, mut last) = (region_of(7, 0), Vec::new());
-    for name in (0..).map(names) {
-        if region.len() + (60 + name.len() + 1).next_multiple_of(4) > 7 * BLOCK {
+/// Seven blocks full of values of one byte, and the last of these variables.
+fn full_of(variables: impl Fn(usize) -> Variable) -> (Vec<u8>, Variable) {
+    let (mut region, mut last) = (region_of(7, 0), NONE);
+    for variable in (0..).map(variables) {
+        if region.len() + (60 + variable.0.len() + 1).next_multiple_of(4) > 7 * BLOCK {
             break;
         }
-        put(&mut region, &name, &[1]);
-        last = name;
+        put(&mut region, &variable, &[1]);
+        last = variable;
     }
     (region, last)
 }
@@ -145,7 +156,7 @@ fn crowded(count: usize) -> Vec<u8> {
 }
 
 fn get(calls: &Calls, desk: &mut Desk) -> Answer {
-    let key = Key { name: &desk.variable, vendor: &VENDOR };
+    let key = Key { name: &desk.variable.0, vendor: &desk.variable.1 };
     (calls.get)(Context::NO_LIMIT, &desk.session, &desk.image, key, &mut desk.buffer).answer
 }
 
@@ -155,7 +166,7 @@ fn check(calls: &Calls, desk: &mut Desk) -> Answer {
 
 /// Replaces a value by another of the same length.
 fn replace(calls: &Calls, desk: &mut Desk) -> Answer {
-    let key = Key { name: &desk.variable, vendor: &VENDOR };
+    let key = Key { name: &desk.variable.0, vendor: &desk.variable.1 };
     let request = Request { key, attributes: 0x07, data: &[0x5A; 50], presence: 0, verdict: 0 };
     (calls.set)(Context::NO_LIMIT, &desk.session, &mut desk.image, &request)
 }
@@ -182,16 +193,18 @@ fn cases() -> Vec<Case> {
     let (smallest, last) = full_of(single);
     let (alike63, last63) = full_of(|index| alike(index, 63));
     let (alike17, last17) = full_of(|index| alike(index, 17));
+    let (under, last_under) = full_of(alike_under);
     vec![
         case("get the last of 200 values", numbered(199), region_of(7, 200), 7, 20, get, done(0)),
         case("get the last of 421 smallest", last, smallest.clone(), 7, 5, get, done(0)),
-        case("check 421 smallest entries", Vec::new(), smallest, 7, 5, check, done(0)),
+        case("check 421 smallest entries", NONE, smallest, 7, 5, check, done(0)),
         case("replace in the tail, b = 1", numbered(0), region_of(1, 20), 1, 50, replace, done(129)),
         case("set in the tail, 200 values", numbered(0), region_of(7, 200), 7, 20, replace, done(129)),
         case("compact seven blocks, 204", numbered(0), crowded(204), 7, 5, replace, done(57361)),
-        case("next-name over 200 values", Vec::new(), region_of(7, 200), 7, 2, names, end),
+        case("next-name over 200 values", NONE, region_of(7, 200), 7, 2, names, end),
         case("get, all marks equal, 149", last63, alike63, 7, 2, get, done(0)),
         case("get, all marks equal, 286", last17, alike17, 7, 2, get, done(0)),
+        case("get, all marks equal, 421", last_under, under, 7, 2, get, done(0)),
     ]
 }
 
