@@ -4,6 +4,7 @@ import argparse
 import contextlib
 import os
 import re
+import shutil
 import sys
 import traceback
 
@@ -106,18 +107,24 @@ def absent(path):
 
 def put(files, say, over=False, folder=None):
     """bytes by path: all of the files, each whole, or none, and they have their names only after all that `say` prints is out. One that is there is refused, or with
-    `over` replaced; the folder is made where it is not there."""
-    made, new = [], folder is not None and not os.path.isdir(folder)
+    `over` replaced, with the permissions that it has; the folder is made where it is not there."""
+    made, folders = [], []
     try:
-        if new:
+        for one in missing(folder) if folder is not None else []:
             with about(folder):
-                os.makedirs(folder)
+                os.mkdir(one)
+                folders.append(one)
         for path, held in files:
             with about(path):
-                if over and os.path.exists(path) and not os.path.isfile(path):
+                replaces = over and os.path.exists(path)
+                if replaces and not os.path.isfile(path):
                     raise Refused("it is no file that could be replaced")
+                if replaces and not os.access(path, os.W_OK):
+                    raise Refused("it is read-only")
                 with open(beside(path), "xb") as file:
                     made.append(file.name)
+                    if replaces:
+                        shutil.copymode(path, file.name)
                     file.write(held)
         say()
         all_said()
@@ -132,9 +139,17 @@ def put(files, say, over=False, folder=None):
         for path in made:
             with contextlib.suppress(FileNotFoundError):
                 os.unlink(path)
-        if new and os.path.isdir(folder):
-            os.rmdir(folder)
+        for one in reversed(folders):
+            # what another tool has put there stays
+            with contextlib.suppress(OSError):
+                os.rmdir(one)
         raise
+
+
+def missing(folder):
+    """the folders that have to be made for it, the outermost first"""
+    path = os.path.abspath(folder)
+    return [] if os.path.isdir(path) else missing(os.path.dirname(path)) + [path]
 
 
 def beside(path):

@@ -1,5 +1,6 @@
 """What tools/volume, tools/convert, tools/records and tools/settings know of stores: the variable store in a firmware volume or SPI dump, what keeps a region from
 being sound in words, images made of entries, what a start-up finds in them, and what can be read of a store that no start-up would take."""
+import argparse
 import struct
 
 from desk import Refused, about, read, shown, tell
@@ -270,9 +271,9 @@ def offset_of(text):
     try:
         offset = int(text, 0)
     except ValueError:
-        raise Refused("--at: this is no offset: %s" % text) from None
+        raise argparse.ArgumentTypeError("this is no offset: %s" % text) from None
     if offset < 0:
-        raise Refused("--at: an offset is 0 or more: %s" % text)
+        raise argparse.ArgumentTypeError("an offset is 0 or more: %s" % text)
     return offset
 
 
