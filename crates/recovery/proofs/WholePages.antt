@@ -26,6 +26,8 @@ use Rattle.model.specs.Change.{put, changeIn, step, spaceOf}
 use Rattle.model.specs.Rules.{setBroken}
 use Rattle.model.specs.Stores.{Store, page, erase, Write, write, header, clear, pages, stores, storesOne, apply, applyAll, leftBy, leftByOne, run, mark, erases, Every, widthOf}
 use Rattle.model.specs.Compact.{encode, allUsed, nextRecord, fillSpare, finish, compactTo, compactOn}
+use Rattle.model.specs.Set.{setPlan, changePlan, putPlan, fitsTail}
+use Rattle.model.specs.Answers.{storesOf}
 use Rattle.model.specs.StartUp.{resume, tidySpare, tidyWork, tidyTail, andThen, startUpStores}
 use Rattle.model.specs.Book.{isRecord}
 use Rattle.model.proofs.Parts.{Parts, right-parts, parts-blocks, parts-size, parts-region, parts-work, parts-spare}
@@ -39,7 +41,7 @@ use Rattle.recovery.proofs.Compaction.{mul-add-one, clean-sound}
 use Rattle.recovery.proofs.StartingUp.{Ready, ready-of, pending-parts}
 use Rattle.recovery.proofs.BitsOfSets.{clean-chunked}
 use Rattle.recovery.proofs.Chip.{blocks-whole}
-use Rattle.recovery.specs.Chip.{WholePage, WholeOrRecord, InWholePages, Compacted, WholePagesStored, StateBlank, StatesBlank, StoresLeave}
+use Rattle.recovery.specs.Chip.{WholePage, WholeOrRecord, InWholePages, WholePagesStored, StateBlank, StatesBlank, StoresLeave}
 
 -- ---- whole pages
 
@@ -109,7 +111,7 @@ module _ (n : ℕ) (img : List ℕ) where
         (whole-append (erases 0 b ++ run 0 bs) m (whole-append (erases 0 b) (run 0 bs) (whole-erases 0 b) copied) (whole-mark place 0xF8 l))
         (whole-erases (b + 1) b)
 
-  compaction-whole : (vs : List Value) → AllValid authenticated vs → spaceOf vs ≤ regionSize img → Compacted n img vs
+  compaction-whole : (vs : List Value) → AllValid authenticated vs → spaceOf vs ≤ regionSize img → InWholePages n img (compactTo img vs ++ compactOn img vs)
   unfolding compactTo compactOn regionSize
   compaction-whole vs valid fits =
       let bs = encode (regionSize img) vs in
@@ -143,22 +145,29 @@ resume-whole n img l = go (pending img) refl
         finish-whole n img (spare img) long (usedRecords (work img) - 1) inside
     go false h = tt
 
+tidy-whole : (n : ℕ) (img : List ℕ) → rightLength img ≡ true → sound (region img) ≡ true → InWholePages n img (tidyTail img)
+unfolding tidyTail stores
+tidy-whole n img l h = go (allFF (tail (region img)))
+  where
+    go : (t : Bool) → InWholePages n img (cond t [] (compactTo img (valuesOf img) ++ compactOn img (valuesOf img)))
+    go true = tt
+    go false =
+        let i = right-parts img l in
+        let v = values-valid img (i .parts) (i .whole) (ap sound (sym (ap region (i .whole) ∙ parts-region (i .parts))) ∙ h) in
+        compaction-whole n img (valuesOf img) (v .0) (v .1)
+
 pub whole-pages-stored : WholePagesStored
-whole-pages-stored n img = (of-set, of-start, resume-whole n img)
+unfolding setPlan changePlan putPlan storesOf
+whole-pages-stored n img = (of-set, tidy-whole n img, resume-whole n img)
   where
     of-set : (s : Session) (r : Request) (v : Value) → length (r .vendor) ≡ 16 → setBroken s r img ≡ none → changeIn r (valuesOf img) ≡ put v
-        → Compacted n img (step (put v) (valuesOf img))
-    of-set s r v long accepted asked =
+        → fitsTail (region img) v ≡ false → Every (WholeOrRecord (widthOf n) img) (storesOf (widthOf n) (setPlan s r img))
+    of-set s r v long accepted asked short =
         let i = ready-of img (set-length s r img accepted) (set-ready s r img accepted) in
         let valid = values-valid img (i .parts) (i .whole) (clean-sound (i .r) (i .cleaned)) .0 in
-        compaction-whole n img (step (put v) (valuesOf img)) (put-valid authenticated v (valuesOf img) (put-is-valid s r img accepted v asked long) valid)
-        (put-fits s r img accepted v asked)
-
-    of-start : rightLength img ≡ true → sound (region img) ≡ true → Compacted n img (valuesOf img)
-    of-start l h =
-        let i = right-parts img l in
-        let t = values-valid img (i .parts) (i .whole) (ap sound (sym (ap region (i .whole) ∙ parts-region (i .parts))) ∙ h) in
-        compaction-whole n img (valuesOf img) (t .0) (t .1)
+        rw (accepted, asked, short)
+        (compaction-whole n img (step (put v) (valuesOf img)) (put-valid authenticated v (valuesOf img) (put-is-valid s r img accepted v asked long) valid)
+        (put-fits s r img accepted v asked))
 
 -- ---- what writes leave
 

@@ -1,9 +1,9 @@
 -- 02 (i): what the chip is asked to do. Each claim is a type.
 use Prim.Native.Nat.{ℕ, _+_, _%_, _≤_}
 use mathlib.Core.Path.{_≡_}
-use mathlib.Core.Bool.{true}
+use mathlib.Core.Bool.{true, false}
 use mathlib.Core.Logic.{_⊎_}
-use mathlib.Core.List.{List, [], _∷_, _++_}
+use mathlib.Core.List.{List, [], _∷_}
 use mathlib.Core.Option.{none}
 use lib.ListN.{length, getD}
 use Rattle.model.specs.declared.Session.{Session}
@@ -12,11 +12,12 @@ use Rattle.model.specs.Entry.{Value}
 use Rattle.model.specs.Region.{sound, valuesOf}
 use Rattle.model.specs.Work.{pending}
 use Rattle.model.specs.Request.{Request}
-use Rattle.model.specs.Change.{put, changeIn, step}
+use Rattle.model.specs.Change.{put, changeIn}
 use Rattle.model.specs.Rules.{setBroken}
 use Rattle.model.specs.Stores.{Store, page, erase, Write, write, header, clear, stores, applyAll, leftBy, leftByOne, mark, byte, Every, widthOf}
-use Rattle.model.specs.Compact.{compactTo, compactOn}
-use Rattle.model.specs.StartUp.{resume, startUpStores}
+use Rattle.model.specs.Set.{setPlan, fitsTail}
+use Rattle.model.specs.Answers.{storesOf}
+use Rattle.model.specs.StartUp.{resume, tidyTail, startUpStores}
 use Rattle.model.specs.Book.{isRecord}
 
 -- "The new flash stores up to w bytes at a time, within one page of w": whatever is written
@@ -39,11 +40,7 @@ WholeOrRecord w img (erase b) = Unit {0}
 abbrev pub InWholePages : ℕ → List ℕ → List Write → Type 0
 InWholePages n img ws = Every (WholeOrRecord (widthOf n) img) (stores (widthOf n) ws)
 
--- all stores of a compaction that leaves a list of values
-abbrev pub Compacted : ℕ → List ℕ → List Value → Type 0
-Compacted n img vs = InWholePages n img (compactTo img vs ++ compactOn img vs)
-
--- there are three: a set's, a start-up's with no change, and the one that a start-up resumes
+-- there are three: a set's, where its entry does not fit in the tail; a start-up's with no change; and the one that a start-up resumes
 abbrev pub WholePagesStored : Type 0
 WholePagesStored =
     (n : ℕ) (img : List ℕ)
@@ -51,8 +48,9 @@ WholePagesStored =
     → length (r .vendor) ≡ 16
     → setBroken s r img ≡ none
     → changeIn r (valuesOf img) ≡ put v
-    → Compacted n img (step (put v) (valuesOf img)))
-    × (rightLength img ≡ true → sound (region img) ≡ true → Compacted n img (valuesOf img))
+    → fitsTail (region img) v ≡ false
+    → Every (WholeOrRecord (widthOf n) img) (storesOf (widthOf n) (setPlan s r img)))
+    × (rightLength img ≡ true → sound (region img) ≡ true → InWholePages n img (tidyTail img))
     × (rightLength img ≡ true → InWholePages n img (resume img))
 
 -- what is written leaves the same for every w, where the state of each header that is written is blank, as it is in a blank tail
