@@ -26,10 +26,10 @@ use Rattle.model.specs.Change.{put, changeIn, step, spaceOf}
 use Rattle.model.specs.Rules.{setBroken}
 use Rattle.model.specs.Stores.{Store, page, erase, Write, write, header, clear, pages, stores, storesOne, apply, applyAll, leftBy, leftByOne, run, mark, erases, Every, widthOf}
 use Rattle.model.specs.Compact.{encode, allUsed, nextRecord, fillSpare, finish, compactTo, compactOn}
-use Rattle.model.specs.Set.{setPlan, changePlan, putPlan, fitsTail}
+use Rattle.model.specs.Set.{changePlan, putPlan, fitsTail}
 use Rattle.model.specs.Answers.{storesOf}
 use Rattle.model.specs.StartUp.{resume, tidySpare, tidyWork, tidyTail, andThen, startUpStores}
-use Rattle.model.specs.Book.{isRecord}
+use Rattle.model.specs.Book.{setPlan, planOf, isRecord}
 use Rattle.model.proofs.Parts.{Parts, right-parts, parts-blocks, parts-size, parts-region, parts-work, parts-spare}
 use Rattle.model.proofs.Chunks.{region-chunked}
 use Rattle.model.proofs.Encode.{AllValid, encode-length, sound-valid, sound-fits, put-valid}
@@ -157,7 +157,7 @@ tidy-whole n img l h = go (allFF (tail (region img)))
         compaction-whole n img (valuesOf img) (v .0) (v .1)
 
 pub whole-pages-stored : WholePagesStored
-unfolding setPlan changePlan putPlan storesOf
+unfolding planOf changePlan putPlan storesOf
 whole-pages-stored n img = (of-set, tidy-whole n img, resume-whole n img)
   where
     of-set : (s : Session) (r : Request) (v : Value) → length (r .vendor) ≡ 16 → setBroken s r img ≡ none → changeIn r (valuesOf img) ≡ put v

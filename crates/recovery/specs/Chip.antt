@@ -15,10 +15,10 @@ use Rattle.model.specs.Request.{Request}
 use Rattle.model.specs.Change.{put, changeIn}
 use Rattle.model.specs.Rules.{setBroken}
 use Rattle.model.specs.Stores.{Store, page, erase, Write, write, header, clear, stores, applyAll, leftBy, leftByOne, mark, byte, Every, widthOf}
-use Rattle.model.specs.Set.{setPlan, fitsTail}
+use Rattle.model.specs.Set.{fitsTail}
 use Rattle.model.specs.Answers.{storesOf}
 use Rattle.model.specs.StartUp.{resume, tidyTail, startUpStores}
-use Rattle.model.specs.Book.{isRecord}
+use Rattle.model.specs.Book.{setPlan, isRecord}
 
 -- "The new flash stores up to w bytes at a time, within one page of w": whatever is written
 abbrev pub OnePage : ℕ → Store → Type 0
