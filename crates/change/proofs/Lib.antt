@@ -7,5 +7,3 @@ pub mod Ready
 pub mod Folded
 -- A put in the tail
 pub mod Tail
--- The value to put, by what the functions of the call read of it
-pub mod Wanted

@@ -1,27 +1,20 @@
 -- The value that a put stores, and what the checks of the call leave to it.
 use Prim.Native.Nat.{ℕ, _≤_}
 use mathlib.Core.Path.{_≡_}
-use mathlib.Core.Bool.{true, cond, _&&_}
-use mathlib.Core.List.{List, [], _++_}
+use mathlib.Core.Bool.{true}
+use mathlib.Core.List.{List}
 use lib.ListN.{length}
-use Rattle.model.specs.Lists.{onSome}
-use Rattle.model.specs.Name.{keyed}
 use Rattle.model.specs.Image.{regionSize, region}
 use Rattle.model.specs.Entry.{Value, keyOf}
-use Rattle.model.specs.Region.{entries, valuesOf, added, replacing, find}
-use Rattle.model.specs.Request.{Request, timeBased, appends}
-use Rattle.model.specs.Change.{put, laterOf, newValue, step, spaceOf}
+use Rattle.model.specs.Region.{entries, valuesOf, added, replacing}
+use Rattle.model.specs.Change.{put, step, spaceOf}
 use Rattle.model.specs.Set.{fitsTail, putPlan}
 use Rattle.model.specs.Answers.{storesOf}
 use Rattle.model.specs.Book.{ClearsOne, isState, isRecord}
 use Rattle.model.specs.Beside.{Valid}
-use Rattle.region.specs.Walk.{stampAt}
-use Rattle.values.specs.declared.Found.{Found}
-use Rattle.values.specs.declared.Found.the-variants.{At, Nothing}
 use Rattle.values.specs.Found.{foundOf}
 use Rattle.values.specs.declared.Places.{Places}
 use Rattle.image.specs.Check.{IsReady}
-use Rattle.policy.specs.Descriptor.{stampIn}
 use Rattle.plan.specs.declared.Planned.{Planned}
 use Rattle.plan.specs.Plan.{Ready}
 use Rattle.plan.specs.Planned.{plannedAs, decidesRight}
@@ -30,29 +23,6 @@ use Rattle.plan.specs.Planned.{plannedAs, decidesRight}
 abbrev pub valued : List ℕ → List ℕ → ℕ → List ℕ → List ℕ → Value
 valued name vendor attributes stamp bytes =
     record { name = name; vendor = vendor; attributes = attributes; stamp = stamp; bytes = bytes }
-
--- a set's arguments; presence and verdict say nothing of the value to put
-abbrev pub requested : List ℕ → List ℕ → ℕ → List ℕ → Request
-requested name vendor attributes bytes =
-    record { name = name; vendor = vendor; attributes = attributes; bytes = bytes; presence = 0; verdict = 0 }
-
--- the value that a set puts over those of an image
-unfoldable pub valueToPut : List ℕ → List ℕ → List ℕ → ℕ → List ℕ → Value
-valueToPut img name vendor attributes bytes =
-    newValue (requested name vendor attributes bytes) (find (keyed name vendor) (valuesOf img))
-
--- "Append joins the data": those of the name's value, then those given
-unfoldable pub appended : List ℕ → List ℕ → List ℕ → List ℕ → List ℕ
-appended img name vendor own = onSome (find (keyed name vendor) (valuesOf img)) (λ v. v .bytes) [] ++ own
-
--- the stamp given over that of the value found, if any: the later of the two
-unfoldable pub stampOver : List ℕ → Found → List ℕ → List ℕ
-stampOver r (At at e) given = laterOf given (stampIn (stampAt r at))
-stampOver r Nothing given = given
-
--- the stamp that a set stores, by what stands, attributes and the one given: an append's with 0x20 is the later of the two
-unfoldable pub stampKept : List ℕ → Found → ℕ → List ℕ → List ℕ
-stampKept r old a given = cond (appends a && timeBased a) (stampOver r old given) given
 
 -- before a value is put: the image is ready, of b blocks and with its tail at an offset, the places are those of the name's entries, and the value is one that a
 -- region can hold (a GUID is 16 bytes by its type) and has room beside the others

@@ -1,66 +1,25 @@
 // The plan of a put: the value that a set asks for is stored in the tail, or with a compaction. What is to be stored is composed in the content.
 ghost use mathlib.Core.Path.{_≡_};
-ghost use mathlib.Core.Bool.{true, false, cond};
-ghost use mathlib.Core.List.{[], _++_};
+ghost use mathlib.Core.Bool.{true, false};
+ghost use mathlib.Core.List.{_++_};
 ghost use Prim.Native.Nat.{_^_, _≤_, _<_};
 ghost use lib.ListN.{length};
 ghost use Rattle.model.specs.Image.{regionHeader, region};
 ghost use Rattle.model.specs.Region.{entries, values};
 ghost use Rattle.model.specs.Change.{put, step};
 ghost use Rattle.model.specs.Compact.{joined};
-ghost use Rattle.model.specs.Request.{appends};
 ghost use Rattle.model.specs.Set.{fitsTail};
-ghost use Rattle.model.specs.Rules.{rule8};
-ghost use Rattle.values.specs.Found.{elseFound, oldData};
 ghost use Rattle.output.specs.Text.{Wrote};
-ghost use Rattle.change.specs.Asked.{valued, valueToPut, stampOver, stampKept, Asked, PutPlanned};
+ghost use Rattle.change.specs.Asked.{valued, Asked, PutPlanned};
 use plan::Planned;
 use plan::Step;
-use region::walk;
-use values::Found;
 use values::Places;
-use values::lookup;
 
 // What stands in an image that is ready: its number of blocks, the offset of its tail, and where the entries of the name are.
 pub struct Standing {
     pub b: usize,
     pub tail: usize,
     pub places: Places,
-}
-
-// "Append joins the data": those that a set keeps.
-fn kept_data(region: &[u8], places: Places, attributes: u32) -> &[u8]
-    ensures { λ r. ⌜ now r ≡ cond (appends attributes) (oldData (now (region .entry)) (elseFound (places .added) (places .replacing))) [] ⌝ }
-{
-    if policy::appends(attributes) {
-        return lookup::old_data(region, lookup::standing(places));
-    }
-    &region[..0]
-}
-
-// The stamp given, over that of the value that stands: the later of the two.
-fn stamp_over(region: &[u8], standing: Found, given: &[u8; 16]) -> [u8; 16]
-    ensures { λ r. ⌜ r ≡ stampOver (now (region .entry)) standing (now (given .entry)) ⌝ }
-{
-    match standing {
-        Found::At(at, _) => {
-            let old = policy::stamp_in(walk::stamp_of(region, at));
-            policy::later_of(given, &old)
-        }
-        Found::Nothing => *given,
-    }
-}
-
-// The stamp to store: of an append with 0x20 the later of the two, of any other set the one given.
-fn kept_stamp(region: &[u8], places: Places, asked: u32, given: &[u8; 16]) -> [u8; 16]
-    ensures { λ r. ⌜ r ≡ stampKept (now (region .entry)) (elseFound (places .added) (places .replacing)) asked (now (given .entry)) ⌝ }
-{
-    if policy::appends(asked) {
-        if policy::time_based(asked) {
-            return stamp_over(region, lookup::standing(places), given);
-        }
-    }
-    *given
 }
 
 // The front of the region after the change: its header and the values in flash order, the changed one last.
@@ -157,8 +116,8 @@ fn in_tail(
     )
 }
 
-// A value stored: "In the tail, if the rounded entry fits".
-fn put_value(
+// The plan of a value that is put: "In the tail, if the rounded entry fits". Its data are those kept, then those given.
+pub fn put_value(
     image: &[u8],
     standing: Standing,
     name: &[u8],
@@ -196,43 +155,6 @@ fn put_value(
         vendor,
         attributes,
         stamp,
-        old,
-        own,
-        content,
-    )
-}
-
-// The plan of the value that a set asks for: without 0x40; an append's data behind the old, with the later stamp.
-pub fn put(
-    image: &[u8],
-    standing: Standing,
-    name: &[u8],
-    vendor: &[u8; 16],
-    attributes: u32,
-    bytes: &[u8],
-    content: &mut [u8],
-) -> Planned
-    requires { ⌜ Asked (now image) (standing .b) (standing .tail) (standing .places) (valueToPut (now image) (now name) (now vendor) attributes (now bytes))
-        × (rule8 attributes (now bytes) ≡ false)
-        × (length (now content) ≡ 28672) ⌝ }
-    ensures { λ r.
-        ⌜ PutPlanned (now (image .entry)) (valueToPut (now (image .entry)) (now (name .entry)) (now (vendor .entry)) attributes (now (bytes .entry)))
-        (now (content .exit)) r ⌝ }
-{
-    let given = policy::stamp(attributes, bytes);
-    let kept = policy::without_append(attributes);
-    let own = policy::proper(attributes, bytes);
-    let places = standing.places;
-    let region = slices::cut(image, 0, layout::BLOCK * standing.b);
-    let old = kept_data(region, places, attributes);
-    let stamp = kept_stamp(region, places, attributes, &given);
-    put_value(
-        image,
-        standing,
-        name,
-        vendor,
-        kept,
-        &stamp,
         old,
         own,
         content,

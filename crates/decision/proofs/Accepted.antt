@@ -21,7 +21,7 @@ use Rattle.model.specs.Region.{maxData, valuesOf, find}
 use Rattle.model.specs.Request.{Request, requestKey, dataProper}
 use Rattle.model.specs.Limits.{limitsFor}
 use Rattle.model.specs.Change.{Change, nothing, remove, put, deletes, emptyAppend, equalTo, newValue, changeOf, changeIn}
-use Rattle.model.specs.Rules.{firstBroken, rule12, termsOf, imageRules, requestRules, standingRules, resultRules, itemRules, settingRules, roomRules, setBroken}
+use Rattle.model.specs.Rules.{firstBroken, rule8, rule12, termsOf, imageRules, requestRules, standingRules, resultRules, itemRules, settingRules, roomRules, setBroken}
 use Rattle.model.proofs.Requests.{broken-append, unbroken}
 use Rattle.decision.specs.declared.Decision.{Decision}
 use Rattle.decision.specs.declared.Decision.the-variants.{Nothing, Remove, Put}
@@ -111,6 +111,13 @@ module _ (ls : List Limit) (t : Terms) (q : Request) (size : ℕ) (vs : List Val
   unfolding decisionOf
   kind-of k b h =
       decided-none (firstBroken (itemRules t q vs ++ settingRules ls q (find (requestKey q) vs) ++ roomRules t size (changeIn q vs ∷ []) vs)) (kindOf (changeIn q vs)) k h b .1
+
+  -- a value is put where its descriptor is right
+  pub put-formed : decisionOf ls t q size vs ≡ Put → rule8 (q .attributes) (q .bytes) ≡ false
+  unfolding decisionOf itemRules requestRules standingRules
+  put-formed h =
+      unbroken _ 8
+      (decided-none (firstBroken (itemRules t q vs ++ settingRules ls q (find (requestKey q) vs) ++ roomRules t size (changeIn q vs ∷ []) vs)) (kindOf (changeIn q vs)) Put h refl .0)
 
   pub nothing-change : decisionOf ls t q size vs ≡ Nothing → changeIn q vs ≡ nothing
   nothing-change h = kind-nothing (changeIn q vs) (kind-of Nothing refl h)

@@ -8,7 +8,7 @@ use mathlib.Core.Path.{_≡_, refl, sym, ap, ap₂, _∙_}
 use mathlib.Core.Bool.{Bool, true, false, not, cond, _&&_, _||_}
 use mathlib.Core.List.{List, [], _∷_, _++_}
 use mathlib.Core.Option.{Option, none, some}
-use lib.ListN.{length, length-append}
+use lib.ListN.{length, drop, length-append}
 use lib.Dec.{ltb}
 use Rattle.model.specs.Layout.{authenticated}
 use Rattle.model.specs.declared.Limit.{Limit}
@@ -20,8 +20,8 @@ use Rattle.model.specs.Name.{Key}
 use Rattle.model.specs.Entry.{Value, headerSize, rounded, entrySize}
 use Rattle.model.specs.Walk as walk
 use Rattle.model.specs.Region.{maxData, recordBit, sound, entries, values, standing, find}
-use Rattle.model.specs.Request.{Request, requestKey, appends, keyPK, userMode, wantedVerdicts, dataProper, stampToStore, later}
-use Rattle.model.specs.Change.{Change, nothing, remove, put, deletes, emptyAppend, equalTo, newData, newValue, changeOf, changeIn, step, steps, entrySizes, isErrorRecord, recordSizes, otherSizes}
+use Rattle.model.specs.Request.{Request, requestKey, timeBased, appends, withoutAppend, keyPK, userMode, wantedVerdicts, properAt, dataProper, stampToStore, later}
+use Rattle.model.specs.Change.{Change, nothing, remove, put, deletes, emptyAppend, equalTo, newData, laterOf, newStamp, newValue, changeOf, changeIn, step, steps, entrySizes, isErrorRecord, recordSizes, otherSizes}
 use Rattle.model.specs.Rules.{firstBroken, rule7, rule8, rule9, rule10, rule11, rule12, rule13, rule18, rule21, wantedOf, requestRules, standingRules, resultRules, itemRules, settingRules, roomRules}
 use Rattle.model.proofs.Requests.{broken-append, unbroken, record-append}
 use Rattle.model.proofs.Chunks.{sound-parts}
@@ -33,11 +33,12 @@ use Rattle.values.specs.declared.Found.the-variants as found
 use Rattle.limits.specs.Broken.{brokenBy, leavesSome}
 use Rattle.limits.proofs.Tried.{tried-as}
 use Rattle.policy.specs.Descriptor.{stampOf}
-use Rattle.policy.proofs.Descriptor.{stamp-right}
+use Rattle.policy.proofs.Descriptor.{stamp-right, proper-drop}
 use Rattle.decision.specs.declared.Decision.{Decision}
 use Rattle.decision.specs.declared.Decision.the-variants.{Broken, Nothing, Remove, Put}
-use Rattle.decision.specs.Decision.{requestOf, kindOf, decided, itemOf, decisionOf}
-use Rattle.decision.specs.Parts.{onFound, valueAt, stands, standingBy, notLater, verdictBy, equalBy, kindBy, keptData, leavesBy, newSize, oldRecords, oldOthers, recordsAfter, othersAfter, roomBy, roomAfter, resultBy, outcomeBy, limitedBy, roomedBy}
+use Rattle.decision.specs.Decision.{requestOf, kindOf, decided, itemOf, decisionOf, valueBy}
+use Rattle.decision.specs.declared.NewValue.{NewValue}
+use Rattle.decision.specs.Parts.{onFound, valueAt, stands, standingBy, notLater, verdictBy, equalBy, kindBy, keptData, stampOver, stampKept, leavesBy, newSize, oldRecords, oldOthers, recordsAfter, othersAfter, roomBy, roomAfter, resultBy, outcomeBy, limitedBy, roomedBy}
 use Rattle.decision.proofs.Broken.{later-broken}
 use Rattle.decision.proofs.Old.{stands-some, old-value, mode-standing, stamp-read}
 use Rattle.decision.proofs.Space.{sizeIf, sizeOf, old-counts, put-sizes, all-sizes}
@@ -83,6 +84,13 @@ stamp-numbers : (r : List ℕ) (q : Request) → rule8 (q .attributes) (q .bytes
 unfolding notLater stampAt entryAs walk.placed
 stamp-numbers r q k (found.At at e) h = ap₂ (λ (a b : List ℕ). not (later a b)) (stamp-right q k) (sym (stamp-read r (requestKey q) at e h))
 stamp-numbers r q k found.Nothing h = refl
+
+kept-numbers : (r : List ℕ) (q : Request) → rule8 (q .attributes) (q .bytes) ≡ false → (old : Found) → old ≡ foundOf (standing (requestKey q) (entries r))
+    → newStamp q (valueAt r old) ≡ stampKept r old (q .attributes) (stampOf (q .attributes) (q .bytes))
+unfolding newStamp stampKept stampOver stampAt entryAs walk.placed
+kept-numbers r q k (found.At at e) h =
+    ap₂ (λ (a b : List ℕ). cond (appends (q .attributes) && timeBased (q .attributes)) (laterOf a b) a) (stamp-right q k) (sym (stamp-read r (requestKey q) at e h))
+kept-numbers r q k found.Nothing h = ap (λ (a : List ℕ). cond (appends (q .attributes) && timeBased (q .attributes)) a a) (stamp-right q k)
 
 -- and of its size, by its class
 records-numbers : (r : List ℕ) (old : Found) → sizeOf isErrorRecord (valueAt r old) ≡ oldRecords r old
@@ -212,11 +220,15 @@ module _ (t : Terms) (q : Request) (r : List ℕ) (sounds : sound r ≡ true) (o
   abbrev new : Value
   new = newValue q (find (requestKey q) vs)
 
-  pub new-size : newSize r old (q .attributes) (length (dataProper q)) ≡ length (new .bytes)
+  -- the size of its data
+  abbrev its-size : ℕ
+  its-size = newSize r old (q .attributes) (length (dataProper q))
+
+  pub new-size : its-size ≡ length (new .bytes)
   unfolding newValue
   new-size = sym (ap (λ (o : Option Value). length (newData q o)) (sym value) ∙ size-numbers r q old)
 
-  result-here : decided (firstBroken (resultRules q (find (requestKey q) vs))) (kindOf (changeIn q vs)) ≡ outcomeBy r old (q .attributes) (dataProper q)
+  result-here : decided (firstBroken (resultRules q (find (requestKey q) vs))) (kindOf (changeIn q vs)) ≡ outcomeBy r old (q .attributes) (dataProper q) its-size
   unfolding resultRules changeIn changeOf outcomeBy kindBy
   result-here =
       let a : ℕ = q .attributes in
@@ -230,13 +242,13 @@ module _ (t : Terms) (q : Request) (r : List ℕ) (sounds : sound r ≡ true) (o
 
   -- rules 3 to 12 and 17, and the change
   item-here : itemOf t q vs
-      ≡ decided (firstBroken (requestRules t q)) (decided (firstBroken parts) (outcomeBy r old (q .attributes) (dataProper q)))
+      ≡ decided (firstBroken (requestRules t q)) (decided (firstBroken parts) (outcomeBy r old (q .attributes) (dataProper q) its-size))
   unfolding itemOf itemRules
   item-here =
       let a : List (Rule × Bool) = requestRules t q in
       let b : List (Rule × Bool) = standingRules t q (userMode vs) (find (requestKey q) vs) in
       let c : List (Rule × Bool) = resultRules q (find (requestKey q) vs) in
-      let end : Decision = outcomeBy r old (q .attributes) (dataProper q) in
+      let end : Decision = outcomeBy r old (q .attributes) (dataProper q) its-size in
       ap (λ (o : Option Rule). decided o (kindOf (changeIn q vs))) (broken-append (a ++ b) c)
       ∙ decided-else (firstBroken (a ++ b)) (firstBroken c) (kindOf (changeIn q vs))
       ∙ ap₂ decided (broken-append a b) result-here
@@ -251,7 +263,7 @@ module _ (t : Terms) (q : Request) (r : List ℕ) (sounds : sound r ≡ true) (o
     pub standing-broken : (rule : Rule) → firstBroken parts ≡ some rule → itemOf t q vs ≡ Broken rule
     standing-broken rule a = item-here ∙ rw (kept, a)
 
-    pub none-broken : firstBroken parts ≡ none → itemOf t q vs ≡ outcomeBy r old (q .attributes) (dataProper q)
+    pub none-broken : firstBroken parts ≡ none → itemOf t q vs ≡ outcomeBy r old (q .attributes) (dataProper q) its-size
     none-broken a = item-here ∙ rw (kept, a)
 
   -- ---- the rules for its name
@@ -283,7 +295,7 @@ module _ (t : Terms) (q : Request) (r : List ℕ) (sounds : sound r ≡ true) (o
 
   -- the size of the entry to write, and its class
   abbrev size : ℕ
-  size = rounded (headerSize + length (q .name) + newSize r old (q .attributes) (length (dataProper q)))
+  size = rounded (headerSize + length (q .name) + its-size)
 
   new-entry : size ≡ entrySize new
   unfolding newValue
@@ -349,3 +361,21 @@ module _ (t : Terms) (q : Request) (r : List ℕ) (sounds : sound r ≡ true) (o
       (ap (λ (o : Option Rule). decided o (kindOf c)) (broken-append a ((Setting, b) ∷ []))
       ∙ limited-cases (firstBroken a) b c
       ∙ ap (λ (f : Bool). limitedBy f (decided (firstBroken a) (kindOf c))) (sym (forbidden-here ls)))
+
+  -- ---- the value to put
+
+  pub value-here : rule8 (q .attributes) (q .bytes) ≡ false → (p : NewValue)
+      → (p .attributes ≡ withoutAppend (q .attributes))
+      × (p .stamp ≡ stampKept r old (q .attributes) (stampOf (q .attributes) (q .bytes)))
+      × (p .keeps ≡ appends (q .attributes))
+      × (p .own ≡ cond (timeBased (q .attributes)) (properAt (q .bytes)) 0)
+      → valueBy r (q .name) (q .vendor) (q .bytes) old p ≡ new
+  unfolding valueBy newValue keptData
+  value-here k p e =
+      let stamp : p .stamp ≡ newStamp q (find (requestKey q) vs) = e .1 ∙ sym (kept-numbers r q k old h) ∙ ap (newStamp q) value in
+      let bytes : cond (p .keeps) (oldData r old) [] ++ drop (p .own) (q .bytes) ≡ newData q (find (requestKey q) vs) =
+      ap₂ (λ (b : Bool) (n : ℕ). cond b (oldData r old) [] ++ drop n (q .bytes)) (e .2) (e .3)
+      ∙ ap (λ (l : List ℕ). cond (appends (q .attributes)) (oldData r old) [] ++ l) (proper-drop (q .attributes) (q .bytes))
+      ∙ sym (data-numbers r q old)
+      ∙ ap (newData q) value in
+      rw (e .0, stamp, bytes)

@@ -13,8 +13,8 @@ use Rattle.model.specs.Image.{regionHeaderSize}
 use Rattle.model.specs.Entry.{Value, entrySize}
 use Rattle.model.specs.Walk.{entryValue}
 use Rattle.model.specs.Region.{maxData, recordBit, entries, values}
-use Rattle.model.specs.Request.{appends, later}
-use Rattle.model.specs.Change.{deletes, emptyAppend, equalTo, recordSizes, otherSizes}
+use Rattle.model.specs.Request.{timeBased, appends, later}
+use Rattle.model.specs.Change.{deletes, emptyAppend, equalTo, laterOf, recordSizes, otherSizes}
 use Rattle.model.specs.Rules.{rule7, rule8, rule9}
 use Rattle.layout.specs.declared.Entry as numbers
 use Rattle.region.specs.Walk.{entryAt, stampAt}
@@ -74,6 +74,14 @@ kindBy r old a proper =
 unfoldable pub keptData : List ℕ → Found → ℕ → List ℕ
 keptData r old a = cond (appends a) (oldData r old) []
 
+-- the stamp given over that of what stands, if anything does: the later of the two
+unfoldable pub stampOver : List ℕ → Found → List ℕ → List ℕ
+stampOver r old given = onFound old (λ at e. laterOf given (stampIn (stampAt r at))) given
+
+-- the stamp that a set stores: an append's with 0x20 is the later of the two
+unfoldable pub stampKept : List ℕ → Found → ℕ → List ℕ → List ℕ
+stampKept r old a given = cond (appends a && timeBased a) (stampOver r old given) given
+
 -- a value would stand after a set, by what stands, attributes and the size of its data proper
 unfoldable pub leavesBy : Found → ℕ → ℕ → Bool
 leavesBy old a size = not (deletes a size) && (not (emptyAppend a size) || stands old)
@@ -113,9 +121,9 @@ resultBy there Nothing size = Nothing
 resultBy there Remove size = cond there Remove (Broken Absent)
 resultBy there Put size = cond (ltb maxData size) (Broken DataSize) Put
 
--- what a set that breaks none of rules 3 to 10 comes to: by what stands, attributes and data proper
-unfoldable pub outcomeBy : List ℕ → Found → ℕ → List ℕ → Decision
-outcomeBy r old a proper = resultBy (stands old) (kindBy r old a proper) (newSize r old a (length proper))
+-- what a set that breaks none of rules 3 to 10 comes to: by what stands, attributes, data proper, and the size of the data that would stand
+unfoldable pub outcomeBy : List ℕ → Found → ℕ → List ℕ → ℕ → Decision
+outcomeBy r old a proper size = resultBy (stands old) (kindBy r old a proper) size
 
 -- rule 21, by whether one of the rules for the name is broken
 unfoldable pub limitedBy : Bool → Decision → Decision

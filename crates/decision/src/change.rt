@@ -1,20 +1,23 @@
 // What a set asks for, and rules 11, 12, 21, 18 and 13 on its result.
 ghost use mathlib.Core.Path.{_≡_};
-ghost use mathlib.Core.Bool.{true};
-ghost use mathlib.Core.List.{_++_};
-ghost use mathlib.Core.Option.{none};
+ghost use mathlib.Core.Bool.{true, false, cond};
+ghost use mathlib.Core.List.{[], _++_};
 ghost use Prim.Native.Nat.{_+_, _<_, _≤_, _^_};
 ghost use lib.ListN.{length};
 ghost use Rattle.model.specs.Name.{keyed};
-ghost use Rattle.model.specs.Entry.{rounded};
+ghost use Rattle.model.specs.Entry.{headerSize, rounded};
 ghost use Rattle.model.specs.Region.{recordBit, entries, values, tailAt};
+ghost use Rattle.model.specs.Request.{timeBased, appends, withoutAppend, properAt};
 ghost use Rattle.model.specs.Limits.{limitsFor};
 ghost use Rattle.model.specs.Change.{recordSizes, otherSizes};
 ghost use Rattle.model.specs.Rules.{firstBroken};
 ghost use Rattle.limits.specs.Broken.{brokenBy};
-ghost use Rattle.decision.specs.Parts.{judgedOf, stands, equalBy, kindBy, keptData, leavesBy, newSize, oldRecords, oldOthers, recordsAfter, othersAfter, roomBy, roomAfter, resultBy, outcomeBy, limitedBy, roomedBy};
+ghost use Rattle.values.specs.Found.{oldData};
+ghost use Rattle.policy.specs.Descriptor.{stampOf};
+ghost use Rattle.decision.specs.Parts.{judgedOf, stands, equalBy, kindBy, stampOver, stampKept, leavesBy, oldRecords, oldOthers, recordsAfter, othersAfter, roomBy, roomAfter, resultBy, outcomeBy, limitedBy, roomedBy};
 use crate::Decision;
 use crate::Judged;
+use crate::NewValue;
 use model::Rule;
 use model::Setup;
 use model::Terms;
@@ -65,14 +68,56 @@ fn kind(region: &[u8], old: Found, attributes: u32, proper: &[u8]) -> Decision
     Decision::Put
 }
 
-// "Append joins the data": those that a set keeps.
-fn kept_data(region: &[u8], old: Found, attributes: u32) -> &[u8]
-    ensures { λ r. ⌜ now r ≡ keptData (now (region .entry)) old attributes ⌝ }
+// "Append joins the data": those of what is there, where a set keeps them.
+pub fn kept_data(region: &[u8], old: Found, keeps: bool) -> &[u8]
+    ensures { λ r. ⌜ now r ≡ cond keeps (oldData (now (region .entry)) old) [] ⌝ }
 {
-    if policy::appends(attributes) {
+    if keeps {
         return lookup::old_data(region, old);
     }
     &region[..0]
+}
+
+// The stamp given, over that of the value that is there: the later of the two.
+fn stamp_over(region: &[u8], old: Found, given: &[u8; 16]) -> [u8; 16]
+    ensures { λ r. ⌜ r ≡ stampOver (now (region .entry)) old (now (given .entry)) ⌝ }
+{
+    match old {
+        Found::At(at, _) => {
+            let own = policy::stamp_in(walk::stamp_of(region, at));
+            policy::later_of(given, &own)
+        }
+        Found::Nothing => *given,
+    }
+}
+
+// The stamp to store: of an append with 0x20 the later of the two, of any other set the one given.
+fn kept_stamp(region: &[u8], old: Found, attributes: u32, given: &[u8; 16]) -> [u8; 16]
+    ensures { λ r. ⌜ r ≡ stampKept (now (region .entry)) old attributes (now (given .entry)) ⌝ }
+{
+    if policy::appends(attributes) {
+        if policy::time_based(attributes) {
+            return stamp_over(region, old, given);
+        }
+    }
+    *given
+}
+
+// The value that a set asks for, by numbers.
+pub fn value(region: &[u8], old: Found, attributes: u32, bytes: &[u8]) -> NewValue
+    ensures { λ r. ⌜ (r .attributes ≡ withoutAppend attributes)
+        × (r .stamp ≡ stampKept (now (region .entry)) old attributes (stampOf attributes (now (bytes .entry))))
+        × (r .keeps ≡ appends attributes)
+        × (r .own ≡ cond (timeBased attributes) (properAt (now (bytes .entry))) 0) ⌝ }
+{
+    let given = policy::stamp(attributes, bytes);
+    let stamp = kept_stamp(region, old, attributes, &given);
+    NewValue {
+        attributes: policy::without_append(attributes),
+        stamp,
+        keeps: policy::appends(attributes),
+        own: policy::proper_from(attributes, bytes),
+    }
 }
 
 // Whether a value would stand after a set.
@@ -91,16 +136,16 @@ fn leaves(old: Found, attributes: u32, size: usize) -> bool
 // Whether a set breaks one of the rules for its name. Without rules nothing is looked at.
 pub fn forbids(
     u: Setup,
-    region: &[u8],
     old: Found,
     name: &[u8],
     vendor: &[u8; 16],
     attributes: u32,
+    kept: &[u8],
     proper: &[u8],
 ) -> bool
     ensures { λ r. ⌜ r ≡ brokenBy (limitsFor u (keyed (now (name .entry)) (now (vendor .entry))))
         (leavesBy old attributes (length (now (proper .entry))))
-        (keptData (now (region .entry)) old attributes ++ now (proper .entry)) ⌝ }
+        (now (kept .entry) ++ now (proper .entry)) ⌝ }
 {
     if u.rules == 0 {
         return false;
@@ -110,7 +155,7 @@ pub fn forbids(
         name,
         vendor,
         leaves(old, attributes, proper.len()),
-        kept_data(region, old, attributes),
+        kept,
         proper,
     )
 }
@@ -128,15 +173,6 @@ pub fn limited(item: Decision, forbidden: bool) -> Decision
         Decision::Remove => Decision::Broken(Rule::Setting),
         Decision::Put => Decision::Broken(Rule::Setting),
     }
-}
-
-// The size of the data that would stand: an append's come behind the old.
-fn new_size(region: &[u8], old: Found, attributes: u32, size: usize) -> usize
-    requires { ⌜ size < 2 ^ 63 ⌝ }
-    ensures { λ r. ⌜ r ≡ newSize (now (region .entry)) old attributes size ⌝ }
-{
-    let kept = kept_data(region, old, attributes);
-    kept.len() + size
 }
 
 // The size that the value that stands takes, by its class.
@@ -230,46 +266,44 @@ fn remove(old: Found) -> Decision
     Decision::Broken(Rule::Absent)
 }
 
-// What a set that breaks none of rules 3 to 10 comes to, by rules 11 and 12.
-pub fn outcome(region: &[u8], old: Found, attributes: u32, proper: &[u8]) -> Decision
-    ensures { λ r. ⌜ r ≡ outcomeBy (now (region .entry)) old attributes (now (proper .entry)) ⌝ }
+// What a set that breaks none of rules 3 to 10 comes to, by rules 11 and 12; `size` is that of the data that a value to put would have.
+pub fn outcome(region: &[u8], old: Found, attributes: u32, proper: &[u8], size: usize) -> Decision
+    ensures { λ r. ⌜ r ≡ outcomeBy (now (region .entry)) old attributes (now (proper .entry)) size ⌝ }
 {
     let what = kind(region, old, attributes, proper);
     match what {
         Decision::Remove => remove(old),
-        Decision::Put => put(new_size(region, old, attributes, proper.len())),
+        Decision::Put => put(size),
         Decision::Nothing => what,
         Decision::Broken(_) => what,
     }
 }
 
-// Whether a value, no error record, fits between the tail and what is kept free. If so, rules 13 and 18 are kept whatever the sums are: all values lie before the
-// tail, so they take no more than its offset. Only the yes is proved: deleted entries lie before the tail too, so where this says no the sums may still leave room.
+// Whether a value, no error record, with so many bytes of data fits between the tail and what is kept free. Only the yes is proved: where this says no the sums may
+// still leave room, since deleted entries lie before the tail too.
 fn fits_after_tail(
     t: Terms,
     region: &[u8],
     tail: usize,
-    old: Found,
     name: usize,
     attributes: u32,
     size: usize,
 ) -> bool
-    requires { ⌜ (length (now region) ≤ 28672) × (name < 2 ^ 63) × (size < 2 ^ 63) × (tail ≡ tailAt (now region)) × (tail ≤ length (now region)) ⌝ }
-    ensures { λ r. ⌜ (r ≡ true → firstBroken (roomAfter t (now (region .entry)) old (recordBit attributes)
-        (rounded (60 + name + newSize (now (region .entry)) old attributes size))) ≡ none) ⌝ }
+    requires { ⌜ (name < 2 ^ 63) × (tail ≤ 28672) ⌝ }
+    ensures { λ r. ⌜ (r ≡ true → (recordBit attributes ≡ false)
+        × (tail + rounded (headerSize + name + size) + t .records + t .reserve ≤ length (now (region .entry)))) ⌝ }
 {
     if layout::is_error_record(attributes) {
         return false;
     }
-    let data = new_size(region, old, attributes, size);
-    if (layout::LARGEST_DATA as usize) < data {
+    if (layout::LARGEST_DATA as usize) < size {
         return false;
     }
-    let taken = tail + layout::entry_size(name, data);
+    let taken = tail + layout::entry_size(name, size);
     taken + t.records as usize + t.reserve as usize <= region.len()
 }
 
-// A decision, judged by room where a value is to be put: by the sums of all values.
+// A decision, judged by room where a value with so many bytes of data is to be put: by the sums of all values.
 fn roomed_by_sums(
     item: Decision,
     t: Terms,
@@ -279,18 +313,16 @@ fn roomed_by_sums(
     attributes: u32,
     size: usize,
 ) -> Decision
-    requires { ⌜ (length (now region) ≤ 28672) × (name < 2 ^ 63) × (size < 2 ^ 63)
+    requires { ⌜ (length (now region) ≤ 28672) × (name < 2 ^ 63)
         × (oldRecords (now region) old ≤ recordSizes (values (entries (now region))))
         × (oldOthers (now region) old ≤ otherSizes (values (entries (now region)))) ⌝ }
-    requires { ⌜ (item ≡ Decision.Put → newSize (now region) old attributes size ≤ 2048) ⌝ }
-    ensures { λ r. ⌜ r ≡ roomedBy item (firstBroken (roomAfter t (now (region .entry)) old (recordBit attributes)
-        (rounded (60 + name + newSize (now (region .entry)) old attributes size)))) ⌝ }
+    requires { ⌜ (item ≡ Decision.Put → size ≤ 2048) ⌝ }
+    ensures { λ r. ⌜ r ≡ roomedBy item (firstBroken (roomAfter t (now (region .entry)) old (recordBit attributes) (rounded (headerSize + name + size)))) ⌝ }
 {
     match item {
         Decision::Put => {
-            let new = new_size(region, old, attributes, size);
             let error = layout::is_error_record(attributes);
-            let sums = after(region, old, error, layout::entry_size(name, new));
+            let sums = after(region, old, error, layout::entry_size(name, size));
             let j = room(t, region.len(), error, sums.records, sums.others);
             match j {
                 Judged::Breaks(rule) => Decision::Broken(rule),
@@ -303,7 +335,7 @@ fn roomed_by_sums(
     }
 }
 
-// The same. The sums, which walk over the region, are made only where the tail leaves too little.
+// The same. The sums, which walk over the region, are made only where the tail leaves too little: all values lie before the tail, so they take no more than its offset.
 pub fn roomed(
     item: Decision,
     t: Terms,
@@ -314,15 +346,14 @@ pub fn roomed(
     attributes: u32,
     size: usize,
 ) -> Decision
-    requires { ⌜ (length (now region) ≤ 28672) × (name < 2 ^ 63) × (size < 2 ^ 63)
+    requires { ⌜ (length (now region) ≤ 28672) × (name < 2 ^ 63)
         × (oldRecords (now region) old ≤ recordSizes (values (entries (now region))))
         × (oldOthers (now region) old ≤ otherSizes (values (entries (now region)))) ⌝ }
-    requires { ⌜ (item ≡ Decision.Put → newSize (now region) old attributes size ≤ 2048) ⌝ }
+    requires { ⌜ (item ≡ Decision.Put → size ≤ 2048) ⌝ }
     requires { ⌜ (tail ≡ tailAt (now region)) × (tail ≤ length (now region)) ⌝ }
-    ensures { λ r. ⌜ r ≡ roomedBy item (firstBroken (roomAfter t (now (region .entry)) old (recordBit attributes)
-        (rounded (60 + name + newSize (now (region .entry)) old attributes size)))) ⌝ }
+    ensures { λ r. ⌜ r ≡ roomedBy item (firstBroken (roomAfter t (now (region .entry)) old (recordBit attributes) (rounded (headerSize + name + size)))) ⌝ }
 {
-    if fits_after_tail(t, region, tail, old, name, attributes, size) {
+    if fits_after_tail(t, region, tail, name, attributes, size) {
         return item;
     }
     roomed_by_sums(item, t, region, old, name, attributes, size)

@@ -1,19 +1,20 @@
 // The decision on a set over a sound region: the first broken of rules 3 to 13, 17, 18 and 21, or what the set does to the values.
 ghost use mathlib.Core.Path.{_≡_};
-ghost use mathlib.Core.Bool.{true};
-ghost use mathlib.Core.List.{_++_};
+ghost use mathlib.Core.Bool.{true, cond};
+ghost use mathlib.Core.List.{[], _++_};
 ghost use Prim.Native.Nat.{_≤_};
 ghost use lib.ListN.{length};
 ghost use Rattle.model.specs.Lists.{isSome};
 ghost use Rattle.model.specs.Name.{keyed};
-ghost use Rattle.model.specs.Region.{sound, entries, values, tailAt, added, replacing, standing};
-ghost use Rattle.model.specs.Request.{keyPK, wantedVerdicts};
+ghost use Rattle.model.specs.Region.{sound, entries, values, tailAt, added, replacing, standing, find};
+ghost use Rattle.model.specs.Request.{keyPK, wantedVerdicts, properOf};
 ghost use Rattle.model.specs.Limits.{limitsFor};
+ghost use Rattle.model.specs.Change.{newValue};
 ghost use Rattle.model.specs.Rules.{firstBroken};
-ghost use Rattle.values.specs.Found.{foundOf};
+ghost use Rattle.values.specs.Found.{foundOf, elseFound, oldData};
 ghost use Rattle.policy.specs.Descriptor.{stampOf};
-ghost use Rattle.decision.specs.Decision.{requestOf, itemOf, decisionOf};
-ghost use Rattle.decision.specs.Parts.{judgedOf, stands, standingBy, verdictBy};
+ghost use Rattle.decision.specs.Decision.{requestOf, itemOf, decisionOf, valueBy};
+ghost use Rattle.decision.specs.Parts.{judgedOf, stands, standingBy, verdictBy, newSize};
 use model::Rule;
 use model::Setup;
 use model::Terms;
@@ -39,10 +40,19 @@ pub struct Asking {
     pub verdict: u32,
 }
 
-// With it the places of the name's entries, which the set marks.
+// A value to put, by numbers: its attributes and stamp, whether it keeps the data of the value that is there, and where in the caller's data its own begin.
+pub struct NewValue {
+    pub attributes: u32,
+    pub stamp: [u8; 16],
+    pub keeps: bool,
+    pub own: usize,
+}
+
+// A change by numbers: what it is, the places of the name's entries, which it marks or leaves out, and the value that it puts, if it puts one.
 pub struct Decided {
     pub what: Decision,
     pub places: Places,
+    pub value: NewValue,
 }
 
 // What some of the rules say: kept, or the first broken.
@@ -88,23 +98,27 @@ fn judge_standing(
     }
 }
 
-// Rules 3 to 12 and 17 in their order, then the change.
+// Rules 3 to 12 and 17 in their order, then the change. `size` is that of the data that a value to put would have.
 fn judge(
     t: Terms,
     region: &[u8],
     old: Found,
     name: &[u8],
     vendor: &[u8; 16],
-    attributes: u32,
+    asking: Asking,
     bytes: &[u8],
-    presence: u32,
-    verdict: u32,
+    proper: &[u8],
+    size: usize,
 ) -> Decision
     requires { ⌜ sound (now region) ≡ true ⌝ }
     requires { ⌜ old ≡ foundOf (standing (keyed (now name) (now vendor)) (entries (now region))) ⌝ }
-    ensures { λ r. ⌜ r ≡ itemOf t (requestOf (now (name .entry)) (now (vendor .entry)) attributes (now (bytes .entry)) presence verdict)
+    requires { ⌜ (now proper ≡ properOf (asking .attributes) (now bytes))
+        × (size ≡ newSize (now region) old (asking .attributes) (length (now proper))) ⌝ }
+    ensures { λ r. ⌜ r ≡ itemOf t
+        (requestOf (now (name .entry)) (now (vendor .entry)) (asking .attributes) (now (bytes .entry)) (asking .presence) (asking .verdict))
         (values (entries (now (region .entry)))) ⌝ }
 {
+    let attributes = asking.attributes;
     let q = rules::request(t, name, vendor, attributes);
     match q {
         Judged::Breaks(rule) => Decision::Broken(rule),
@@ -117,21 +131,56 @@ fn judge(
                 vendor,
                 attributes,
                 bytes,
-                presence,
-                verdict,
+                asking.presence,
+                asking.verdict,
             );
             match j {
                 Judged::Breaks(rule) => Decision::Broken(rule),
-                Judged::Kept => {
-                    change::outcome(region, old, attributes, policy::proper(attributes, bytes))
-                }
+                Judged::Kept => change::outcome(region, old, attributes, proper, size),
             }
         }
     }
 }
 
-// The decision on a set, by the region and the offset of its tail, and the places of the name's entries. Whether 21 is broken is asked first, when the table of rules is
-// copied once at most, and reported in its place.
+// What a set comes to, by what is there of its name. Whether 21 is broken is asked first, when the table of rules is copied once at most, and reported in its place.
+fn decide_over(
+    u: Setup,
+    t: Terms,
+    region: &[u8],
+    tail: usize,
+    old: Found,
+    name: &[u8],
+    vendor: &[u8; 16],
+    asking: Asking,
+    bytes: &[u8],
+) -> Decision
+    requires { ⌜ sound (now region) ≡ true ⌝ }
+    requires { ⌜ length (now region) ≤ 28672 ⌝ }
+    requires { ⌜ (tail ≡ tailAt (now region)) × (tail ≤ length (now region)) ⌝ }
+    requires { ⌜ old ≡ foundOf (standing (keyed (now name) (now vendor)) (entries (now region))) ⌝ }
+    ensures { λ r. ⌜ r ≡ decisionOf (limitsFor u (keyed (now (name .entry)) (now (vendor .entry)))) t
+        (requestOf (now (name .entry)) (now (vendor .entry)) (asking .attributes) (now (bytes .entry)) (asking .presence) (asking .verdict))
+        (length (now (region .entry))) (values (entries (now (region .entry)))) ⌝ }
+{
+    let attributes = asking.attributes;
+    let proper = policy::proper(attributes, bytes);
+    let kept = change::kept_data(region, old, policy::appends(attributes));
+    let forbidden = change::forbids(u, old, name, vendor, attributes, kept, proper);
+    let size = kept.len() + proper.len();
+    let item = judge(t, region, old, name, vendor, asking, bytes, proper, size);
+    change::roomed(
+        change::limited(item, forbidden),
+        t,
+        region,
+        tail,
+        old,
+        name.len(),
+        attributes,
+        size,
+    )
+}
+
+// The decision on a set, by the region and the offset of its tail: the first broken rule, or the change by numbers.
 pub fn decide(
     u: Setup,
     t: Terms,
@@ -149,33 +198,27 @@ pub fn decide(
         (requestOf (now (name .entry)) (now (vendor .entry)) (asking .attributes) (now (bytes .entry)) (asking .presence) (asking .verdict))
         (length (now (region .entry))) (values (entries (now (region .entry)))))
         × (r .places .added ≡ foundOf (added (keyed (now (name .entry)) (now (vendor .entry))) (entries (now (region .entry)))))
-        × (r .places .replacing ≡ foundOf (replacing (keyed (now (name .entry)) (now (vendor .entry))) (entries (now (region .entry))))) ⌝ }
+        × (r .places .replacing ≡ foundOf (replacing (keyed (now (name .entry)) (now (vendor .entry))) (entries (now (region .entry)))))
+        × (r .what ≡ Decision.Put
+        → valueBy (now (region .entry)) (now (name .entry)) (now (vendor .entry)) (now (bytes .entry)) (elseFound (r .places .added) (r .places .replacing)) (r .value)
+        ≡ newValue
+        (requestOf (now (name .entry)) (now (vendor .entry)) (asking .attributes) (now (bytes .entry)) (asking .presence) (asking .verdict))
+        (find (keyed (now (name .entry)) (now (vendor .entry))) (values (entries (now (region .entry)))))) ⌝ }
 {
-    let attributes = asking.attributes;
     let places = lookup::places(region, name, vendor);
     let old = lookup::standing(places);
-    let proper = policy::proper(attributes, bytes);
-    let forbidden = change::forbids(u, region, old, name, vendor, attributes, proper);
-    let item = judge(
-        t,
-        region,
-        old,
-        name,
-        vendor,
-        attributes,
-        bytes,
-        asking.presence,
-        asking.verdict,
-    );
-    let what = change::roomed(
-        change::limited(item, forbidden),
-        t,
-        region,
-        tail,
-        old,
-        name.len(),
-        attributes,
-        proper.len(),
-    );
-    Decided { what, places }
+    let what = decide_over(u, t, region, tail, old, name, vendor, asking, bytes);
+    let value = change::value(region, old, asking.attributes, bytes);
+    Decided {
+        what,
+        places,
+        value,
+    }
+}
+
+// The data of the value that is there which a change keeps.
+pub fn kept(region: &[u8], places: Places, keeps: bool) -> &[u8]
+    ensures { λ r. ⌜ now r ≡ cond keeps (oldData (now (region .entry)) (elseFound (places .added) (places .replacing))) [] ⌝ }
+{
+    change::kept_data(region, lookup::standing(places), keeps)
 }

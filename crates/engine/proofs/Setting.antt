@@ -14,14 +14,14 @@ use Rattle.model.specs.declared.Session.{Session}
 use Rattle.model.specs.declared.Terms.{Terms}
 use Rattle.model.specs.declared.Rule.{Rule}
 use Rattle.model.specs.Lists.{part, isSome, onSome}
-use Rattle.model.specs.Name.{keyed}
+use Rattle.model.specs.Name.{Key, keyed}
 use Rattle.model.specs.Image.{block, regionSize, region}
-use Rattle.model.specs.Entry.{Value}
+use Rattle.model.specs.Entry.{Value, keyOf}
 use Rattle.model.specs.Walk as walk
 use Rattle.model.specs.Region.{entries, sound, tailAt, values, valuesOf, added, replacing, standing, find, valuesIn}
 use Rattle.model.specs.Request.{Request, requestKey, stampToStore}
 use Rattle.model.specs.Limits.{limitsFor}
-use Rattle.model.specs.Change.{Change, nothing, remove, put, changeIn, newData, newStamp, newValue}
+use Rattle.model.specs.Change.{Change, nothing, remove, put, changeIn, newValue}
 use Rattle.model.specs.Rules.{firstBroken, termsOf, imageRules, requestRules, standingRules, itemRules, settingRules, roomRules, rule8, setBroken, imageRulesIn}
 use Rattle.model.specs.Stores.{Store, Bytes}
 use Rattle.model.specs.Set.{Plan, refuse, make, fitsTail, deleteTo, putPlan, changePlan}
@@ -44,7 +44,7 @@ use Rattle.orders.specs.Entries.{Below, deletePlan}
 use Rattle.orders.proofs.EntryPlans.{delete-to, delete-on, remove-marks}
 use Rattle.orders.proofs.EntryReady.{delete-ready}
 use Rattle.orders.proofs.Found.{places-below}
-use Rattle.change.specs.Asked.{valueToPut, Asked, PutPlanned}
+use Rattle.change.specs.Asked.{Asked, PutPlanned}
 use Rattle.change.proofs.Ready.{image-long, region-size, ready-clean}
 use Rattle.decision.specs.declared.Decision.{Decision}
 use Rattle.decision.specs.declared.Decision.the-variants as decision
@@ -74,10 +74,11 @@ region-asked ready cut =
 
 -- the region that was cut, with the decision over it and the places found in it
 module _ (s : Session) (name vendor : List ℕ) (a : ℕ) (bytes : List ℕ) (presence verdict : ℕ) (places : Places)
-    {img r : List ℕ} {b at : ℕ} {what : Decision} {t : Terms} (ready : IsReady img b at) (cut : r ≡ part 0 (4096 * b) img) (told : t ≡ termsOf s (keyed name vendor))
+    {img r : List ℕ} {b at : ℕ} {what : Decision} {t : Terms} {v : Value} (ready : IsReady img b at) (cut : r ≡ part 0 (4096 * b) img) (told : t ≡ termsOf s (keyed name vendor))
     (d : (what ≡ decisionOf (limitsFor (s .setup) (keyed name vendor)) t (requestOf name vendor a bytes presence verdict) (length r) (values (entries r)))
     × (places .added ≡ foundOf (added (keyed name vendor) (entries r)))
-    × (places .replacing ≡ foundOf (replacing (keyed name vendor) (entries r)))) where
+    × (places .replacing ≡ foundOf (replacing (keyed name vendor) (entries r)))
+    × (what ≡ decision.Put → v ≡ newValue (requestOf name vendor a bytes presence verdict) (find (keyed name vendor) (values (entries r))))) where
   abbrev q : Request
   q = requestOf name vendor a bytes presence verdict
 
@@ -174,44 +175,39 @@ module _ (s : Session) (name vendor : List ℕ) (a : ℕ) (bytes : List ℕ) (pr
 
   -- ---- a put
 
-  new-plain : newValue q (find (keyed name vendor) (valuesOf img)) ≡ valueToPut img name vendor a bytes
-  unfolding valueToPut newValue newData newStamp stampToStore
-  new-plain = refl
+  asked-change : what ≡ decision.Put → changeIn q (valuesOf img) ≡ put v
+  unfolding valuesIn
+  asked-change h =
+      put-change ls terms q (regionSize img) (valuesOf img) (decided ∙ h)
+      ∙ ap put (sym (d .3 h ∙ ap (λ (x : List ℕ). newValue q (find (keyed name vendor) (values (entries x)))) its-region))
 
-  asked-change : what ≡ decision.Put → changeIn q (valuesOf img) ≡ put (valueToPut img name vendor a bytes)
-  asked-change h = put-change ls terms q (regionSize img) (valuesOf img) (decided ∙ h) ∙ ap put new-plain
-
-  pub put-plan : what ≡ decision.Put → setPlan s q img ≡ putPlan img (valueToPut img name vendor a bytes)
+  pub put-plan : what ≡ decision.Put → setPlan s q img ≡ putPlan img v
   unfolding changePlan
-  put-plan h = plan (put (valueToPut img name vendor a bytes)) (ap brokenOf h) (asked-change h)
+  put-plan h = plan (put v) (ap brokenOf h) (asked-change h)
 
-  pub put-asked : what ≡ decision.Put → Asked img b at places (valueToPut img name vendor a bytes) × (rule8 a bytes ≡ false)
-  unfolding setBroken imageRulesIn itemRules requestRules standingRules valueToPut newValue newData
+  pub put-asked : what ≡ decision.Put → Asked img b at places v
+  unfolding newValue
   put-asked h =
-      let v = valueToPut img name vendor a bytes in
       let accepted : setBroken s q img ≡ none = broken ∙ ap brokenOf h in
-      let k : rule8 a bytes ≡ false = unbroken _ 8 accepted in (
-        record {
-          ready = ready;
-          added = found-added;
-          replacing = found-replacing;
-          valid = put-is-valid s q img accepted v (asked-change h);
-          room = put-fits s q img accepted v (asked-change h);
-        },
-        k,
-      )
+      let key : keyOf v ≡ keyed name vendor = ap keyOf (d .3 h) in
+      record {
+        ready = ready;
+        added = found-added ∙ ap (λ (k : Key). foundOf (added k (entries (region img)))) (sym key);
+        replacing = found-replacing ∙ ap (λ (k : Key). foundOf (replacing k (entries (region img)))) (sym key);
+        valid = λ l. put-is-valid s q img accepted v (asked-change h) (sym (ap (λ (x : Value). length (x .vendor)) (d .3 h)) ∙ l);
+        room = put-fits s q img accepted v (asked-change h);
+      }
 
   put-kept : (before c : List ℕ) → what ≡ decision.Put → Kept (setPlan s q img) before c
   unfolding putPlan
   put-kept before c h =
-      subst (λ (p : Plan). Kept p before c) (sym (put-plan h)) (either-kept (fitsTail (region img) (valueToPut img name vendor a bytes)) _ _ _ _ before c)
+      subst (λ (p : Plan). Kept p before c) (sym (put-plan h)) (either-kept (fitsTail (region img) v) _ _ _ _ before c)
 
   -- *what was planned*
-  pub put-plans : what ≡ decision.Put → Bytes img → Sized (set s q) → (before : List ℕ) {c : List ℕ} {p : Planned} → PutPlanned img (valueToPut img name vendor a bytes) c p
+  pub put-plans : what ≡ decision.Put → Bytes img → Sized (set s q) → (before : List ℕ) {c : List ℕ} {p : Planned} → PutPlanned img v c p
       → Plans (setPlan s q img) img before c p
   unfolding inPlace
   put-plans h bytes-img args before {c} {p} d =
-      let v = valueToPut img name vendor a bytes in
       record {
         same = d .same ∙ sym (put-plan h);
         decides = ap (λ (x : Plan). decidesRight x p) (put-plan h) ∙ d .decides;

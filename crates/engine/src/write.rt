@@ -9,12 +9,15 @@ ghost use Rattle.model.specs.Book as book;
 ghost use Rattle.model.specs.Book.{setPlan, Sized};
 ghost use Rattle.recovery.specs.Interface.{Returned};
 ghost use Rattle.image.specs.Check.{IsReady};
-ghost use Rattle.decision.specs.Decision.{requestOf};
+ghost use Rattle.values.specs.Found.{elseFound};
+ghost use Rattle.change.specs.Asked.{Asked, PutPlanned};
+ghost use Rattle.decision.specs.Decision.{requestOf, valueBy};
 ghost use Rattle.plan.specs.Planned.{Kept, Plans};
 ghost use Rattle.engine.specs.Format.{wipePlan};
 use change::Standing;
 use decision::Asking;
 use decision::Decision;
+use decision::NewValue;
 use image::Check;
 use model::Answer;
 use model::Context;
@@ -24,6 +27,41 @@ use plan::Op;
 use plan::Plan;
 use plan::Planned;
 use plan::Step;
+
+// The plan of a value to put that was decided by numbers, over the region of an image that is ready.
+fn plan_put(
+    image: &[u8],
+    region: &[u8],
+    standing: Standing,
+    name: &[u8],
+    vendor: &[u8; 16],
+    bytes: &[u8],
+    value: NewValue,
+    content: &mut [u8],
+) -> Planned
+    requires { ⌜ Asked (now image) (standing .b) (standing .tail) (standing .places)
+        (valueBy (now region) (now name) (now vendor) (now bytes) (elseFound (standing .places .added) (standing .places .replacing)) value)
+        × (length (now content) ≡ 28672) ⌝ }
+    ensures { λ r. ⌜ PutPlanned (now (image .entry))
+        (valueBy (now (region .entry)) (now (name .entry)) (now (vendor .entry)) (now (bytes .entry)) (elseFound (standing .places .added) (standing .places .replacing)) value)
+        (now (content .exit)) r ⌝ }
+{
+    let places = standing.places;
+    let stamp = value.stamp;
+    let kept = decision::kept(region, places, value.keeps);
+    let own = slices::from(bytes, value.own);
+    change::put_value(
+        image,
+        standing,
+        name,
+        vendor,
+        value.attributes,
+        &stamp,
+        kept,
+        own,
+        content,
+    )
+}
 
 // A set over an image that is ready, of b blocks and with this tail: rules 3 to 13, 17, 18 and 21, then what it does to the values.
 fn plan_ready(
@@ -47,11 +85,12 @@ fn plan_ready(
         (now (image .entry)))
         (now (image .entry)) (now (content .entry)) (now (content .exit)) r ⌝ }
 {
-    let attributes = asking.attributes;
+    let terms = session::terms(s, name, vendor);
+    let region = slices::cut(image, 0, layout::BLOCK * b);
     let d = decision::decide(
         s.setup,
-        session::terms(s, name, vendor),
-        slices::cut(image, 0, layout::BLOCK * b),
+        terms,
+        region,
         tail,
         name,
         vendor,
@@ -60,17 +99,19 @@ fn plan_ready(
     );
     let what = d.what;
     let places = d.places;
+    let value = d.value;
     match what {
         Decision::Broken(rule) => plan::refuse(rule),
         Decision::Nothing => plan::accept(plan::nothing(), 12),
         Decision::Remove => plan::accept(orders::entries::delete(places), 1),
-        Decision::Put => change::put(
+        Decision::Put => plan_put(
             image,
+            region,
             Standing { b, tail, places },
             name,
             vendor,
-            attributes,
             bytes,
+            value,
             content,
         ),
     }

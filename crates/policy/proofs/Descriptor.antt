@@ -66,15 +66,14 @@ module _ (bytes : List ℕ) (n : ℕ) (e : n ≡ descriptorLength bytes) where
   unfolding rightSize
   size-long h = rw (le-leb 24 (descriptorLength bytes) (rw e at h)) (ap (λ (k : ℕ). leb (16 + k) (length bytes)) (sym e))
 
-  -- no more of the data than there are
-  pub proper-behind : (a : ℕ) → timeBased a ≡ true → part (16 + n) (length bytes) bytes ≡ properOf a bytes
-  unfolding properOf
-  proper-behind a t =
-      rw t (take-all (length bytes) (drop (16 + n) bytes) (rw length-drop (omega arith)) ∙ ap (λ (k : ℕ). drop (16 + k) bytes) e)
-
-pub proper-all : (a : ℕ) (bytes : List ℕ) → timeBased a ≡ false → properOf a bytes ≡ bytes
+-- the data proper, by where they begin
+pub proper-drop : (a : ℕ) (bytes : List ℕ) → drop (cond (timeBased a) (properAt bytes) 0) bytes ≡ properOf a bytes
 unfolding properOf
-proper-all a bytes t = rw t
+proper-drop a bytes = go (timeBased a)
+  where
+    go : (t : Bool) → drop (cond t (properAt bytes) 0) bytes ≡ cond t (drop (properAt bytes) bytes) bytes
+    go true = refl
+    go false = refl
 
 -- the kind by its three tests
 pub kind-revision : (bytes : List ℕ) → u16At bytes 20 ≢ 0x0200 → rightKind bytes ≡ false

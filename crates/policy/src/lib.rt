@@ -1,13 +1,13 @@
 // What the rules say of the call itself: attributes, descriptor and stamp, verdict, and what a set asks for. No image is looked at.
 ghost use mathlib.Core.Path.{_≡_};
-ghost use mathlib.Core.Bool.{not};
+ghost use mathlib.Core.Bool.{not, cond};
 ghost use mathlib.Core.List.{_∷_};
 ghost use Prim.Native.Nat.{_<_};
 ghost use lib.ListN.{length};
 ghost use Rattle.model.specs.Lists.{among, isEmpty};
 ghost use Rattle.model.specs.Name.{keyed};
 ghost use Rattle.model.specs.Region.{storedAttributes};
-ghost use Rattle.model.specs.Request.{runtimeAccess, timeBased, appends, withoutAppend, rightDescriptor, later, keyVerdicts, properOf, inPerson, otherVerdicts};
+ghost use Rattle.model.specs.Request.{runtimeAccess, timeBased, appends, withoutAppend, rightDescriptor, later, keyVerdicts, properAt, properOf, inPerson, otherVerdicts};
 ghost use Rattle.model.specs.Change.{laterOf, deletes, emptyAppend, equalTo};
 ghost use Rattle.model.specs.Rules.{rule4, rule5, unlikeStored, rule7, rule8, rule9, rule17};
 ghost use Rattle.policy.specs.Descriptor.{noStamp, stampIn, stampOf, rightSize, rightKind};
@@ -177,14 +177,21 @@ pub fn descriptor_broken(attributes: u32, bytes: &[u8]) -> bool
     false
 }
 
-// The data behind the descriptor; all data without one.
+// Where the data proper begin: after the descriptor, or at once without one.
+pub fn proper_from(attributes: u32, bytes: &[u8]) -> usize
+    ensures { λ r. ⌜ r ≡ cond (timeBased attributes) (properAt (now (bytes .entry))) 0 ⌝ }
+{
+    if time_based(attributes) {
+        return 16 + layout::u32_at(bytes, 16) as usize;
+    }
+    0
+}
+
+// The data proper.
 pub fn proper(attributes: u32, bytes: &[u8]) -> &[u8]
     ensures { λ r. ⌜ now r ≡ properOf attributes (now (bytes .entry)) ⌝ }
 {
-    if time_based(attributes) {
-        return slices::cut(bytes, 16 + layout::u32_at(bytes, 16) as usize, bytes.len());
-    }
-    bytes
+    slices::from(bytes, proper_from(attributes, bytes))
 }
 
 // No stamp is 16 zeros.

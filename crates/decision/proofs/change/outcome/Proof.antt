@@ -1,7 +1,5 @@
 -- `decision::change::outcome` meets its contract: it goes by what the set asks for. Assumes nothing.
-use mathlib.Core.Path.{sym, ap, _∙_}
-use mathlib.Core.Bool.{true}
-use Rattle.decision.specs.declared.Decision.the-variants.{Put}
+use mathlib.Core.Path.{sym, _∙_}
 use Rattle.decision.specs.Parts.{resultBy, outcomeBy}
 use borrow.Author.Needs.{needs}
 use Rattle.decision.proofs.change.outcome.Statement.{statement}
@@ -19,9 +17,6 @@ remove-requires c κs = search needs
 enum-told-2 : tie.Need-enum-told-2
 enum-told-2 c = search needs
 
-new-size-requires : tie.Need-new-size-requires
-new-size-requires c κs = search needs
-
 put-requires : tie.Need-put-requires
 put-requires c κs = search needs
 
@@ -38,8 +33,7 @@ returns c = rw (sym (c .before .before .before .kind .ensures) ∙ c .before .en
 returns-2 : tie.Need-returns-2
 unfolding outcomeBy resultBy
 returns-2 c =
-    rw (sym (c .before .before .before .before .kind .ensures) ∙ c .before .before .enum-told2 .given .1)
-    (c .put .ensures ∙ ap (resultBy true Put) (c .before .new-size .ensures))
+    rw (sym (c .before .before .before .kind .ensures) ∙ c .before .enum-told2 .given .1) (c .put .ensures)
 
 returns-3 : tie.Need-returns-3
 unfolding outcomeBy resultBy
@@ -57,7 +51,6 @@ outcome-spec =
     enum-told
     remove-requires
     enum-told-2
-    new-size-requires
     put-requires
     enum-told-3
     enum-told-4

@@ -1,18 +1,30 @@
 -- `decision::change::roomed` meets its contract: what fits after the tail breaks no rule of room. Assumes nothing.
+use Prim.Native.Nat.{ℕ, _+_}
+use native.Mathlib.Omega.{arith}
 use mathlib.Core.Path.{sym, ap, _∙_}
-use Rattle.decision.specs.Parts.{roomedBy}
-use Rattle.decision.proofs.AfterTail.{roomed-none}
+use mathlib.Core.Bool.{Bool}
+use denote.Ref.{now}
+use Rattle.model.specs.Entry.{headerSize, rounded}
+use Rattle.model.specs.Rules.{firstBroken}
+use Rattle.decision.specs.Parts.{roomAfter, roomedBy}
+use Rattle.decision.proofs.AfterTail.{room-after-tail, roomed-none}
 use borrow.Author.Needs.{needs}
 use Rattle.decision.proofs.change.roomed.Statement.{statement}
 use Rattle.decision.proofs.change.roomed.Tie as tie
 
 fits-after-tail-requires : tie.Need-fits-after-tail-requires
-fits-after-tail-requires c κs = search needs
+fits-after-tail-requires c κs = let p = c .before .pre in (p .0 .1, omega (arith, p .0 .0, p .1 .1 .1))
 
 returns : tie.Need-returns
 returns c =
     let a = c .before .before .before .args in
-    sym (ap (roomedBy (a .item)) (c .before .fits-after-tail .ensures (c .if1 .taken)) ∙ roomed-none (a .item))
+    let p = c .before .before .before .pre in
+    let size = rounded (headerSize + a .name + a .size) in
+    let f = c .before .fits-after-tail .ensures (c .if1 .taken) in
+    let room = room-after-tail (a .t) (now (a .region)) (a .old) size (omega (arith, f .1, p .1 .1 .0)) in
+    sym (ap (λ (b : Bool). roomedBy (a .item) (firstBroken (roomAfter (a .t) (now (a .region)) (a .old) b size))) (f .0)
+    ∙ ap (roomedBy (a .item)) room
+    ∙ roomed-none (a .item))
 
 roomed-by-sums-requires : tie.Need-roomed-by-sums-requires
 roomed-by-sums-requires c κs = search needs

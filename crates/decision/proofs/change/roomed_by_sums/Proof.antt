@@ -5,9 +5,8 @@ use mathlib.Core.Path.{_≡_, sym, ap, ap₂, _∙_}
 use mathlib.Core.Bool.{Bool}
 use lib.ListN.{length}
 use denote.Ref.{now}
-use Rattle.model.specs.Entry.{rounded}
 use Rattle.model.specs.Rules.{firstBroken}
-use Rattle.decision.specs.Parts.{judgedOf, newSize, recordsAfter, othersAfter, roomBy, roomAfter, roomedBy}
+use Rattle.decision.specs.Parts.{judgedOf, recordsAfter, othersAfter, roomBy, roomAfter, roomedBy}
 use Rattle.decision.proofs.Broken.{kept-none, breaks-some}
 use borrow.Author.Needs.{needs}
 use Rattle.decision.proofs.change.roomed_by_sums.Statement.{statement}
@@ -16,23 +15,20 @@ use Rattle.decision.proofs.change.roomed_by_sums.Tie as tie
 enum-told : tie.Need-enum-told
 enum-told c = search needs
 
-new-size-requires : tie.Need-new-size-requires
-new-size-requires c κs = search needs
-
 is-error-record-requires : tie.Need-is-error-record-requires
 is-error-record-requires c κs = search needs
 
 entry-size-requires : tie.Need-entry-size-requires
 entry-size-requires c κs =
-    let p = c .before .before .before .before .before .pre in
-    let few = p .1 (c .before .before .enum-told .given .1) in
-    omega (arith, c .before .new-size .ensures, p .0 .1)
+    let p = c .before .before .before .before .pre in
+    let few = p .1 (c .before .enum-told .given .1) in
+    omega (arith, p .0 .1)
 
 after-requires : tie.Need-after-requires
 after-requires c κs =
-    let p = c .before .before .before .before .before .before .pre in
-    let few = p .1 (c .before .before .before .enum-told .given .1) in
-    (p .0 .0, omega (arith, c .entry-size .ensures, c .before .before .new-size .ensures, p .0 .1), p .0 .3, p .0 .4)
+    let p = c .before .before .before .before .before .pre in
+    let few = p .1 (c .before .before .enum-told .given .1) in
+    (p .0 .0, omega (arith, c .entry-size .ensures, p .0 .1), p .0 .2, p .0 .3)
 
 room-requires : tie.Need-room-requires
 room-requires c κs = c .after .ensures .2
@@ -56,32 +52,30 @@ returns : tie.Need-returns
 unfolding roomedBy roomAfter
 returns c =
     let m = c .before .before .before in
-    let a = m .before .before .before .before .before .before .before .before .args in
+    let a = m .before .before .before .before .before .before .before .args in
     let r = now (a .region) in
-    let size : ℕ → ℕ = λ n. rounded (60 + a .name + n) in
     let sums = m .before .after .ensures in
     let same =
     ap₂ (λ (x y : ℕ). roomBy (a .t) (length r) (m .before .before .before .is-error-record .result) x y) (sums .0) (sums .1)
     ∙ ap₂ (λ (e : Bool) (n : ℕ). roomAfter (a .t) r (a .old) e n) (m .before .before .before .is-error-record .ensures)
-    (m .before .before .entry-size .ensures ∙ ap size (m .before .before .before .before .new-size .ensures)) in
+    (m .before .before .entry-size .ensures) in
     let told = c .before .j .given in
     let first = breaks-some _ (told .0 .0) (sym (m .room .ensures) ∙ told .1) in
-    rw (m .before .before .before .before .before .enum-told .given .1) (rw (sym (ap firstBroken same) ∙ first))
+    rw (m .before .before .before .before .enum-told .given .1) (rw (sym (ap firstBroken same) ∙ first))
 
 returns-2 : tie.Need-returns-2
 unfolding roomedBy roomAfter
 returns-2 c =
     let m = c .before .before in
-    let a = m .before .before .before .before .before .before .before .before .args in
+    let a = m .before .before .before .before .before .before .before .args in
     let r = now (a .region) in
-    let size : ℕ → ℕ = λ n. rounded (60 + a .name + n) in
     let sums = m .before .after .ensures in
     let same =
     ap₂ (λ (x y : ℕ). roomBy (a .t) (length r) (m .before .before .before .is-error-record .result) x y) (sums .0) (sums .1)
     ∙ ap₂ (λ (e : Bool) (n : ℕ). roomAfter (a .t) r (a .old) e n) (m .before .before .before .is-error-record .ensures)
-    (m .before .before .entry-size .ensures ∙ ap size (m .before .before .before .before .new-size .ensures)) in
+    (m .before .before .entry-size .ensures) in
     let first = kept-none _ (sym (m .room .ensures) ∙ c .enum-told2 .given .1) in
-    rw (m .before .before .before .before .before .enum-told .given .1) (rw (sym (ap firstBroken same) ∙ first))
+    rw (m .before .before .before .before .enum-told .given .1) (rw (sym (ap firstBroken same) ∙ first))
 
 returns-3 : tie.Need-returns-3
 unfolding roomedBy
@@ -100,7 +94,6 @@ roomed-by-sums-spec =
     tie.close
     (tie.spec
     enum-told
-    new-size-requires
     is-error-record-requires
     entry-size-requires
     after-requires

@@ -38,7 +38,7 @@ enum-told-2 c = search needs
 
 delete-requires : tie.Need-delete-requires
 delete-requires c κs =
-    remove-asked _ _ _ _ _ _ _ _ (c .before .before .before .before .before .before .before .before .before .before .pre .0) (c .before .before .before .before .cut .ensures) (c .before .before .before .before .before .terms .ensures) (c .before .before .before .decide .ensures)
+    remove-asked _ _ _ _ _ _ _ _ (c .before .before .before .before .before .before .before .before .before .before .before .pre .0) (c .before .before .before .before .before .cut .ensures) (c .before .before .before .before .before .before .terms .ensures) (c .before .before .before .before .decide .ensures)
 
 accept-requires-2 : tie.Need-accept-requires-2
 accept-requires-2 c κs = search needs
@@ -46,29 +46,29 @@ accept-requires-2 c κs = search needs
 enum-told-3 : tie.Need-enum-told-3
 enum-told-3 c = search needs
 
-put-requires : tie.Need-put-requires
-put-requires c κs =
-    let k = put-asked _ _ _ _ _ _ _ _ (c .before .before .before .before .before .before .before .before .before .before .before .pre .0) (c .before .before .before .before .before .cut .ensures) (c .before .before .before .before .before .before .terms .ensures) (c .before .before .before .before .decide .ensures) (c .before .enum-told3 .given .1) in
-    (k .0, k .1, c .before .before .before .before .before .before .before .before .before .before .before .pre .3)
+plan-put-requires : tie.Need-plan-put-requires
+plan-put-requires c κs =
+    let p = c .before .before .before .before .before .before .before .before .before .before .before .before .pre in
+    (put-asked _ _ _ _ _ _ _ _ (p .0) (c .before .before .before .before .before .before .cut .ensures) (c .before .before .before .before .before .before .before .terms .ensures) (c .before .before .before .before .before .decide .ensures) (c .before .enum-told3 .given .1), p .3)
 
 returns : tie.Need-returns
 returns c =
-    refused-plans _ _ _ _ (c .refuse .ensures) (set-refused _ _ _ _ _ _ _ _ (c .before .before .before .before .before .before .before .before .before .before .before .before .pre .0) (c .before .before .before .before .before .before .cut .ensures) (c .before .before .before .before .before .before .before .terms .ensures) (c .before .before .before .before .before .decide .ensures) (c .before .before .what .given .1))
+    refused-plans _ _ _ _ (c .refuse .ensures) (set-refused _ _ _ _ _ _ _ _ (c .before .before .before .before .before .before .before .before .before .before .before .before .before .pre .0) (c .before .before .before .before .before .before .before .cut .ensures) (c .before .before .before .before .before .before .before .before .terms .ensures) (c .before .before .before .before .before .before .decide .ensures) (c .before .before .what .given .1))
 
 returns-2 : tie.Need-returns-2
 returns-2 c =
-    nothing-plans _ _ _ _ (c .before .nothing .ensures) (c .accept .ensures) (set-nothing _ _ _ _ _ _ _ _ (c .before .before .before .before .before .before .before .before .before .before .before .before .pre .0) (c .before .before .before .before .before .before .cut .ensures) (c .before .before .before .before .before .before .before .terms .ensures) (c .before .before .before .before .before .decide .ensures) (c .before .before .enum-told .given .1))
+    nothing-plans _ _ _ _ (c .before .nothing .ensures) (c .accept .ensures) (set-nothing _ _ _ _ _ _ _ _ (c .before .before .before .before .before .before .before .before .before .before .before .before .before .pre .0) (c .before .before .before .before .before .before .before .cut .ensures) (c .before .before .before .before .before .before .before .before .terms .ensures) (c .before .before .before .before .before .before .decide .ensures) (c .before .before .enum-told .given .1))
 
 returns-3 : tie.Need-returns-3
 returns-3 c =
-    remove-plans _ _ _ _ _ _ _ _ (c .before .before .before .before .before .before .before .before .before .before .before .before .pre .0) (c .before .before .before .before .before .before .cut .ensures) (c .before .before .before .before .before .before .before .terms .ensures) (c .before .before .before .before .before .decide .ensures) (c .before .before .enum-told2 .given .1) (c .before .before .before .before .before .before .before .before .before .before .before .before .pre .1) (c .before .before .before .before .before .before .before .before .before .before .before .before .pre .2) _ _ (c .before .delete .ensures) (c .accept2 .ensures)
+    remove-plans _ _ _ _ _ _ _ _ (c .before .before .before .before .before .before .before .before .before .before .before .before .before .pre .0) (c .before .before .before .before .before .before .before .cut .ensures) (c .before .before .before .before .before .before .before .before .terms .ensures) (c .before .before .before .before .before .before .decide .ensures) (c .before .before .enum-told2 .given .1) (c .before .before .before .before .before .before .before .before .before .before .before .before .before .pre .1) (c .before .before .before .before .before .before .before .before .before .before .before .before .before .pre .2) _ _ (c .before .delete .ensures) (c .accept2 .ensures)
 
 same-length : tie.Need-same-length
 same-length c = search needs
 
 returns-4 : tie.Need-returns-4
 returns-4 c =
-    put-plans _ _ _ _ _ _ _ _ (c .before .before .before .before .before .before .before .before .before .before .before .before .before .before .pre .0) (c .before .before .before .before .before .before .before .before .cut .ensures) (c .before .before .before .before .before .before .before .before .before .terms .ensures) (c .before .before .before .before .before .before .before .decide .ensures) (c .before .before .before .before .enum-told3 .given .1) (c .before .before .before .before .before .before .before .before .before .before .before .before .before .before .pre .1) (c .before .before .before .before .before .before .before .before .before .before .before .before .before .before .pre .2) _ (c .before .before .put .ensures)
+    put-plans _ _ _ _ _ _ _ _ (c .before .before .before .before .before .before .before .before .before .before .before .before .before .before .before .pre .0) (c .before .before .before .before .before .before .before .before .before .cut .ensures) (c .before .before .before .before .before .before .before .before .before .before .terms .ensures) (c .before .before .before .before .before .before .before .before .decide .ensures) (c .before .before .before .before .enum-told3 .given .1) (c .before .before .before .before .before .before .before .before .before .before .before .before .before .before .before .pre .1) (c .before .before .before .before .before .before .before .before .before .before .before .before .before .before .before .pre .2) _ (c .before .before .plan-put .ensures)
 
 pub plan-ready-spec : {M : Type 1} → statement M
 plan-ready-spec =
@@ -87,7 +87,7 @@ plan-ready-spec =
     delete-requires
     accept-requires-2
     enum-told-3
-    put-requires
+    plan-put-requires
     returns
     returns-2
     returns-3

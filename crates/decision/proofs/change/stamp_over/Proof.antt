@@ -1,16 +1,16 @@
--- `change::stamp_over` meets its contract: the stamp given is held against that of the entry found. Assumes nothing.
+-- `decision::change::stamp_over` meets its contract: the stamp given is held against that of the entry found. Assumes nothing.
 use mathlib.Core.Path.{sym, ap, _∙_}
 use denote.Ref.{now}
 use Rattle.model.specs.Change.{laterOf}
 use Rattle.values.specs.declared.Found.{Found}
 use Rattle.policy.specs.Descriptor.{stampIn}
-use Rattle.change.specs.Asked.{stampOver}
+use Rattle.decision.specs.Parts.{stampOver}
 use borrow.Author.Needs.{needs}
-use Rattle.change.proofs.stamp_over.Statement.{statement}
-use Rattle.change.proofs.stamp_over.Tie as tie
+use Rattle.decision.proofs.change.stamp_over.Statement.{statement}
+use Rattle.decision.proofs.change.stamp_over.Tie as tie
 
-enum-known-standing : tie.Need-enum-known-standing
-enum-known-standing c = search needs
+enum-known-old : tie.Need-enum-known-old
+enum-known-old c = search needs
 
 stamp-of-requires : tie.Need-stamp-of-requires
 stamp-of-requires c κs = search needs
@@ -31,7 +31,7 @@ returns c =
     let old = c .before .before .stamp-in .ensures ∙ ap stampIn (c .before .before .before .stamp-of .ensures) in
     c .later-of .ensures
     ∙ ap (laterOf (now (a .given))) old
-    ∙ sym (ap (λ (f : Found). stampOver (now (a .region)) f (now (a .given))) (c .before .before .before .before .before .standing .given .1))
+    ∙ sym (ap (λ (f : Found). stampOver (now (a .region)) f (now (a .given))) (c .before .before .before .before .before .old .given .1))
 
 returns-2 : tie.Need-returns-2
 unfolding stampOver
@@ -41,7 +41,7 @@ pub stamp-over-spec : {M : Type 1} → statement M
 stamp-over-spec =
     tie.close
     (tie.spec
-    enum-known-standing
+    enum-known-old
     stamp-of-requires
     stamp-in-requires
     later-of-requires
