@@ -14,7 +14,7 @@ use borrow.Author.Tests.{eq-eqb}
 use Rattle.model.specs.Layout.{authenticated}
 use Rattle.model.specs.Lists.{part, same, all, keep, among}
 use Rattle.model.specs.Name.{Key, keyed, sameKey, zeroEnded, wellNamed, recordName}
-use Rattle.model.specs.Entry.{rounded, Value, keyOf, entrySize, entryBytes}
+use Rattle.model.specs.Entry.{Value, keyOf, entrySize, entryBytes}
 use Rattle.model.specs.Walk as walk
 use Rattle.model.specs.Region.{entries, live, rightHeader, knownState, within, rightLive, isEntry, undoubled, sound, isValue, values, storedAttributes, maxData, soundIn, recordBit}
 use Rattle.model.specs.Change.{without}
@@ -109,12 +109,12 @@ pub carried-none : (r : List ℕ) (k : Key) (at : ℕ) (out : List ℕ) → Carr
 carried-none r k at out =
     record { text = []; whole = ap (λ (vs : List Value). joined (without k vs)) (listed-all authenticated r); wrote = wrote-none at out }
 
-pub carried-next : {r : List ℕ} {k : Key} {at here a : ℕ} {e : numbers.Entry} {n n′ : ℕ} {l l′ l″ : List ℕ}
-    → Carried r k at l l′ n here → Next authenticated r here a e → Wrote (joined (without k (walk.entryValue (entryAt r a e) ∷ []))) n l′ l″ n′
-    → Carried r k at l l″ n′ (a + rounded (60 + e .name + e .size))
-carried-next {r} {k} {a = a} {e} w x p =
+pub carried-next : {r : List ℕ} {k : Key} {at here a after : ℕ} {e : numbers.Entry} {n n′ : ℕ} {l l′ l″ : List ℕ}
+    → Carried r k at l l′ n here → Next authenticated r here a e after → Wrote (joined (without k (walk.entryValue (entryAt r a e) ∷ []))) n l′ l″ n′
+    → Carried r k at l l″ n′ after
+carried-next {r} {k} {a = a} {after} {e} w x p =
     let v = walk.entryValue (entryAt r a e) in
-    let rest = listed r (a + rounded (60 + e .name + e .size)) in
+    let rest = listed r after in
     record {
       text = w .text ++ joined (without k (v ∷ []));
       whole =

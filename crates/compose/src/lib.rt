@@ -18,7 +18,7 @@ ghost use Rattle.compose.specs.Compose.{beforeStamp, behindStamp, header
 use layout::Entry;
 use model::Layout;
 use region::walk;
-use values::Found;
+use values::NextValue;
 use values::list;
 
 // A number as four bytes, little-endian.
@@ -220,12 +220,12 @@ fn put_others(out: &mut [u8], at: usize, region: &[u8], name: &[u8], vendor: &[u
     let mut next = at;
     let mut here: usize = layout::REGION_HEADER;
     loop {
-        let f = list::next_value(region, here);
-        let Found::At(place, e) = f else {
+        let v = list::next_value(region, here);
+        let NextValue::At(place, e, after) = v else {
             return next;
         };
         next = put_other(out, next, region, place, e, name, vendor);
-        here = list::behind(place, e);
+        here = after;
     }
 }
 

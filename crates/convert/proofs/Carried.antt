@@ -12,7 +12,7 @@ use lib.Seq.{take-all}
 use Rattle.model.specs.declared.Layout.{Layout}
 use Rattle.model.specs.Layout.{headerLength, vendorAt}
 use Rattle.model.specs.Lists.{part, any}
-use Rattle.model.specs.Entry.{rounded, Value, entrySizeIn, entryBytesIn}
+use Rattle.model.specs.Entry.{Value, entrySizeIn, entryBytesIn}
 use Rattle.model.specs.Walk as walk
 use Rattle.model.specs.Region.{entriesIn, values}
 use Rattle.model.specs.Request.{timeBased}
@@ -77,12 +77,12 @@ joined-one : (z : Layout) (v : Value) (vs : List Value) → joinedIn z (v ∷ vs
 unfolding joinedIn
 joined-one z v vs = refl
 
-pub carried-next : (y z : Layout) {r : List ℕ} {at here a : ℕ} {e : numbers.Entry} {n n′ : ℕ} {l l′ l″ : List ℕ}
-    → Carried y z r at l l′ n here → Next y r here a e → Wrote (entryBytesIn z 0x3F (unstamped (walk.entryValue (entryAs y r a e)))) n l′ l″ n′
-    → Carried y z r at l l″ n′ (a + rounded (headerLength y + e .name + e .size))
-carried-next y z {r} {a = a} {e} w x p =
+pub carried-next : (y z : Layout) {r : List ℕ} {at here a after : ℕ} {e : numbers.Entry} {n n′ : ℕ} {l l′ l″ : List ℕ}
+    → Carried y z r at l l′ n here → Next y r here a e after → Wrote (entryBytesIn z 0x3F (unstamped (walk.entryValue (entryAs y r a e)))) n l′ l″ n′
+    → Carried y z r at l l″ n′ after
+carried-next y z {r} {a = a} {after} {e} w x p =
     let v = unstamped (walk.entryValue (entryAs y r a e)) in
-    let rest = map unstamped (listedIn y r (a + rounded (headerLength y + e .name + e .size))) in
+    let rest = map unstamped (listedIn y r after) in
     record {
       text = w .text ++ entryBytesIn z 0x3F v;
       whole =
@@ -103,12 +103,12 @@ carried-all y z w p = wrote-as (sym (w .whole ∙ rw (p, append-nil))) (w .wrote
 abbrev pub stamped : List Value → Bool
 stamped vs = any (λ v. timeBased (v .attributes)) vs
 
-module _ (y : Layout) {r : List ℕ} {here a : ℕ} {e : numbers.Entry} (x : Next y r here a e) where
+module _ (y : Layout) {r : List ℕ} {here a after : ℕ} {e : numbers.Entry} (x : Next y r here a e after) where
   pub stamped-here : timeBased (e .attributes) ≡ true → stamped (listedIn y r here) ≡ true
   unfolding entryAs walk.placed
   stamped-here h = ap stamped (x .list) ∙ rw h
 
-  pub stamped-next : timeBased (e .attributes) ≡ false → stamped (listedIn y r here) ≡ stamped (listedIn y r (a + rounded (headerLength y + e .name + e .size)))
+  pub stamped-next : timeBased (e .attributes) ≡ false → stamped (listedIn y r here) ≡ stamped (listedIn y r after)
   unfolding entryAs walk.placed
   stamped-next h = ap stamped (x .list) ∙ rw h
 

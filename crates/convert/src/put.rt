@@ -15,7 +15,7 @@ ghost use Rattle.convert.specs.Bare.{bareFront, bareSizes, bareHeader, b
 use layout::Entry;
 use model::Layout;
 use region::walk;
-use values::Found;
+use values::NextValue;
 use values::list;
 
 // Start id, state 3F, zero, attributes.
@@ -106,12 +106,12 @@ fn put_values(from: Layout, to: Layout, out: &mut [u8], at: usize, region: &[u8]
     let mut next = at;
     let mut here: usize = layout::REGION_HEADER;
     loop {
-        let f = list::next_value_in(from, region, here);
-        let Found::At(place, e) = f else {
+        let v = list::next_value_in(from, region, here);
+        let NextValue::At(place, e, after) = v else {
             return next;
         };
         next = put_value(from, to, out, next, region, place, e);
-        here = list::behind_in(from, place, e);
+        here = after;
     }
 }
 

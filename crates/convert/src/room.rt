@@ -10,7 +10,7 @@ ghost use Rattle.model.specs.Move.{unstamped, rule20};
 ghost use Rattle.convert.specs.Bare.{contentIn};
 use crate::put;
 use model::Layout;
-use values::Found;
+use values::NextValue;
 use values::list;
 
 // Whether a value has 0x20.
@@ -20,14 +20,14 @@ fn holds_stamped(y: Layout, region: &[u8]) -> bool
 {
     let mut here: usize = layout::REGION_HEADER;
     loop {
-        let f = list::next_value_in(y, region, here);
-        let Found::At(place, e) = f else {
+        let v = list::next_value_in(y, region, here);
+        let NextValue::At(_, e, after) = v else {
             return false;
         };
         if policy::time_based(e.attributes) {
             return true;
         }
-        here = list::behind_in(y, place, e);
+        here = after;
     }
 }
 

@@ -8,8 +8,8 @@ use mathlib.Core.Path.{_≡_, refl, sym, ap, _∙_}
 use mathlib.Core.List.{List, [], _∷_, _++_, append-assoc, append-nil}
 use lib.ListN.{length, drop, length-take}
 use Rattle.model.specs.declared.Layout.{Layout}
-use Rattle.model.specs.Layout.{headerLength, vendorAt}
-use Rattle.model.specs.Entry.{Value, rounded}
+use Rattle.model.specs.Layout.{vendorAt}
+use Rattle.model.specs.Entry.{Value}
 use Rattle.model.specs.Walk as walk
 use Rattle.model.specs.Region.{entriesIn, values}
 use Rattle.layout.specs.declared.Entry as numbers
@@ -61,14 +61,14 @@ module _ (y : Layout) where
   pub written-none : (r : List ℕ) (at : ℕ) (out : List ℕ) → Written r at out out at 28
   written-none r at out = record { text = []; whole = ap valueLines (listed-all y r); wrote = wrote-none at out }
 
-  pub written-line : {r : List ℕ} {at here a : ℕ} {e : numbers.Entry} {n n′ : ℕ} {l l′ l″ : List ℕ}
-      → Written r at l l′ n here → Next y r here a e → Wrote (valueLine (walk.entryValue (entryAs y r a e))) n l′ l″ n′
-      → Written r at l l″ n′ (a + rounded (headerLength y + e .name + e .size))
+  pub written-line : {r : List ℕ} {at here a after : ℕ} {e : numbers.Entry} {n n′ : ℕ} {l l′ l″ : List ℕ}
+      → Written r at l l′ n here → Next y r here a e after → Wrote (valueLine (walk.entryValue (entryAs y r a e))) n l′ l″ n′
+      → Written r at l l″ n′ after
   unfolding valueLines
-  written-line {r} {a = a} {e} w x p = record {
+  written-line {r} {a = a} {after} {e} w x p = record {
     text = w .text ++ valueLine (walk.entryValue (entryAs y r a e));
     whole = w .whole ∙ ap (λ (vs : List Value). w .text ++ valueLines vs) (x .list) ∙ sym
-        (append-assoc (w .text) (valueLine (walk.entryValue (entryAs y r a e))) (valueLines (listedIn y r (a + rounded (headerLength y + e .name + e .size)))));
+        (append-assoc (w .text) (valueLine (walk.entryValue (entryAs y r a e))) (valueLines (listedIn y r after)));
     wrote = wrote-append (w .wrote) p;
   }
 

@@ -12,7 +12,7 @@ use image::Check;
 use layout::Entry;
 use model::Layout;
 use region::walk;
-use values::Found;
+use values::NextValue;
 use values::list;
 
 // A word and a number behind it.
@@ -102,12 +102,12 @@ fn put_lines(y: Layout, region: &[u8], out: &mut [u8], at: usize) -> usize
     let mut next = at;
     let mut here: usize = layout::REGION_HEADER;
     loop {
-        let f = list::next_value_in(y, region, here);
-        let Found::At(place, e) = f else {
+        let v = list::next_value_in(y, region, here);
+        let NextValue::At(place, e, after) = v else {
             return next;
         };
         next = put_entry(y, out, next, region, place, e);
-        here = list::behind_in(y, place, e);
+        here = after;
     }
 }
 

@@ -19,9 +19,10 @@ use Rattle.layout.specs.Head.{numbersOf}
 use Rattle.layout.specs.declared.Entry as numbers
 use Rattle.region.specs.Walk.{entryAs}
 use Rattle.region.proofs.Turns.{Turned, Ended}
-use Rattle.values.specs.Found.{foundOf, elseFound}
+use Rattle.values.specs.Found.{foundOf, nextOf, elseFound}
 use Rattle.values.specs.declared.Found.{Found}
 use Rattle.values.specs.declared.Found.the-variants.{At, Nothing}
+use Rattle.values.specs.declared.NextValue.the-variants as next
 
 pub found-else : (a b : Option walk.Entry) → foundOf (orElse a b) ≡ elseFound (foundOf a) (foundOf b)
 found-else (some e) b = refl
@@ -32,13 +33,21 @@ found-at : (y : Layout) (r : List ℕ) (at : ℕ) (e : numbers.Entry) → At (en
 unfolding entryAs walk.placed
 found-at y r at e = refl
 
+-- and as the next value with the offset after it
+pub next-at : {y : Layout} {r : List ℕ} {at : ℕ} {e : numbers.Entry} {k : ℕ} → Turned y r at e k → nextOf (some (entryAs y r at e)) ≡ next.At at e k
+unfolding entryAs walk.placed
+next-at {at = at} {e} w = ap (next.At at e) (w .next)
+
 -- what is found first stays
 pub else-found : {g : Found} {at : ℕ} {e : numbers.Entry} → g ≡ At at e → (h : Found) → elseFound g h ≡ At at e
 else-found p h = ap (λ (g : Found). elseFound g h) p
 
 module _ {y : Layout} {r : List ℕ} {at : ℕ} (z : Ended y r at) (f : walk.Entry → Bool) where
+  pub first-none : first f (fromIn y r at) ≡ none
+  first-none = ap (first f) (z .walk)
+
   pub found-none : foundOf (first f (fromIn y r at)) ≡ Nothing
-  found-none = ap (λ (es : List walk.Entry). foundOf (first f es)) (z .walk)
+  found-none = ap foundOf first-none
 
   -- where nothing more is found, what was found before stays
   pub else-none : (g : Found) → elseFound g (foundOf (first f (fromIn y r at))) ≡ g
@@ -54,11 +63,17 @@ module _ {y : Layout} {r : List ℕ} {at : ℕ} {e : numbers.Entry} {k : ℕ} (w
       rw (ne-eqb (walk.stateOf x) t (λ q. n (sym (eqb-true (walk.stateOf x) s (p .0)) ∙ q)))
 
   module _ (f : walk.Entry → Bool) where
+    pub first-here : f (entryAs y r at e) ≡ true → first f (fromIn y r at) ≡ some (entryAs y r at e)
+    first-here h = ap (first f) (w .walk) ∙ rw h
+
+    pub first-next : f (entryAs y r at e) ≡ false → first f (fromIn y r at) ≡ first f (fromIn y r k)
+    first-next h = ap (first f) (w .walk) ∙ rw h
+
     pub found-here : f (entryAs y r at e) ≡ true → foundOf (first f (fromIn y r at)) ≡ At at e
-    found-here h = ap (λ (es : List walk.Entry). foundOf (first f es)) (w .walk) ∙ rw h (found-at y r at e)
+    found-here h = ap foundOf (first-here h) ∙ found-at y r at e
 
     pub found-next : f (entryAs y r at e) ≡ false → foundOf (first f (fromIn y r at)) ≡ foundOf (first f (fromIn y r k))
-    found-next h = ap (λ (es : List walk.Entry). foundOf (first f es)) (w .walk) ∙ rw h
+    found-next h = ap foundOf (first-next h)
 
     -- with what was found before
     pub found-hit : (g : Found) {new : Found} → new ≡ elseFound g (At at e) → f (entryAs y r at e) ≡ true

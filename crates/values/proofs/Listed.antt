@@ -36,9 +36,12 @@ any-found f (e ∷ es) = go (f e) (any-found f es)
     go true i = refl
     go false i = i
 
--- the values from an offset on
+-- the entries from an offset on that are values, and these values
+abbrev pub valueEntries : Layout → List ℕ → ℕ → List walk.Entry
+valueEntries y r at = keep (isValue (entriesIn y r)) (fromIn y r at)
+
 unfoldable pub listedIn : Layout → List ℕ → ℕ → List Value
-listedIn y r at = map walk.entryValue (keep (isValue (entriesIn y r)) (fromIn y r at))
+listedIn y r at = map walk.entryValue (valueEntries y r at)
 
 abbrev pub listed : List ℕ → ℕ → List Value
 listed = listedIn authenticated

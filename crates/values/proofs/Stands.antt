@@ -20,11 +20,12 @@ use Rattle.region.specs.Walk.{entryAs, turnIn}
 use Rattle.region.specs.declared.Turn.{Turn}
 use Rattle.region.specs.declared.Turn.the-variants.{Entry, Stop}
 use Rattle.region.proofs.Turns.{at-entry, at-end, at-past}
-use Rattle.values.specs.Found.{foundOf}
-use Rattle.values.specs.declared.Found.{Found}
+use Rattle.values.specs.Found.{foundOf, nextOf}
 use Rattle.values.specs.declared.Found.the-variants.{At, Nothing}
+use Rattle.values.specs.declared.NextValue.{NextValue}
+use Rattle.values.specs.declared.NextValue.the-variants as next
 use Rattle.values.proofs.Finds.{found-none, found-here, found-next}
-use Rattle.values.proofs.Listed.{listedIn}
+use Rattle.values.proofs.Listed.{valueEntries, listedIn}
 
 not-found : (a : ℕ) (e : numbers.Entry) → Nothing ≡ At a e → ⊥
 not-found a e p = let z : _≡_ {A = ℕ} 0 1 = cc in omega arith
@@ -37,11 +38,15 @@ pub nothing-first : (o : Option walk.Entry) → foundOf o ≡ Nothing → o ≡ 
 nothing-first (some x) p = let z : _≡_ {A = ℕ} 0 1 = cc in absurd (omega arith)
 nothing-first none p = refl
 
-nothing-kept : (f : walk.Entry → Bool) (es : List walk.Entry) → foundOf (first f es) ≡ Nothing → keep f es ≡ []
+end-first : (o : Option walk.Entry) → nextOf o ≡ next.End → o ≡ none
+end-first (some x) p = let z : _≡_ {A = ℕ} 0 1 = cc in absurd (omega arith)
+end-first none p = refl
+
+nothing-kept : (f : walk.Entry → Bool) (es : List walk.Entry) → first f es ≡ none → keep f es ≡ []
 nothing-kept f [] p = refl
 nothing-kept f (x ∷ es) p = go (f x) p (nothing-kept f es)
   where
-    go : (t : Bool) → foundOf (cond t (some x) (first f es)) ≡ Nothing → (foundOf (first f es) ≡ Nothing → keep f es ≡ [])
+    go : (t : Bool) → cond t (some x) (first f es) ≡ none → (first f es ≡ none → keep f es ≡ [])
         → cond t (x ∷ keep f es) (keep f es) ≡ []
     go true p more = let z : _≡_ {A = ℕ} 0 1 = cc in absurd (omega arith)
     go false p more = more p
@@ -130,10 +135,12 @@ module _ (y : Layout) where
 
 -- no value is left where a search for the next one finds nothing
 pub record None (y : Layout) (r : List ℕ) (at : ℕ) : Type 0 where
+  pub entries : valueEntries y r at ≡ []
   pub list : listedIn y r at ≡ []
 
-pub listed-nothing : {y : Layout} {r : List ℕ} {at : ℕ} {f : Found} → f ≡ foundOf (first (isValue (entriesIn y r)) (fromIn y r at)) → f ≡ Nothing → None y r at
+pub listed-nothing : {y : Layout} {r : List ℕ} {at : ℕ} {f : NextValue} → f ≡ nextOf (first (isValue (entriesIn y r)) (fromIn y r at)) → f ≡ next.End
+    → None y r at
 unfolding listedIn
-listed-nothing {y} {r} {at} answer told = record {
-  list = ap (map walk.entryValue) (nothing-kept (isValue (entriesIn y r)) (fromIn y r at) (sym answer ∙ told));
-}
+listed-nothing {y} {r} {at} answer told =
+    let none = nothing-kept (isValue (entriesIn y r)) (fromIn y r at) (end-first _ (sym answer ∙ told)) in
+    record { entries = none; list = ap (map walk.entryValue) none }

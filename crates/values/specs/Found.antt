@@ -7,11 +7,18 @@ use Rattle.layout.specs.Head.{numbersOf}
 use Rattle.region.specs.Walk.{entryAt}
 use Rattle.values.specs.declared.Found.{Found}
 use Rattle.values.specs.declared.Found.the-variants.{At, Nothing}
+use Rattle.values.specs.declared.NextValue.{NextValue}
+use Rattle.values.specs.declared.NextValue.the-variants as next
 
 -- an entry by its offset and its numbers, where there is one
 abbrev pub foundOf : Option Entry → Found
 foundOf (some e) = At (e .at) (numbersOf (e .header))
 foundOf none = Nothing
+
+-- with the offset of the entry after it
+abbrev pub nextOf : Option Entry → NextValue
+nextOf (some e) = next.At (e .at) (numbersOf (e .header)) (e .next)
+nextOf none = next.End
 
 -- one or the other
 abbrev pub elseFound : Found → Found → Found

@@ -10,6 +10,12 @@ pub enum Found {
     Nothing,
 }
 
+// A value's offset and numbers, and the offset of the entry after it; or no value is left.
+pub enum NextValue {
+    At(usize, Entry, usize),
+    End,
+}
+
 // The first 3F entry of a name and its first 3E entry: the places that a set marks.
 pub struct Places {
     pub added: Found,

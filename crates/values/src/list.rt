@@ -1,18 +1,18 @@
 // The values of a region in flash order, their number and their sizes. What ends in `_in` is given the stored form; the others are the same in the form in
 // which calls store.
 ghost use mathlib.Core.Path.{_≡_};
-ghost use Prim.Native.Nat.{_+_, _^_, _<_, _≤_};
+ghost use Prim.Native.Nat.{_+_, _≤_};
 ghost use lib.ListN.{length};
-ghost use Rattle.model.specs.Layout.{headerLength};
 ghost use Rattle.model.specs.Lists.{first};
-ghost use Rattle.model.specs.Entry.{rounded, headerSize, entrySize};
+ghost use Rattle.model.specs.Entry.{entrySize};
 ghost use Rattle.model.specs.Walk.{entryValue};
 ghost use Rattle.model.specs.Region.{entries, entriesIn, isValue, values};
 ghost use Rattle.model.specs.Change.{recordSizes, otherSizes};
 ghost use Rattle.model.specs.Beside.{from, fromIn};
 ghost use Rattle.region.specs.Walk.{entryAs, entryAt};
-ghost use Rattle.values.specs.Found.{foundOf};
+ghost use Rattle.values.specs.Found.{nextOf};
 use crate::Found;
+use crate::NextValue;
 use crate::Sums;
 use crate::lookup;
 use layout::Entry;
@@ -45,42 +45,27 @@ pub fn is_value(region: &[u8], at: usize, e: Entry) -> bool
     is_value_in(Layout::authenticated(), region, at, e)
 }
 
-// The first value at or behind an offset.
-pub fn next_value_in(y: Layout, region: &[u8], at: usize) -> Found
-    ensures { λ r. ⌜ r ≡ foundOf (first (isValue (entriesIn y (now (region .entry)))) (fromIn y (now (region .entry)) at)) ⌝ }
+// The first value at or after an offset.
+pub fn next_value_in(y: Layout, region: &[u8], at: usize) -> NextValue
+    ensures { λ r. ⌜ r ≡ nextOf (first (isValue (entriesIn y (now (region .entry)))) (fromIn y (now (region .entry)) at)) ⌝ }
 {
     let mut here = at;
     loop {
         let t = walk::turn_in(y, region, here);
         let Turn::Entry(e, next) = t else {
-            return Found::Nothing;
+            return NextValue::End;
         };
         if is_value_in(y, region, here, e) {
-            return Found::At(here, e);
+            return NextValue::At(here, e, next);
         }
         here = next;
     }
 }
 
-pub fn next_value(region: &[u8], at: usize) -> Found
-    ensures { λ r. ⌜ r ≡ foundOf (first (isValue (entries (now (region .entry)))) (from (now (region .entry)) at)) ⌝ }
+pub fn next_value(region: &[u8], at: usize) -> NextValue
+    ensures { λ r. ⌜ r ≡ nextOf (first (isValue (entries (now (region .entry)))) (from (now (region .entry)) at)) ⌝ }
 {
     next_value_in(Layout::authenticated(), region, at)
-}
-
-// The offset behind a value's entry, which is never an unfinished one.
-pub fn behind_in(y: Layout, place: usize, e: Entry) -> usize
-    requires { ⌜ place < 2 ^ 40 ⌝ }
-    ensures { λ r. ⌜ r ≡ place + rounded (headerLength y + e .name + e .size) ⌝ }
-{
-    place + layout::entry_size_in(y, e.name as usize, e.size as usize)
-}
-
-pub fn behind(place: usize, e: Entry) -> usize
-    requires { ⌜ place < 2 ^ 40 ⌝ }
-    ensures { λ r. ⌜ r ≡ place + rounded (headerSize + e .name + e .size) ⌝ }
-{
-    place + layout::entry_size(e.name as usize, e.size as usize)
 }
 
 // How many values there are.

@@ -26,8 +26,8 @@ loop-holds c = (omega arith, refl, carried-none _ _ _ _)
 next-value-requires : tie.Need-next-value-requires Inv-loop μ-loop
 next-value-requires c κs = search needs
 
-enum-known-f : tie.Need-enum-known-f Inv-loop μ-loop
-enum-known-f c = search needs
+enum-known-v : tie.Need-enum-known-v Inv-loop μ-loop
+enum-known-v c = search needs
 
 enum-told : tie.Need-enum-told Inv-loop μ-loop
 enum-told c = search needs
@@ -41,29 +41,23 @@ returns c = let b = c .before .before in carried-all (b .before .loop .inv .2) (
 put-other-requires : tie.Need-put-other-requires Inv-loop μ-loop
 put-other-requires c κs =
     let b = c .before .before in
-    let x = next-value (b .before .before .next-value .ensures) (b .f .given .1) in
+    let x = next-value (b .before .before .next-value .ensures) (b .v .given .1) in
     (omega (arith, b .before .before .before .loop .inv .0, x .from-here, x .fits), omega arith)
-
-behind-requires : tie.Need-behind-requires Inv-loop μ-loop
-behind-requires c κs =
-    let b = c .before .before .before .before .before in
-    let x = next-value (b .before .before .next-value .ensures) (b .f .given .1) in
-    omega (arith, x .fits)
 
 loop-less : tie.Need-loop-less Inv-loop μ-loop
 loop-less c =
-    let b = c .before .before .before .before .before .before in
-    rw (c .behind .ensures) (next-value (b .before .before .next-value .ensures) (b .f .given .1) .less)
+    let b = c .before .before .before .before .before in
+    next-value (b .before .before .next-value .ensures) (b .v .given .1) .less
 
 loop-again : tie.Need-loop-again Inv-loop μ-loop
 loop-again c =
-    let b = c .before .before .before .before .before .before in
+    let b = c .before .before .before .before .before in
     let i = b .before .before .before .loop .inv in
-    let x = next-value (b .before .before .next-value .ensures) (b .f .given .1) in
-    let w = c .before .before .before .put-other in (
-      omega (arith, i .0, w .ensures .1, c .behind .ensures, x .from-here, x .size),
+    let x = next-value (b .before .before .next-value .ensures) (b .v .given .1) in
+    let w = c .before .before .put-other in (
+      omega (arith, i .0, w .ensures .1, x .from-here, x .size),
       w .kept .0 ∙ i .1,
-      rw (c .behind .ensures) (carried-next (i .2) x (w .ensures .0)),
+      carried-next (i .2) x (w .ensures .0),
     )
 
 pub put-others-spec : {M : Type 1} → statement M
@@ -74,11 +68,10 @@ put-others-spec =
     μ-loop
     loop-holds
     next-value-requires
-    enum-known-f
+    enum-known-v
     enum-told
     same-length
     returns
     put-other-requires
-    behind-requires
     loop-less
     loop-again)

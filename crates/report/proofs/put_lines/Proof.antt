@@ -25,8 +25,8 @@ loop-holds c = (omega arith, refl, written-none _ _ _ _)
 next-value-in-requires : tie.Need-next-value-in-requires Inv-loop μ-loop
 next-value-in-requires c κs = search needs
 
-enum-known-f : tie.Need-enum-known-f Inv-loop μ-loop
-enum-known-f c = search needs
+enum-known-v : tie.Need-enum-known-v Inv-loop μ-loop
+enum-known-v c = search needs
 
 enum-told : tie.Need-enum-told Inv-loop μ-loop
 enum-told c = search needs
@@ -42,29 +42,23 @@ returns c =
 put-entry-requires : tie.Need-put-entry-requires Inv-loop μ-loop
 put-entry-requires c κs =
     let b = c .before .before in
-    let x = next-value (b .before .before .next-value-in .ensures) (b .f .given .1) in
+    let x = next-value (b .before .before .next-value-in .ensures) (b .v .given .1) in
     (omega (arith, b .before .before .before .loop .inv .0, x .from-here, x .fits), omega arith)
-
-behind-in-requires : tie.Need-behind-in-requires Inv-loop μ-loop
-behind-in-requires c κs =
-    let b = c .before .before .before .before .before in
-    let x = next-value (b .before .before .next-value-in .ensures) (b .f .given .1) in
-    omega (arith, x .fits)
 
 loop-less : tie.Need-loop-less Inv-loop μ-loop
 loop-less c =
-    let b = c .before .before .before .before .before .before in
-    rw (c .behind-in .ensures) (next-value (b .before .before .next-value-in .ensures) (b .f .given .1) .less)
+    let b = c .before .before .before .before .before in
+    next-value (b .before .before .next-value-in .ensures) (b .v .given .1) .less
 
 loop-again : tie.Need-loop-again Inv-loop μ-loop
 loop-again c =
-    let b = c .before .before .before .before .before .before in
+    let b = c .before .before .before .before .before in
     let i = b .before .before .before .loop .inv in
-    let x = next-value (b .before .before .next-value-in .ensures) (b .f .given .1) in
-    let w = c .before .before .before .put-entry in (
-      omega (arith, i .0, w .ensures .1, c .behind-in .ensures, x .from-here, x .size),
+    let x = next-value (b .before .before .next-value-in .ensures) (b .v .given .1) in
+    let w = c .before .before .put-entry in (
+      omega (arith, i .0, w .ensures .1, x .from-here, x .size),
       w .kept .1 .0 ∙ i .1,
-      rw (c .behind-in .ensures) (written-line _ (i .2) x (w .ensures .0)),
+      written-line _ (i .2) x (w .ensures .0),
     )
 
 pub put-lines-spec : {M : Type 1} → statement M
@@ -75,11 +69,10 @@ put-lines-spec =
     μ-loop
     loop-holds
     next-value-in-requires
-    enum-known-f
+    enum-known-v
     enum-told
     same-length
     returns
     put-entry-requires
-    behind-in-requires
     loop-less
     loop-again)

@@ -27,8 +27,8 @@ loop-holds c = let a = c .before .before .args in
 next-value-in-requires : tie.Need-next-value-in-requires Inv-loop μ-loop
 next-value-in-requires c κs = search needs
 
-enum-known-f : tie.Need-enum-known-f Inv-loop μ-loop
-enum-known-f c = search needs
+enum-known-v : tie.Need-enum-known-v Inv-loop μ-loop
+enum-known-v c = search needs
 
 enum-told : tie.Need-enum-told Inv-loop μ-loop
 enum-told c = search needs
@@ -44,29 +44,23 @@ returns c =
 put-value-requires : tie.Need-put-value-requires Inv-loop μ-loop
 put-value-requires c κs =
     let b = c .before .before in
-    let x = next-value (b .before .before .next-value-in .ensures) (b .f .given .1) in
+    let x = next-value (b .before .before .next-value-in .ensures) (b .v .given .1) in
     (omega (arith, b .before .before .before .loop .inv .0, x .from-here, x .fits), omega arith)
-
-behind-in-requires : tie.Need-behind-in-requires Inv-loop μ-loop
-behind-in-requires c κs =
-    let b = c .before .before .before .before .before in
-    let x = next-value (b .before .before .next-value-in .ensures) (b .f .given .1) in
-    omega (arith, x .fits)
 
 loop-less : tie.Need-loop-less Inv-loop μ-loop
 loop-less c =
-    let b = c .before .before .before .before .before .before in
-    rw (c .behind-in .ensures) (next-value (b .before .before .next-value-in .ensures) (b .f .given .1) .less)
+    let b = c .before .before .before .before .before in
+    next-value (b .before .before .next-value-in .ensures) (b .v .given .1) .less
 
 loop-again : tie.Need-loop-again Inv-loop μ-loop
 loop-again c =
-    let b = c .before .before .before .before .before .before in
+    let b = c .before .before .before .before .before in
     let i = b .before .before .before .loop .inv in
-    let x = next-value (b .before .before .next-value-in .ensures) (b .f .given .1) in
-    let w = c .before .before .before .put-value in (
-      omega (arith, i .0, w .ensures .1, c .behind-in .ensures, x .from-here),
+    let x = next-value (b .before .before .next-value-in .ensures) (b .v .given .1) in
+    let w = c .before .before .put-value in (
+      omega (arith, i .0, w .ensures .1, x .from-here, x .size),
       wrote-length (w .ensures .0) ∙ i .1,
-      rw (c .behind-in .ensures) (carried-next _ _ (i .2) x (w .ensures .0)),
+      carried-next _ _ (i .2) x (w .ensures .0),
     )
 
 pub put-values-spec : {M : Type 1} → statement M
@@ -77,11 +71,10 @@ put-values-spec =
     μ-loop
     loop-holds
     next-value-in-requires
-    enum-known-f
+    enum-known-v
     enum-told
     same-length
     returns
     put-value-requires
-    behind-in-requires
     loop-less
     loop-again)

@@ -1,6 +1,5 @@
 -- `convert::room::holds_stamped` meets its contract. The loop's invariant: some value has 0x20 just if one from here on has. What is left of the region falls.
 -- Assumes nothing.
-use native.Mathlib.Omega.{arith}
 use lib.ListN.{length}
 use denote.Ref.{now}
 use Rattle.values.proofs.Stands.{listed-nothing}
@@ -27,8 +26,8 @@ loop-holds c = let a = c .before .args in
 next-value-in-requires : tie.Need-next-value-in-requires Inv-loop μ-loop
 next-value-in-requires c κs = search needs
 
-enum-known-f : tie.Need-enum-known-f Inv-loop μ-loop
-enum-known-f c = search needs
+enum-known-v : tie.Need-enum-known-v Inv-loop μ-loop
+enum-known-v c = search needs
 
 enum-told : tie.Need-enum-told Inv-loop μ-loop
 enum-told c = search needs
@@ -44,26 +43,19 @@ time-based-requires c κs = search needs
 returns-2 : tie.Need-returns-2 Inv-loop μ-loop
 returns-2 c =
     let b = c .before .before .before in
-    let x = next-value (b .before .before .next-value-in .ensures) (b .f .given .1) in
+    let x = next-value (b .before .before .next-value-in .ensures) (b .v .given .1) in
     sym (b .before .before .before .loop .inv ∙ stamped-here _ x (sym (c .before .time-based .ensures) ∙ c .if1 .taken))
-
-behind-in-requires : tie.Need-behind-in-requires Inv-loop μ-loop
-behind-in-requires c κs =
-    let b = c .before .before .before in
-    let x = next-value (b .before .before .next-value-in .ensures) (b .f .given .1) in
-    omega (arith, x .fits)
 
 loop-less : tie.Need-loop-less Inv-loop μ-loop
 loop-less c =
-    let b = c .before .before .before .before in
-    rw (c .behind-in .ensures) (next-value (b .before .before .next-value-in .ensures) (b .f .given .1) .less)
+    let b = c .before .before .before in
+    next-value (b .before .before .next-value-in .ensures) (b .v .given .1) .less
 
 loop-again : tie.Need-loop-again Inv-loop μ-loop
 loop-again c =
-    let b = c .before .before .before .before in
-    let x = next-value (b .before .before .next-value-in .ensures) (b .f .given .1) in
-    b .before .before .before .loop .inv
-    ∙ rw (c .behind-in .ensures) (stamped-next _ x (sym (c .before .before .time-based .ensures) ∙ c .before .if1 .left))
+    let b = c .before .before .before in
+    let x = next-value (b .before .before .next-value-in .ensures) (b .v .given .1) in
+    b .before .before .before .loop .inv ∙ stamped-next _ x (sym (c .before .time-based .ensures) ∙ c .if1 .left)
 
 pub holds-stamped-spec : {M : Type 1} → statement M
 holds-stamped-spec =
@@ -73,11 +65,10 @@ holds-stamped-spec =
     μ-loop
     loop-holds
     next-value-in-requires
-    enum-known-f
+    enum-known-v
     enum-told
     returns
     time-based-requires
     returns-2
-    behind-in-requires
     loop-less
     loop-again)

@@ -2,21 +2,20 @@
 -- What is left of the region falls.
 -- Assumes nothing.
 use Prim.Native.Nat.{_-_}
-use mathlib.Core.Path.{_≡_, refl, sym, _∙_}
+use mathlib.Core.Path.{_≡_, refl, sym, ap, _∙_}
 use lib.ListN.{length}
 use borrow.Author.Needs.{needs}
 use Rattle.model.specs.Lists.{first}
 use Rattle.model.specs.Region.{entriesIn, isValue}
 use Rattle.model.specs.Beside.{fromIn}
 use Rattle.region.proofs.Turns.{at-entry, at-end}
-use Rattle.values.specs.Found.{foundOf}
-use Rattle.values.proofs.Finds.{found-none, found-here, found-next}
+use Rattle.values.specs.Found.{nextOf}
+use Rattle.values.proofs.Finds.{first-none, first-here, first-next, next-at}
 use Rattle.values.proofs.list.next_value_in.Statement.{statement}
 use Rattle.values.proofs.list.next_value_in.Tie as tie
 
 abbrev Inv-loop : tie.InvT-loop
-Inv-loop y region at here₀ here = foundOf (first (isValue (entriesIn y region)) (fromIn y region at)) ≡ foundOf
-    (first (isValue (entriesIn y region)) (fromIn y region here))
+Inv-loop y region at here₀ here = first (isValue (entriesIn y region)) (fromIn y region at) ≡ first (isValue (entriesIn y region)) (fromIn y region here)
 
 abbrev μ-loop : tie.MeasureT-loop
 μ-loop y region at here₀ here = length region - here
@@ -36,7 +35,7 @@ enum-told c = search needs
 returns : tie.Need-returns Inv-loop μ-loop
 returns c =
     let b = c .before .before in
-    sym (b .before .loop .inv ∙ found-none (at-end (b .turn-in .ensures) (c .enum-told .given .1)) _)
+    sym (ap nextOf (b .before .loop .inv ∙ first-none (at-end (b .turn-in .ensures) (c .enum-told .given .1)) _))
 
 is-value-in-requires : tie.Need-is-value-in-requires Inv-loop μ-loop
 is-value-in-requires c κs = search needs
@@ -45,7 +44,7 @@ returns-2 : tie.Need-returns-2 Inv-loop μ-loop
 returns-2 c =
     let b = c .before .before .before in
     let w = at-entry (b .before .before .turn-in .ensures) (b .t .given .1) in
-    sym (b .before .before .before .loop .inv ∙ found-here w _ (sym (c .before .is-value-in .ensures) ∙ c .if1 .taken))
+    sym (ap nextOf (b .before .before .before .loop .inv ∙ first-here w _ (sym (c .before .is-value-in .ensures) ∙ c .if1 .taken)) ∙ next-at w)
 
 loop-less : tie.Need-loop-less Inv-loop μ-loop
 loop-less c = let b = c .before .before .before in at-entry (b .before .before .turn-in .ensures) (b .t .given .1) .less
@@ -54,7 +53,7 @@ loop-again : tie.Need-loop-again Inv-loop μ-loop
 loop-again c =
     let b = c .before .before .before in
     let w = at-entry (b .before .before .turn-in .ensures) (b .t .given .1) in
-    b .before .before .before .loop .inv ∙ found-next w _ (sym (c .before .is-value-in .ensures) ∙ c .if1 .left)
+    b .before .before .before .loop .inv ∙ first-next w _ (sym (c .before .is-value-in .ensures) ∙ c .if1 .left)
 
 pub next-value-in-spec : {M : Type 1} → statement M
 next-value-in-spec =
