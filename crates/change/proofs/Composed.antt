@@ -4,14 +4,21 @@
 use Prim.Native.Nat.{ℕ, _+_, _^_, _≤_, _<_}
 use native.Mathlib.Omega.{arith}
 use mathlib.Core.Path.{_≡_, ap, _∙_}
+use mathlib.Core.Bool.{true}
 use mathlib.Core.List.{List, [], _∷_, _++_, append-assoc}
 use lib.ListN.{length, length-append}
+use Rattle.model.specs.Name.{Key}
 use Rattle.model.specs.Image.{regionHeader}
 use Rattle.model.specs.Entry.{Value, keyOf, entrySize, entryBytes}
+use Rattle.model.specs.Region.{entries, standing, sound, values}
 use Rattle.model.specs.Change.{without, put, step, entrySizes, spaceOf, entrySizesIn, spaceIn}
 use Rattle.model.specs.Compact.{joined}
+use Rattle.values.specs.declared.Found.{Found}
+use Rattle.values.specs.Found.{foundOf}
 use Rattle.output.specs.Text.{Wrote}
 use Rattle.output.proofs.Writing.{wrote-append, wrote-as}
+use Rattle.compose.specs.Compose.{valuesBut, leaveOf}
+use Rattle.compose.proofs.Leaving.{leaving-standing}
 use Rattle.compose.proofs.Encoded.{joined-put}
 
 module _ (n : ℕ) (v : Value) (vs : List Value) where
@@ -40,6 +47,12 @@ module _ (n : ℕ) (v : Value) (vs : List Value) where
       let all = ap length with-put in
       let both = length-append others (entryBytes 0x3F v) in
       (omega (arith, h .2), omega arith, h .0, omega arith, h .1)
+
+-- the others: the place that is left out is that of the name's value
+pub others-wrote : (r : List ℕ) (k : Key) {leave l l₁ : List ℕ} {f : Found} {n : ℕ} → sound r ≡ true → leave ≡ leaveOf f → f ≡ foundOf (standing k (entries r))
+    → Wrote (regionHeader (length r) ++ joined (valuesBut leave r)) 0 l l₁ n → Wrote (regionHeader (length r) ++ joined (without k (values (entries r)))) 0 l l₁ n
+others-wrote r k s p q w =
+    wrote-as (ap (λ (vs : List Value). regionHeader (length r) ++ joined vs) (ap (λ (o : List ℕ). valuesBut o r) (p ∙ ap leaveOf q) ∙ leaving-standing r s k)) w
 
 -- the changed one's own space
 last-space : (v : Value) (ws : List Value) → entrySize v ≤ entrySizes (ws ++ (v ∷ []))

@@ -5,13 +5,13 @@ use Prim.Native.Nat.{ℕ, _+_, _*_, _-_, _^_, _≤_, _<_}
 use native.Mathlib.Omega.{arith}
 use mathlib.Core.Path.{_≡_, refl, sym, ap, _∙_, subst}
 use mathlib.Core.Bool.{true, false}
-use mathlib.Core.List.{List, _++_}
+use mathlib.Core.List.{List, [], _++_}
 use lib.ListN.{length, take, replicate, length-append, length-replicate}
 use Rattle.model.specs.Layout.{authenticated}
 use Rattle.model.specs.Lists.{part}
 use Rattle.model.specs.Image.{block, regionSize, region, work, regionHeader}
-use Rattle.model.specs.Entry.{Value}
-use Rattle.model.specs.Region.{entries, values, valuesOf, valuesIn}
+use Rattle.model.specs.Entry.{Value, keyOf}
+use Rattle.model.specs.Region.{entries, standing, sound, values, valuesOf, valuesIn}
 use Rattle.model.specs.Work.{usedRecords}
 use Rattle.model.specs.Change.{put, step, spaceOf}
 use Rattle.model.specs.Compact.{joined, encode, nextRecord, fillSpare, finish, compactTo, compactOn}
@@ -22,6 +22,7 @@ use Rattle.model.specs.Book.{ClearsOne, isRecord}
 use Rattle.model.proofs.Chunks.{sound-chunked}
 use Rattle.model.proofs.Encode.{AllValid, sound-valid, put-valid}
 use Rattle.values.specs.declared.Places.{Places}
+use Rattle.values.specs.Found.{foundOf, elseFound}
 use Rattle.output.specs.Text.{Wrote}
 use Rattle.output.proofs.Writing.{wrote-append, wrote-front, wrote-length}
 use Rattle.compose.proofs.Encoded.{content-length, encode-content}
@@ -32,6 +33,7 @@ use Rattle.plan.specs.Plan.{storesOfStep}
 use Rattle.plan.specs.Planned.{accepted, decidesRight}
 use Rattle.plan.proofs.Parts.{mark-decides, accepted-as, accepted-ready}
 use Rattle.orders.specs.Compactions.{compactPlan}
+use Rattle.orders.proofs.EntryPlans.{standing-is}
 use Rattle.orders.proofs.CompactionPlans.{compact-to, compact-on}
 use Rattle.orders.proofs.CompactionReady.{compact-ready}
 use Rattle.change.specs.Asked.{Asked, PutPlanned}
@@ -57,12 +59,14 @@ module _ {img : List ℕ} {b : ℕ} {at : ℕ} {places : Places} {v : Value} (a 
 
   -- what the composing asks
   pub fold-room : {r : List ℕ} → r ≡ part 0 (4096 * b) img
-      → (length r ≤ 28672) × (length (v .name) < 2 ^ 32) × (length (v .bytes) < 2 ^ 32) × (length (v .vendor) ≡ 16) × (length (after r v) ≤ 28672)
+      → (sound r ≡ true) × (elseFound (places .added) (places .replacing) ≡ foundOf (standing (keyOf v) (entries r)))
+      × (length r ≤ 28672) × (length (v .name) < 2 ^ 32) × (length (v .bytes) < 2 ^ 32) × (length (v .vendor) ≡ 16) × (length (after r v) ≤ 28672)
   fold-room {r} e =
       let few = a .ready .few in
       let h = value-short v (a .ready) (a .room) in
       let n = after-short in
-      rw (e ∙ a .ready .cut) (omega (arith, a .ready .long), omega arith, omega arith, vendor, omega arith)
+      let is = standing-is [] places (keyOf v) (entries (region img)) (a .added) (a .replacing) in
+      rw (e ∙ a .ready .cut) (a .ready .sounds, is, omega (arith, a .ready .long), omega arith, omega arith, vendor, omega arith)
 
   whole-content : after (region img) v ++ replicate (block * b - length (after (region img) v)) 0xFF ≡ encode (regionSize img) (step (put v) (valuesOf img))
   unfolding valuesIn block

@@ -4,16 +4,19 @@ ghost use mathlib.Core.Bool.{true, false};
 ghost use mathlib.Core.List.{_++_};
 ghost use Prim.Native.Nat.{_^_, _≤_, _<_};
 ghost use lib.ListN.{length};
+ghost use Rattle.model.specs.Name.{keyed};
 ghost use Rattle.model.specs.Image.{regionHeader, region};
-ghost use Rattle.model.specs.Region.{entries, values};
+ghost use Rattle.model.specs.Region.{entries, standing, sound, values};
 ghost use Rattle.model.specs.Change.{put, step};
 ghost use Rattle.model.specs.Compact.{joined};
 ghost use Rattle.model.specs.Set.{fitsTail};
+ghost use Rattle.values.specs.Found.{foundOf, elseFound};
 ghost use Rattle.output.specs.Text.{Wrote};
 ghost use Rattle.change.specs.Asked.{valued, Asked, PutPlanned};
 use plan::Planned;
 use plan::Step;
 use values::Places;
+use values::lookup;
 
 // What stands in an image that is ready: its number of blocks, the offset of its tail, and where the entries of the name are.
 pub struct Standing {
@@ -26,6 +29,7 @@ pub struct Standing {
 fn put_after(
     out: &mut [u8],
     region: &[u8],
+    places: Places,
     name: &[u8],
     vendor: &[u8],
     attributes: u32,
@@ -33,7 +37,9 @@ fn put_after(
     old: &[u8],
     own: &[u8],
 ) -> usize
-    requires { ⌜ (length (now region) ≤ 28672)
+    requires { ⌜ (sound (now region) ≡ true)
+        × (elseFound (places .added) (places .replacing) ≡ foundOf (standing (keyed (now name) (now vendor)) (entries (now region))))
+        × (length (now region) ≤ 28672)
         × (length (now name) < 2 ^ 32)
         × (length (now old ++ now own) < 2 ^ 32)
         × (length (now vendor) ≡ 16)
@@ -47,7 +53,8 @@ fn put_after(
         (values (entries (now (region .entry)))))) 0 (now (out .entry)) (now (out .exit)) r
         × (length (now (vendor .entry)) ≡ 16) ⌝ }
 {
-    let next = compose::put_values(out, region, name, vendor);
+    let leave = compose::left_out(lookup::standing(places));
+    let next = compose::put_values(out, region, leave);
     compose::put_entry(out, next, attributes, stamp, name, vendor, old, own)
 }
 
@@ -71,9 +78,11 @@ fn fold(
         (valued (now (name .entry)) (now (vendor .entry)) attributes (now (stamp .entry)) (now (old .entry) ++ now (own .entry))) (now (content .exit)) r ⌝ }
 {
     let b = standing.b;
+    let places = standing.places;
     let n = put_after(
         content,
         slices::cut(image, 0, layout::BLOCK * b),
+        places,
         name,
         vendor,
         attributes,

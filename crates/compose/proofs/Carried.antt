@@ -1,34 +1,30 @@
--- The values of a region without those of one name, joined: the joined entries of joined lists are the joined entries, by induction over the first list, and
--- taking a name out of a list takes it out of its parts. So a loop that carries value after value over has at each turn written a text that the values still to
--- come make whole. In a sound region every value has a well-formed name, so none is left out under the empty one.
+-- The values of a region but those left out, joined: the joined entries of joined lists are the joined entries, by induction over the first list, and leaving
+-- places out of a list leaves them out of its parts. So a loop that carries value after value over has at each turn written a text that the values still to
+-- come make whole.
 -- Assumes nothing.
 use Prim.Native.Nat.{ℕ, _+_, _-_, _≤_}
 use native.Mathlib.Nat.{min-le-left}
 use native.Mathlib.Omega.{arith}
 use mathlib.Core.Path.{_≡_, refl, sym, ap, _∙_}
-use mathlib.Core.Bool.{Bool, true, false, not, cond, _&&_, false≢true, _||_}
+use mathlib.Core.Bool.{Bool, true, false, not, cond}
 use mathlib.Core.List.{List, [], _∷_, _++_, map, append-assoc, append-nil}
 use lib.ListN.{length, drop, length-take}
-use lib.Dec.{leb}
-use borrow.Author.Tests.{eq-eqb}
 use Rattle.model.specs.Layout.{authenticated}
-use Rattle.model.specs.Lists.{part, same, all, keep, among}
-use Rattle.model.specs.Name.{Key, keyed, sameKey, zeroEnded, wellNamed, recordName}
-use Rattle.model.specs.Entry.{Value, keyOf, entrySize, entryBytes}
+use Rattle.model.specs.Lists.{part, keep, among}
+use Rattle.model.specs.Entry.{Value, entrySize, entryBytes}
 use Rattle.model.specs.Walk as walk
-use Rattle.model.specs.Region.{entries, live, rightHeader, knownState, within, rightLive, isEntry, undoubled, sound, isValue, values, storedAttributes, maxData, soundIn, recordBit}
-use Rattle.model.specs.Change.{without}
+use Rattle.model.specs.Region.{entries, isValue}
 use Rattle.model.specs.Compact.{joined, joinedIn}
-use Rattle.model.proofs.Tests.{and-split}
-use Rattle.model.proofs.Encode.{value-live}
+use Rattle.model.proofs.Walking.{entries-from}
 use Rattle.layout.specs.declared.Entry as numbers
 use Rattle.region.specs.Walk.{entryAt, stampAt, vendorAt, entryAs, vendorAs}
 use Rattle.region.proofs.Entries.{stamp as stamp-part, vendor as vendor-part}
-use Rattle.values.proofs.Listed.{listed, listed-all}
+use Rattle.values.proofs.Listed.{valueEntries}
 use Rattle.values.proofs.Sizes.{lengths}
 use Rattle.values.proofs.Next.{Next}
 use Rattle.output.specs.Text.{Wrote}
 use Rattle.output.proofs.Writing.{wrote-none, wrote-append, wrote-as}
+use Rattle.compose.specs.Compose.{leaving, valuesBut}
 use Rattle.compose.proofs.Headers.{entry-short}
 
 -- ---- an entry's value by what is read of it
@@ -70,19 +66,14 @@ module _ (r : List ℕ) (a : ℕ) (e : numbers.Entry) {stamp name vendor bytes :
 
 -- ---- a value carried over, or left out
 
-module _ (r : List ℕ) (a : ℕ) (e : numbers.Entry) (k : Key) where
-  named : isEntry (e .state) k (entryAt r a e) ≡ sameKey (keyOf (walk.entryValue (entryAt r a e))) k
-  unfolding entryAs walk.placed
-  named = rw (eq-eqb (e .state) (e .state) refl)
+module _ (r : List ℕ) (a : ℕ) (e : numbers.Entry) (leave : List ℕ) where
+  pub left-out : among leave a ≡ true → joined (leaving leave (entryAt r a e ∷ [])) ≡ []
+  unfolding leaving joinedIn entryAs walk.placed
+  left-out h = rw h
 
-  pub left-out : isEntry (e .state) k (entryAt r a e) ≡ true → joined (without k (walk.entryValue (entryAt r a e) ∷ [])) ≡ []
-  unfolding without joinedIn
-  left-out h = rw (sym named ∙ h)
-
-  pub carried-over : isEntry (e .state) k (entryAt r a e) ≡ false
-      → entryBytes 0x3F (walk.entryValue (entryAt r a e)) ≡ joined (without k (walk.entryValue (entryAt r a e) ∷ []))
-  unfolding without joinedIn
-  carried-over h = rw (sym named ∙ h) (sym (append-nil (entryBytes 0x3F (walk.entryValue (entryAt r a e)))))
+  pub carried-over : among leave a ≡ false → entryBytes 0x3F (walk.entryValue (entryAt r a e)) ≡ joined (leaving leave (entryAt r a e ∷ []))
+  unfolding leaving joinedIn entryAs walk.placed
+  carried-over h = rw h (sym (append-nil (entryBytes 0x3F (walk.entryValue (entryAt r a e)))))
 
 -- ---- the loop
 
@@ -91,86 +82,47 @@ unfolding joinedIn
 joined-append [] ys = refl
 joined-append (x ∷ xs) ys = rw (append-assoc, joined-append xs ys)
 
-without-cons : (k : Key) (v : Value) (vs : List Value) → without k (v ∷ vs) ≡ without k (v ∷ []) ++ without k vs
-unfolding without
-without-cons k v vs = go (sameKey (keyOf v) k)
+leaving-cons : (leave : List ℕ) (e : walk.Entry) (es : List walk.Entry) → leaving leave (e ∷ es) ≡ leaving leave (e ∷ []) ++ leaving leave es
+unfolding leaving
+leaving-cons leave e es = go (among leave (e .at))
   where
-    go : (t : Bool) → cond (not t) (v ∷ without k vs) (without k vs) ≡ cond (not t) (v ∷ []) [] ++ without k vs
+    go : (t : Bool) → map walk.entryValue (cond (not t) (e ∷ keep (λ x. not (among leave (x .at))) es) (keep (λ x. not (among leave (x .at))) es))
+        ≡ map walk.entryValue (cond (not t) (e ∷ []) []) ++ map walk.entryValue (keep (λ x. not (among leave (x .at))) es)
     go true = refl
     go false = refl
 
 -- the values before an offset are written, from a place of a buffer on
-pub record Carried (r : List ℕ) (k : Key) (at : ℕ) (out out′ : List ℕ) (next here : ℕ) : Type 0 where
+pub record Carried (r leave : List ℕ) (at : ℕ) (out out′ : List ℕ) (next here : ℕ) : Type 0 where
   pub text : List ℕ
-  pub whole : joined (without k (values (entries r))) ≡ text ++ joined (without k (listed r here))
+  pub whole : joined (valuesBut leave r) ≡ text ++ joined (leaving leave (valueEntries authenticated r here))
   pub wrote : Wrote text at out out′ next
 
-pub carried-none : (r : List ℕ) (k : Key) (at : ℕ) (out : List ℕ) → Carried r k at out out at 28
-carried-none r k at out =
-    record { text = []; whole = ap (λ (vs : List Value). joined (without k vs)) (listed-all authenticated r); wrote = wrote-none at out }
+pub carried-none : (r leave : List ℕ) (at : ℕ) (out : List ℕ) → Carried r leave at out out at 28
+unfolding valuesBut
+carried-none r leave at out = record {
+  text = [];
+  whole = ap (λ (es : List walk.Entry). joined (leaving leave (keep (isValue (entries r)) es))) (entries-from authenticated r);
+  wrote = wrote-none at out;
+}
 
-pub carried-next : {r : List ℕ} {k : Key} {at here a after : ℕ} {e : numbers.Entry} {n n′ : ℕ} {l l′ l″ : List ℕ}
-    → Carried r k at l l′ n here → Next authenticated r here a e after → Wrote (joined (without k (walk.entryValue (entryAt r a e) ∷ []))) n l′ l″ n′
-    → Carried r k at l l″ n′ after
-carried-next {r} {k} {a = a} {after} {e} w x p =
-    let v = walk.entryValue (entryAt r a e) in
-    let rest = listed r after in
+pub carried-next : {r leave : List ℕ} {at here a after : ℕ} {e : numbers.Entry} {n n′ : ℕ} {l l′ l″ : List ℕ}
+    → Carried r leave at l l′ n here → Next authenticated r here a e after → Wrote (joined (leaving leave (entryAt r a e ∷ []))) n l′ l″ n′
+    → Carried r leave at l l″ n′ after
+carried-next {r} {leave} {a = a} {after} {e} w x p =
+    let this = leaving leave (entryAt r a e ∷ []) in
+    let rest = leaving leave (valueEntries authenticated r after) in
     record {
-      text = w .text ++ joined (without k (v ∷ []));
+      text = w .text ++ joined this;
       whole =
           w .whole
-          ∙ ap (λ (vs : List Value). w .text ++ joined (without k vs)) (x .list)
-          ∙ ap (λ (vs : List Value). w .text ++ joined vs) (without-cons k v rest)
-          ∙ ap (λ (l : List ℕ). w .text ++ l) (joined-append (without k (v ∷ [])) (without k rest))
-          ∙ sym (append-assoc (w .text) (joined (without k (v ∷ []))) (joined (without k rest)));
+          ∙ ap (λ (es : List walk.Entry). w .text ++ joined (leaving leave es)) (x .entry)
+          ∙ ap (λ (vs : List Value). w .text ++ joined vs) (leaving-cons leave (entryAt r a e) (valueEntries authenticated r after))
+          ∙ ap (λ (l : List ℕ). w .text ++ l) (joined-append this rest)
+          ∙ sym (append-assoc (w .text) (joined this) (joined rest));
       wrote = wrote-append (w .wrote) p;
     }
 
-pub carried-all : {r : List ℕ} {k : Key} {at here n : ℕ} {l l′ : List ℕ} → Carried r k at l l′ n here → listed r here ≡ []
-    → Wrote (joined (without k (values (entries r)))) at l l′ n
-unfolding joinedIn without
-carried-all {r} {k} w p = wrote-as (sym (w .whole ∙ rw (p, append-nil))) (w .wrote)
-
--- ---- under the empty name none is left out
-
-well-named : (e : walk.Entry) → live e ≡ true → rightLive e ≡ true → same (e .name) [] ≡ false
-unfolding rightLive wellNamed zeroEnded same
-well-named e l h =
-    go (e .name) (and-split (wellNamed (e .name) && sized) stored (and-split (wellNamed (e .name) && sized && stored) recorded (rw l at h) .0) .0)
-  where
-    sized : Bool
-    sized = leb 1 (e .header .dataSize) && leb (e .header .dataSize) maxData
-
-    stored : Bool
-    stored = among storedAttributes (e .header .attributes)
-
-    recorded : Bool
-    recorded = not (recordBit (e .header .attributes)) || recordName (walk.entryKey e)
-
-    go : (name : List ℕ) → (wellNamed name && sized) ≡ true → same name [] ≡ false
-    go [] h = absurd (false≢true h)
-    go (b ∷ name) h = refl
-
-unnamed : (g : List ℕ) (es ys : List walk.Entry) → all rightLive ys ≡ true
-    → without (keyed [] g) (map walk.entryValue (keep (isValue es) ys)) ≡ map walk.entryValue (keep (isValue es) ys)
-unfolding without
-unnamed g es [] h = refl
-unnamed g es (e ∷ ys) h = go (isValue es e) refl (unnamed g es ys (k .1))
-  where
-    k : (rightLive e ≡ true) × (all rightLive ys ≡ true)
-    k = and-split (rightLive e) (all rightLive ys) h
-
-    rest : List Value
-    rest = map walk.entryValue (keep (isValue es) ys)
-
-    go : (t : Bool) → isValue es e ≡ t → without (keyed [] g) rest ≡ rest
-        → without (keyed [] g) (map walk.entryValue (cond t (e ∷ keep (isValue es) ys) (keep (isValue es) ys))) ≡ map walk.entryValue (cond t (e ∷ keep (isValue es) ys) (keep (isValue es) ys))
-    go true p i = rw (well-named e (value-live es e p) (k .0)) (ap (λ (vs : List Value). walk.entryValue e ∷ vs) i)
-    go false p i = i
-
-pub without-unnamed : (r g : List ℕ) → sound r ≡ true → without (keyed [] g) (values (entries r)) ≡ values (entries r)
-unfolding soundIn values
-without-unnamed r g h =
-    let a = and-split (rightHeader r && all knownState (entries r) && all (within (length r)) (entries r) && all rightLive (entries r)) (undoubled (entries r)) h .0 in
-    let b = and-split (rightHeader r && all knownState (entries r) && all (within (length r)) (entries r)) (all rightLive (entries r)) a .1 in
-    unnamed g (entries r) (entries r) b
+pub carried-all : {r leave : List ℕ} {at here n : ℕ} {l l′ : List ℕ} → Carried r leave at l l′ n here → valueEntries authenticated r here ≡ []
+    → Wrote (joined (valuesBut leave r)) at l l′ n
+unfolding joinedIn leaving
+carried-all w p = wrote-as (sym (w .whole ∙ rw (p, append-nil))) (w .wrote)

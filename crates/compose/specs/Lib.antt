@@ -1,2 +1,2 @@
--- The bytes of an entry's header by its fields, and the data that an append keeps.
+-- The bytes of an entry's header by its fields, and the values that a compaction carries over.
 pub mod Compose

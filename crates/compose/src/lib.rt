@@ -4,20 +4,18 @@ ghost use mathlib.Core.Path.{_≡_};
 ghost use Prim.Native.Nat.{_+_, _-_, _^_, _<_, _≤_};
 ghost use mathlib.Core.List.{[], _∷_, _++_};
 ghost use lib.ListN.{length, replicate};
-ghost use Rattle.model.specs.Lists.{bytes32};
-ghost use Rattle.model.specs.Name.{keyed};
+ghost use Rattle.model.specs.Lists.{bytes32, among};
 ghost use Rattle.model.specs.Image.{regionHeader};
 ghost use Rattle.model.specs.Entry.{rounded, entrySize, entryBytes};
 ghost use Rattle.model.specs.Walk.{entryValue};
-ghost use Rattle.model.specs.Region.{entries, values};
-ghost use Rattle.model.specs.Change.{without};
 ghost use Rattle.model.specs.Compact.{joined};
 ghost use Rattle.region.specs.Walk.{entryAt};
 ghost use Rattle.output.specs.Text.{Wrote};
-ghost use Rattle.compose.specs.Compose.{beforeStamp, behindStamp, headerBytes};
+ghost use Rattle.compose.specs.Compose.{beforeStamp, behindStamp, headerBytes, leaving, valuesBut, leaveOf};
 use layout::Entry;
 use model::Layout;
 use region::walk;
+use values::Found;
 use values::NextValue;
 use values::list;
 
@@ -189,33 +187,44 @@ fn put_value(out: &mut [u8], at: usize, region: &[u8], place: usize, e: Entry) -
     put_entry(out, at, e.attributes, stamp, name, vendor, data, &data[..0])
 }
 
-// A value carried over unless it has this name and GUID.
+// Whether an offset is one of those to leave out.
+fn is_left_out(leave: &[usize], place: usize) -> bool
+    ensures { λ r. ⌜ r ≡ among (now (leave .entry)) place ⌝ }
+{
+    let mut i = 0;
+    while i < leave.len() {
+        if place == leave[i] {
+            return true;
+        }
+        i += 1;
+    }
+    false
+}
+
+// A value carried over unless its entry is one to leave out.
 fn put_other(
     out: &mut [u8],
     at: usize,
     region: &[u8],
     place: usize,
     e: Entry,
-    name: &[u8],
-    vendor: &[u8],
+    leave: &[usize],
 ) -> usize
     requires { ⌜ (at < 2 ^ 62) × (length (now region) ≤ 28672) ⌝ }
     ensures { λ r.
-        ⌜ Wrote (joined (without (keyed (now (name .entry)) (now (vendor .entry))) (entryValue (entryAt (now (region .entry)) place e) ∷ []))) at
-        (now (out .entry)) (now (out .exit)) r × (r ≤ at + entrySize (entryValue (entryAt (now (region .entry)) place e))) ⌝ }
+        ⌜ Wrote (joined (leaving (now (leave .entry)) (entryAt (now (region .entry)) place e ∷ []))) at (now (out .entry)) (now (out .exit)) r
+        × (r ≤ at + entrySize (entryValue (entryAt (now (region .entry)) place e))) ⌝ }
 {
-    if walk::is_entry(region, place, e, e.state, name, vendor) {
+    if is_left_out(leave, place) {
         return at;
     }
     put_value(out, at, region, place, e)
 }
 
-// The values in flash order, but for one name and GUID.
-fn put_others(out: &mut [u8], at: usize, region: &[u8], name: &[u8], vendor: &[u8]) -> usize
+// The values in flash order, but those to leave out.
+fn put_others(out: &mut [u8], at: usize, region: &[u8], leave: &[usize]) -> usize
     requires { ⌜ (at < 2 ^ 32) × (length (now region) ≤ 28672) ⌝ }
-    ensures { λ r.
-        ⌜ Wrote (joined (without (keyed (now (name .entry)) (now (vendor .entry))) (values (entries (now (region .entry)))))) at (now (out .entry))
-        (now (out .exit)) r ⌝ }
+    ensures { λ r. ⌜ Wrote (joined (valuesBut (now (leave .entry)) (now (region .entry)))) at (now (out .entry)) (now (out .exit)) r ⌝ }
 {
     let mut next = at;
     let mut here: usize = layout::REGION_HEADER;
@@ -224,22 +233,29 @@ fn put_others(out: &mut [u8], at: usize, region: &[u8], name: &[u8], vendor: &[u
         let NextValue::At(place, e, after) = v else {
             return next;
         };
-        next = put_other(out, next, region, place, e, name, vendor);
+        next = put_other(out, next, region, place, e, leave);
         here = after;
     }
 }
 
-// The front of a compacted region: its header, and the values without the one that is changed. Under the empty name no value of a sound region is left out.
-pub fn put_values(out: &mut [u8], region: &[u8], name: &[u8], vendor: &[u8]) -> usize
+// The offset of what is found, to be left out: 0 is the offset of no entry.
+pub fn left_out(found: Found) -> [usize; 8]
+    ensures { λ r. ⌜ r ≡ leaveOf found ⌝ }
+{
+    match found {
+        Found::At(at, _) => [at, 0, 0, 0, 0, 0, 0, 0],
+        Found::Nothing => [0; 8],
+    }
+}
+
+// The front of a compacted region: its header, and the values but those whose entries are at one of eight offsets.
+pub fn put_values(out: &mut [u8], region: &[u8], leave: [usize; 8]) -> usize
     requires { ⌜ length (now region) ≤ 28672 ⌝ }
-    ensures { λ r.
-        ⌜ Wrote
-        (regionHeader (length (now (region .entry))) ++ joined
-        (without (keyed (now (name .entry)) (now (vendor .entry))) (values (entries (now (region .entry)))))) 0 (now (out .entry)) (now (out .exit)) r ⌝ }
+    ensures { λ r. ⌜ Wrote (regionHeader (length (now (region .entry))) ++ joined (valuesBut leave (now (region .entry)))) 0 (now (out .entry)) (now (out .exit)) r ⌝ }
 {
     let header = layout::fixed::region_header(region.len());
     let next = output::put_bytes(out, 0, &header);
-    put_others(out, next, region, name, vendor)
+    put_others(out, next, region, &leave)
 }
 
 // FF bytes up to the end of what is composed.

@@ -87,16 +87,7 @@ fn plan_ready(
 {
     let terms = session::terms(s, name, vendor);
     let region = slices::cut(image, 0, layout::BLOCK * b);
-    let d = decision::decide(
-        s.setup,
-        terms,
-        region,
-        tail,
-        name,
-        vendor,
-        asking,
-        bytes,
-    );
+    let d = decision::decide(s.setup, terms, region, tail, name, vendor, asking, bytes);
     let what = d.what;
     let places = d.places;
     let value = d.value;

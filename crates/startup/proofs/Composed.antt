@@ -1,25 +1,24 @@
--- The region that is composed where no value changes: under the empty name no value of a sound region is left out, its values fit, and with FF bytes behind them they
--- are the region that a compaction stores.
+-- The region that is composed where no value changes: with no place none is left out, the values of a sound region fit, and with FF bytes after them
+-- they are the region that a compaction stores.
 -- Assumes nothing.
 use Prim.Native.Nat.{ℕ, _+_, _*_, _-_, _≤_}
 use native.Mathlib.Omega.{arith}
 use mathlib.Core.Path.{_≡_, sym, ap, _∙_}
 use mathlib.Core.Bool.{true}
-use mathlib.Core.List.{List, [], _++_}
+use mathlib.Core.List.{List, _++_}
 use lib.ListN.{length, take, replicate, length-append, length-replicate}
 use Rattle.model.specs.Layout.{authenticated}
 use Rattle.model.specs.Lists.{part}
-use Rattle.model.specs.Name.{keyed}
 use Rattle.model.specs.Image.{block, regionHeader, region}
 use Rattle.model.specs.Entry.{Value}
 use Rattle.model.specs.Region.{entries, values, valuesOf, sound, valuesIn}
-use Rattle.model.specs.Change.{without}
 use Rattle.model.specs.Compact.{joined, encode}
 use Rattle.model.proofs.Chunks.{Chunked, region-chunked}
 use Rattle.model.proofs.Encode.{AllValid, sound-valid, sound-fits}
 use Rattle.output.specs.Text.{Wrote}
 use Rattle.output.proofs.Writing.{wrote-as, wrote-append, wrote-length, wrote-front}
-use Rattle.compose.proofs.Carried.{without-unnamed}
+use Rattle.compose.specs.Compose.{valuesBut}
+use Rattle.compose.proofs.Leaving.{leaving-none}
 use Rattle.compose.proofs.Encoded.{content-length, encode-content}
 use Rattle.startup.proofs.Stages.{its-region, region-long}
 
@@ -43,15 +42,15 @@ module _ (img : List ℕ) (b : ℕ) (low : 1 ≤ b) (high : b ≤ 7) (long : len
       omega (arith, sound-fits authenticated (region img) chunked)
 
   all-carried : {s : List ℕ} → s ≡ part 0 (block * b) img
-      → regionHeader (length s) ++ joined (without (keyed [] []) (values (entries s))) ≡ content img b
+      → regionHeader (length s) ++ joined (valuesBut (replicate 8 0) s) ≡ content img b
   unfolding valuesIn
   all-carried {s} e =
-      ap (λ (x : List ℕ). regionHeader (length x) ++ joined (without (keyed [] []) (values (entries x)))) (e ∙ its-region img b low high long)
-      ∙ ap (λ (k : ℕ). regionHeader k ++ joined (without (keyed [] []) (values (entries (region img))))) (region-long img b low high long)
-      ∙ ap (λ (vs : List Value). regionHeader (block * b) ++ joined vs) (without-unnamed (region img) [] sounds)
+      ap (λ (x : List ℕ). regionHeader (length x) ++ joined (valuesBut (replicate 8 0) x)) (e ∙ its-region img b low high long)
+      ∙ ap (λ (k : ℕ). regionHeader k ++ joined (valuesBut (replicate 8 0) (region img))) (region-long img b low high long)
+      ∙ ap (λ (vs : List Value). regionHeader (block * b) ++ joined vs) (leaving-none (region img))
 
   module _ {s l l₁ : List ℕ} {n : ℕ} (e : s ≡ part 0 (block * b) img)
-      (w : Wrote (regionHeader (length s) ++ joined (without (keyed [] []) (values (entries s)))) 0 l l₁ n) (room : length l ≡ 28672) where
+      (w : Wrote (regionHeader (length s) ++ joined (valuesBut (replicate 8 0) s)) 0 l l₁ n) (room : length l ≡ 28672) where
     front : Wrote (content img b) 0 l l₁ n
     front = wrote-as (all-carried e) w
 

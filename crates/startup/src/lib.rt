@@ -84,7 +84,7 @@ fn compose_all(image: &[u8], b: usize, content: &mut [u8])
     ensures { λ _. ⌜ part 0 (block * b) (now (content .exit)) ≡ encode (block * b) (values (entries (region (now (image .entry))))) ⌝ }
 {
     let region = slices::cut(image, 0, layout::BLOCK * b);
-    let n = compose::put_values(content, region, &region[..0], &region[..0]);
+    let n = compose::put_values(content, region, [0; 8]);
     compose::put_blank(content, n, layout::BLOCK * b - n);
 }
 

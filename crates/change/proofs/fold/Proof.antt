@@ -15,7 +15,7 @@ cut-requires c κs = search needs
 
 put-after-requires : tie.Need-put-after-requires
 put-after-requires c κs =
-    let s = c .before .before .before .before .before .before .before .before in
+    let s = c .before .before .before .before .before .before .before .before .before in
     let ve : length (now (s .args .vendor)) ≡ 16 = search needs in
     fold-room (s .pre .0) ve (c .before .cut .ensures)
 
@@ -24,13 +24,13 @@ mul-put-blank c = search needs
 
 sub-put-blank : tie.Need-sub-put-blank
 sub-put-blank c =
-    let s = c .before .before .before .before .before .before .before .before .before .before .before .before in
+    let s = c .before .before .before .before .before .before .before .before .before .before .before .before .before in
     let ve : length (now (s .args .vendor)) ≡ 16 = search needs in
     pad-asked (s .pre .0) ve (c .before .before .before .before .before .cut .ensures) (c .before .before .before .put-after .ensures .0) (s .pre .2) .0
 
 put-blank-requires : tie.Need-put-blank-requires
 put-blank-requires c κs =
-    let s = c .before .before .before .before .before .before .before .before .before .before .before .before in
+    let s = c .before .before .before .before .before .before .before .before .before .before .before .before .before in
     let ve : length (now (s .args .vendor)) ≡ 16 = search needs in
     pad-asked (s .pre .0) ve (c .before .before .before .before .before .cut .ensures) (c .before .before .before .put-after .ensures .0) (s .pre .2) .1
 
@@ -48,7 +48,7 @@ same-length c = search needs
 
 returns : tie.Need-returns
 returns c =
-    let s = c .before .before .before .before .before .before .before .before .before .before .before .before .before .before .before .before .before .before in
+    let s = c .before .before .before .before .before .before .before .before .before .before .before .before .before .before .before .before .before .before .before in
     let ve : length (now (s .args .vendor)) ≡ 16 = c .before .before .before .before .before .before .before .before .before .put-after .ensures .1 in
     fold-planned (s .pre .0) ve (c .before .before .before .before .before .before .before .before .before .before .before .cut .ensures) (c .before .before .before .before .before .before .before .before .before .put-after .ensures .0) (s .pre .2) (c .before .before .before .before .before .put-blank .ensures) (s .pre .1) (c .before .before .used-records .ensures) (c .before .compact .ensures) (c .accept .ensures)
 

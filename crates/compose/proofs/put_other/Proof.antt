@@ -3,21 +3,19 @@
 use native.Mathlib.Omega.{arith}
 use mathlib.Core.Path.{sym, _∙_}
 use denote.Ref.{now}
-use Rattle.model.specs.Name.{Key, keyed}
 use Rattle.output.proofs.Writing.{wrote-none, wrote-as}
 use Rattle.compose.proofs.Carried.{left-out, carried-over}
 use borrow.Author.Needs.{needs}
 use Rattle.compose.proofs.put_other.Statement.{statement}
 use Rattle.compose.proofs.put_other.Tie as tie
 
-is-entry-requires : tie.Need-is-entry-requires
-is-entry-requires c κs = search needs
+is-left-out-requires : tie.Need-is-left-out-requires
+is-left-out-requires c κs = search needs
 
 returns : tie.Need-returns
 returns c =
-    let a = c .before .before .before .before .before .before .args in
-    let k : Key = keyed (now (a .name)) (now (a .vendor)) in
-    let none = left-out (now (a .region)) (a .place) (a .e) k (sym (c .before .is-entry .ensures) ∙ c .if1 .taken) in
+    let a = c .before .before .before .before .before .args in
+    let none = left-out (now (a .region)) (a .place) (a .e) (now (a .leave)) (sym (c .before .is-left-out .ensures) ∙ c .if1 .taken) in
     (wrote-as (sym none) (wrote-none (a .at) (now (a .out))), omega arith)
 
 put-value-requires : tie.Need-put-value-requires
@@ -28,11 +26,12 @@ same-length c = search needs
 
 returns-2 : tie.Need-returns-2
 returns-2 c =
-    let a = c .before .before .before .before .before .before .before .before .before .before .args in
-    let k : Key = keyed (now (a .name)) (now (a .vendor)) in
+    let a = c .before .before .before .before .before .before .before .before .before .args in
     let w = c .before .before .put-value .ensures in
-    (wrote-as (carried-over (now (a .region)) (a .place) (a .e) k (sym (c .before .before .before .before .before .is-entry .ensures) ∙ c .before .before .before .before .if1 .left)) (w .0), w .1)
+    let all = carried-over (now (a .region)) (a .place) (a .e) (now (a .leave))
+    (sym (c .before .before .before .before .before .is-left-out .ensures) ∙ c .before .before .before .before .if1 .left) in
+    (wrote-as all (w .0), w .1)
 
 pub put-other-spec : {M : Type 1} → statement M
 put-other-spec =
-    tie.close (tie.spec is-entry-requires returns put-value-requires same-length returns-2)
+    tie.close (tie.spec is-left-out-requires returns put-value-requires same-length returns-2)

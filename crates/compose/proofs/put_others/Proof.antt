@@ -5,7 +5,6 @@ use Prim.Native.Nat.{_+_, _-_, _≤_}
 use native.Mathlib.Omega.{arith}
 use mathlib.Core.Path.{_≡_, refl, _∙_}
 use lib.ListN.{length}
-use Rattle.model.specs.Name.{keyed}
 use Rattle.values.proofs.Stands.{listed-nothing}
 use Rattle.values.proofs.Next.{next-value}
 use Rattle.compose.proofs.Carried.{Carried, carried-none, carried-next, carried-all}
@@ -14,11 +13,11 @@ use Rattle.compose.proofs.put_others.Statement.{statement}
 use Rattle.compose.proofs.put_others.Tie as tie
 
 abbrev Inv-loop : tie.InvT-loop
-Inv-loop out₀ at region name vendor next₀ here₀ out next here =
-    (next ≤ at + here) × (length out ≡ length out₀) × Carried region (keyed name vendor) at out₀ out next here
+Inv-loop out₀ at region leave next₀ here₀ out next here =
+    (next ≤ at + here) × (length out ≡ length out₀) × Carried region leave at out₀ out next here
 
 abbrev μ-loop : tie.MeasureT-loop
-μ-loop out₀ at region name vendor next₀ here₀ out next here = length region - here
+μ-loop out₀ at region leave next₀ here₀ out next here = length region - here
 
 loop-holds : tie.Need-loop-holds Inv-loop μ-loop
 loop-holds c = (omega arith, refl, carried-none _ _ _ _)
@@ -36,7 +35,7 @@ same-length : tie.Need-same-length Inv-loop μ-loop
 same-length c = search needs
 
 returns : tie.Need-returns Inv-loop μ-loop
-returns c = let b = c .before .before in carried-all (b .before .loop .inv .2) (listed-nothing (b .next-value .ensures) (c .enum-told .given .1) .list)
+returns c = let b = c .before .before in carried-all (b .before .loop .inv .2) (listed-nothing (b .next-value .ensures) (c .enum-told .given .1) .entries)
 
 put-other-requires : tie.Need-put-other-requires Inv-loop μ-loop
 put-other-requires c κs =

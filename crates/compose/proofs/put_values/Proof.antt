@@ -14,6 +14,9 @@ slice-aggregate-put-bytes c = search needs
 put-bytes-requires : tie.Need-put-bytes-requires
 put-bytes-requires c κs = search needs
 
+slice-aggregate-put-others : tie.Need-slice-aggregate-put-others
+slice-aggregate-put-others c = search needs
+
 put-others-requires : tie.Need-put-others-requires
 put-others-requires c κs = search needs
 
@@ -22,7 +25,8 @@ same-length c = search needs
 
 returns : tie.Need-returns
 returns c =
-    wrote-append (wrote-as (c .before .before .before .before .before .before .before .before .before .region-header .ensures) (c .before .before .before .before .before .before .put-bytes .ensures)) (c .before .before .put-others .ensures)
+    let b = c .before .before .before .before .before .before .before in
+    wrote-append (wrote-as (b .before .before .before .region-header .ensures) (b .put-bytes .ensures)) (c .before .before .put-others .ensures)
 
 pub put-values-spec : {M : Type 1} → statement M
 put-values-spec =
@@ -31,6 +35,7 @@ put-values-spec =
     region-header-requires
     slice-aggregate-put-bytes
     put-bytes-requires
+    slice-aggregate-put-others
     put-others-requires
     same-length
     returns)

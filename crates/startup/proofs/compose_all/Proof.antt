@@ -16,18 +16,12 @@ mul-cut c = search needs
 cut-requires : tie.Need-cut-requires
 cut-requires c κs = search needs
 
-slice-aggregate-put-values : tie.Need-slice-aggregate-put-values
-slice-aggregate-put-values c = search needs
-
-slice-aggregate-put-values-2 : tie.Need-slice-aggregate-put-values-2
-slice-aggregate-put-values-2 c = search needs
-
 put-values-requires : tie.Need-put-values-requires
 unfolding block
 put-values-requires c κs =
-    let s = c .before .before .before .before .before .before in
+    let s = c .before .before .before .before in
     let i = now (s .args .image) in
-    let n = ap length (c .before .before .before .cut .ensures ∙ its-region i (s .args .b) (s .pre .0 .0) (s .pre .0 .1) (s .pre .0 .2)) ∙ region-long i (s .args .b) (s .pre .0 .0) (s .pre .0 .1) (s .pre .0 .2) in
+    let n = ap length (c .before .cut .ensures ∙ its-region i (s .args .b) (s .pre .0 .0) (s .pre .0 .1) (s .pre .0 .2)) ∙ region-long i (s .args .b) (s .pre .0 .0) (s .pre .0 .1) (s .pre .0 .2) in
     omega (arith, s .pre .0 .1)
 
 mul-put-blank : tie.Need-mul-put-blank
@@ -36,14 +30,14 @@ mul-put-blank c = search needs
 sub-put-blank : tie.Need-sub-put-blank
 unfolding block
 sub-put-blank c =
-    let s = c .before .before .before .before .before .before .before .before .before .before in
-    pad-asked (now (s .args .image)) (s .args .b) (s .pre .0 .0) (s .pre .0 .1) (s .pre .0 .2) (s .pre .1) (c .before .before .before .before .before .before .before .cut .ensures) (c .before .before .before .put-values .ensures) (s .pre .2) .0
+    let s = c .before .before .before .before .before .before .before .before in
+    pad-asked (now (s .args .image)) (s .args .b) (s .pre .0 .0) (s .pre .0 .1) (s .pre .0 .2) (s .pre .1) (c .before .before .before .before .before .cut .ensures) (c .before .before .before .put-values .ensures) (s .pre .2) .0
 
 put-blank-requires : tie.Need-put-blank-requires
 unfolding block
 put-blank-requires c κs =
-    let s = c .before .before .before .before .before .before .before .before .before .before in
-    pad-asked (now (s .args .image)) (s .args .b) (s .pre .0 .0) (s .pre .0 .1) (s .pre .0 .2) (s .pre .1) (c .before .before .before .before .before .before .before .cut .ensures) (c .before .before .before .put-values .ensures) (s .pre .2) .1
+    let s = c .before .before .before .before .before .before .before .before in
+    pad-asked (now (s .args .image)) (s .args .b) (s .pre .0 .0) (s .pre .0 .1) (s .pre .0 .2) (s .pre .1) (c .before .before .before .before .before .cut .ensures) (c .before .before .before .put-values .ensures) (s .pre .2) .1
 
 same-length : tie.Need-same-length
 same-length c = search needs
@@ -51,8 +45,8 @@ same-length c = search needs
 returns : tie.Need-returns
 unfolding block
 returns c =
-    let s = c .before .before .before .before .before .before .before .before .before .before .before .before .before in
-    composed (now (s .args .image)) (s .args .b) (s .pre .0 .0) (s .pre .0 .1) (s .pre .0 .2) (s .pre .1) (c .before .before .before .before .before .before .before .before .before .before .cut .ensures) (c .before .before .before .before .before .before .put-values .ensures) (s .pre .2) (c .before .before .put-blank .ensures)
+    let s = c .before .before .before .before .before .before .before .before .before .before .before in
+    composed (now (s .args .image)) (s .args .b) (s .pre .0 .0) (s .pre .0 .1) (s .pre .0 .2) (s .pre .1) (c .before .before .before .before .before .before .before .before .cut .ensures) (c .before .before .before .before .before .before .put-values .ensures) (s .pre .2) (c .before .before .put-blank .ensures)
 
 pub compose-all-spec : {M : Type 1} → statement M
 compose-all-spec =
@@ -60,8 +54,6 @@ compose-all-spec =
     (tie.spec
     mul-cut
     cut-requires
-    slice-aggregate-put-values
-    slice-aggregate-put-values-2
     put-values-requires
     mul-put-blank
     sub-put-blank
