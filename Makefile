@@ -1,10 +1,11 @@
 .SILENT:
-.PHONY: help kit demo test check fmt lib link-test host host-test stack rust-test soak bench check-time efi interop volume-test convert-test records-test settings-test desk-test
+.PHONY: help kit demo test check fmt lib link-test host host-test stack rust-test soak bench check-time efi interop volume-test convert-test records-test settings-test desk-test install clean
 
 CC = cc
 CFLAGS = -std=c11 -O2 -Wall -Wextra -Werror
 CARGO = CARGO_NET_OFFLINE=true CARGO_TARGET_DIR=$(CURDIR)/target/rust cargo
 LIB = target/staticlib/libcapi.a
+PREFIX = /usr/local
 # what the library is made of
 SOURCES := crates.txt tools/lib c/memory.c c/varstore.h $(shell find crates -path '*/src/*' -type f -o -path '*/specs/*' -type f -o -path '*/proofs/*' -type f)
 
@@ -19,15 +20,17 @@ kit:
 test: kit
 	sh tools/gate
 
-# prove the library and varlist, list a sample store, and play power cuts in a compaction
+# prove the library and varlist, list a sample store, play power cuts in a compaction, and say what was shown
 demo: kit
+	echo "first the proofs, a line for each crate: about five minutes on two cores, seconds where nothing has changed"
 	tools/progress target/varlist.log rt check varlist
 	tools/progress target/lib.log $(MAKE) -s lib
-	echo
+	printf '\na sample store, crates/varlist/stdin, as tools/varlist lists it:\n'
 	tools/varlist crates/varlist/stdin
-	echo
+	printf '\nc/host.c on a small flash part, whose power fails:\n'
 	$(MAKE) -s host
-	target/host
+	target/host >target/demo.out
+	tools/shown target/demo.out
 
 # the static library for firmware and other hosts: target/staticlib/libcapi.a, to be used with c/varstore.h
 lib: $(LIB)
@@ -36,7 +39,15 @@ $(LIB): $(SOURCES)
 	$(MAKE) -s kit
 	tools/lib
 
-# either calling convention, and header and library of one form
+# library, header and pkg-config file into PREFIX (/usr/local if none is given): lib/libvarstore.a, include/varstore.h, lib/pkgconfig/varstore.pc
+install: $(LIB)
+	tools/install $(LIB) "$(PREFIX)"
+
+# remove target, where all that is made here is
+clean:
+	rm -rf target
+
+# either calling convention, header and library of one form, and an installed library
 link-test: $(LIB)
 	tools/link-test
 
@@ -100,7 +111,7 @@ records-test:
 settings-test:
 	tools/settings-test
 
-# what all desk tools do alike: lost output, files, --help, README's transcripts; needs the programs varlist and plainlist
+# what all desk tools do alike: lost output, files, --help, the documents' transcripts; needs the programs varlist and plainlist
 desk-test:
 	tools/desk-test
 
