@@ -36,9 +36,9 @@ use Rattle.policy.specs.Descriptor.{stampOf}
 use Rattle.policy.proofs.Descriptor.{stamp-right, proper-drop}
 use Rattle.decision.specs.declared.Decision.{Decision}
 use Rattle.decision.specs.declared.Decision.the-variants.{Broken, Nothing, Remove, Put}
-use Rattle.decision.specs.Decision.{requestOf, kindOf, decided, itemOf, decisionOf, valueBy}
+use Rattle.decision.specs.Decision.{requestOf, kindOf, decided, itemOf, decisionOf}
 use Rattle.decision.specs.declared.NewValue.{NewValue}
-use Rattle.decision.specs.Parts.{onFound, valueAt, stands, standingBy, notLater, verdictBy, equalBy, kindBy, keptData, stampOver, stampKept, leavesBy, newSize, oldRecords, oldOthers, recordsAfter, othersAfter, roomBy, roomAfter, resultBy, outcomeBy, limitedBy, roomedBy}
+use Rattle.decision.specs.Parts.{onFound, valueAt, stands, standingBy, notLater, verdictBy, equalBy, kindBy, keptData, stampOver, stampKept, valueBy, leavesBy, newSize, oldRecords, oldOthers, recordsAfter, othersAfter, roomBy, roomAfter, resultBy, outcomeBy, limitedBy, roomedBy}
 use Rattle.decision.proofs.Broken.{later-broken}
 use Rattle.decision.proofs.Old.{stands-some, old-value, mode-standing, stamp-read}
 use Rattle.decision.proofs.Space.{sizeIf, sizeOf, old-counts, put-sizes, all-sizes}

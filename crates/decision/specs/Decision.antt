@@ -1,9 +1,7 @@
 -- The decision on a set: the first broken of rules 3 to 13, 17, 18 and 21, or what the set does to the values.
 use Prim.Native.Nat.{ℕ}
-use mathlib.Core.Bool.{cond}
 use mathlib.Core.List.{List, [], _∷_, _++_}
 use mathlib.Core.Option.{Option, none, some}
-use lib.ListN.{drop}
 use Rattle.model.specs.declared.Limit.{Limit}
 use Rattle.model.specs.declared.Terms.{Terms}
 use Rattle.model.specs.declared.Rule.{Rule}
@@ -13,11 +11,8 @@ use Rattle.model.specs.Region.{find}
 use Rattle.model.specs.Request.{Request, requestKey}
 use Rattle.model.specs.Change.{Change, nothing, remove, put, changeIn}
 use Rattle.model.specs.Rules.{firstBroken, itemRules, settingRules, roomRules}
-use Rattle.values.specs.declared.Found.{Found}
-use Rattle.values.specs.Found.{oldData}
 use Rattle.decision.specs.declared.Decision.{Decision}
 use Rattle.decision.specs.declared.Decision.the-variants.{Broken, Nothing, Remove, Put}
-use Rattle.decision.specs.declared.NewValue.{NewValue}
 
 -- a request by its arguments
 abbrev pub requestOf : List ℕ → List ℕ → ℕ → List ℕ → ℕ → ℕ → Request
@@ -57,13 +52,3 @@ brokenOf (Broken rule) = some rule
 brokenOf Nothing = none
 brokenOf Remove = none
 brokenOf Put = none
-
--- the value that numbers put: of a name and GUID, with the data of what stands, if they are kept, and the caller's from an offset on
-unfoldable pub valueBy : List ℕ → List ℕ → List ℕ → List ℕ → Found → NewValue → Value
-valueBy r name vendor bytes old p = record {
-  name = name;
-  vendor = vendor;
-  attributes = p .attributes;
-  stamp = p .stamp;
-  bytes = cond (p .keeps) (oldData r old) [] ++ drop (p .own) bytes;
-}

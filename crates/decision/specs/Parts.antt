@@ -1,9 +1,9 @@
 -- The parts in which a set is judged, by what each looks at: the value that stands is known by its entry's offset and numbers.
 use Prim.Native.Nat.{ℕ, _+_, _-_}
 use mathlib.Core.Bool.{Bool, true, false, not, cond, _&&_, _||_}
-use mathlib.Core.List.{List, [], _∷_}
+use mathlib.Core.List.{List, [], _∷_, _++_}
 use mathlib.Core.Option.{Option, none, some}
-use lib.ListN.{length}
+use lib.ListN.{length, drop}
 use lib.Dec.{ltb}
 use Rattle.model.specs.declared.Rule.{Rule}
 use Rattle.model.specs.declared.Terms.{Terms}
@@ -24,6 +24,7 @@ use Rattle.values.specs.declared.Found.the-variants as found
 use Rattle.policy.specs.Descriptor.{stampIn}
 use Rattle.decision.specs.declared.Judged.{Judged}
 use Rattle.decision.specs.declared.Judged.the-variants.{Kept, Breaks}
+use Rattle.decision.specs.declared.NewValue.{NewValue}
 use Rattle.decision.specs.declared.Decision.{Decision}
 use Rattle.decision.specs.declared.Decision.the-variants.{Broken, Nothing, Remove, Put}
 
@@ -81,6 +82,16 @@ stampOver r old given = onFound old (λ at e. laterOf given (stampIn (stampAt r 
 -- the stamp that a set stores: an append's with 0x20 is the later of the two
 unfoldable pub stampKept : List ℕ → Found → ℕ → List ℕ → List ℕ
 stampKept r old a given = cond (appends a && timeBased a) (stampOver r old given) given
+
+-- the value that numbers put: of a name and GUID, with the data of what stands, if they are kept, and the caller's from an offset on
+unfoldable pub valueBy : List ℕ → List ℕ → List ℕ → List ℕ → Found → NewValue → Value
+valueBy r name vendor bytes old p = record {
+  name = name;
+  vendor = vendor;
+  attributes = p .attributes;
+  stamp = p .stamp;
+  bytes = cond (p .keeps) (oldData r old) [] ++ drop (p .own) bytes;
+}
 
 -- a value would stand after a set, by what stands, attributes and the size of its data proper
 unfoldable pub leavesBy : Found → ℕ → ℕ → Bool

@@ -8,7 +8,8 @@ use Rattle.model.specs.Limits.{limitsFor}
 use Rattle.values.specs.Found.{elseFound}
 use Rattle.values.specs.declared.Found.{Found}
 use Rattle.values.proofs.Finds.{found-else}
-use Rattle.decision.specs.Decision.{requestOf, valueBy}
+use Rattle.decision.specs.Decision.{requestOf}
+use Rattle.decision.specs.Parts.{valueBy}
 use Rattle.decision.proofs.Assembled.{value-here}
 use Rattle.decision.proofs.Accepted.{put-formed}
 use borrow.Author.Needs.{needs}

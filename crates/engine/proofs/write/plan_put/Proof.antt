@@ -5,7 +5,7 @@ use Prim.Native.Nat.{ℕ}
 use denote.Ref.{now}
 use Rattle.change.specs.Asked.{valued}
 use Rattle.change.proofs.Ready.{asked-as, planned-as}
-use Rattle.decision.specs.Decision.{valueBy}
+use Rattle.decision.specs.Parts.{valueBy}
 use borrow.Author.Needs.{needs}
 use Rattle.engine.proofs.write.plan_put.Statement.{statement}
 use Rattle.engine.proofs.write.plan_put.Tie as tie
