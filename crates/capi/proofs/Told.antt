@@ -30,11 +30,11 @@ unfolding numbersOf
 refused-told a rule n e f = rw (e, f) refl
 
 -- rules 1 and 2 are kept
-pub ready-told : (img : List ℕ) (b t : ℕ) (x : Answered) → callOf img ≡ call.Ready b t → x ≡ numbersOf (answerOf (Done 0))
+pub ready-told : (img : List ℕ) {b t u : ℕ} (x : Answered) → callOf img ≡ call.Ready b t u → x ≡ numbersOf (answerOf (Done 0))
     → _≡_ {A = Checked} (record { answer = x; blocks = b; tail = t }) (checkedOf img)
 unfolding checkedOf
-ready-told img b t x e f =
-    let i = is-ready authenticated img b t e in
+ready-told img x e f =
+    let i = is-ready authenticated e in
     rw (i .unbroken, i .number, i .tail-at, f) refl
 
 -- the first that is broken

@@ -90,7 +90,7 @@ pub extern "C" fn vs_check(image: &[u8]) -> Checked
 {
     let c = image::check_call(image);
     match c {
-        Check::Ready(b, tail) => Checked {
+        Check::Ready(b, tail, _) => Checked {
             answer: numbers(Answer::Done(0)),
             blocks: b as u32,
             tail: tail as u32,

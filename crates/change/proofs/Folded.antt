@@ -43,7 +43,7 @@ use Rattle.change.proofs.Ready.{image-long, region-size, value-short}
 abbrev after : List ℕ → Value → List ℕ
 after r v = regionHeader (length r) ++ joined (step (put v) (values (entries r)))
 
-module _ {img : List ℕ} {b : ℕ} {at : ℕ} {places : Places} {v : Value} (a : Asked img b at places v) (vendor : length (v .vendor) ≡ 16) where
+module _ {img : List ℕ} {b at used : ℕ} {places : Places} {v : Value} (a : Asked img b at used places v) (vendor : length (v .vendor) ≡ 16) where
   all-valid : AllValid authenticated (step (put v) (valuesOf img))
   unfolding valuesIn
   all-valid =
@@ -111,10 +111,6 @@ module _ {img : List ℕ} {b : ℕ} {at : ℕ} {places : Places} {v : Value} (a 
           ∙ ap (λ (k : ℕ). after (region img) v ++ replicate (4096 * b - k) 0xFF) at
           ∙ whole-content
 
-      work-is : part (block * b) block img ≡ work img
-      unfolding work regionSize
-      work-is = ap (λ (k : ℕ). part (block * k) block img) (sym (a .ready .number))
-
       module _ (fit : fitsTail (region img) v ≡ false) where
         is-plan : putPlan img v ≡ make (fillSpare b (work img) wanted) (finish b (nextRecord (work img)) wanted)
         unfolding putPlan compactTo compactOn
@@ -130,12 +126,11 @@ module _ {img : List ℕ} {b : ℕ} {at : ℕ} {places : Places} {v : Value} (a 
             (compact-to c b (work img) wanted composed)
 
         -- *what was planned*
-        pub fold-planned : {ops : List Op} {p : Planned} {used : ℕ} → used ≡ usedRecords (part (block * b) block img) → ops ≡ compactPlan Nothing Nothing b used
-            → p ≡ accepted ops 5 → PutPlanned img v c p
+        pub fold-planned : {ops : List Op} {p : Planned} → ops ≡ compactPlan Nothing Nothing b used → p ≡ accepted ops 5 → PutPlanned img v c p
         unfolding storesOf storesOfStep block
-        fold-planned {ops} {p} {used} u o f =
+        fold-planned {ops} {p} o f =
             let ops′ : List Op = compactPlan Nothing Nothing b (usedRecords (work img)) in
-            let is : ops ≡ ops′ = o ∙ ap (λ (k : ℕ). compactPlan Nothing Nothing b k) (u ∙ ap usedRecords work-is) in
+            let is : ops ≡ ops′ = o ∙ ap (λ (k : ℕ). compactPlan Nothing Nothing b k) (sym (a .ready .used)) in
             let size : regionSize img ≡ 4096 * b = region-size img b (a .ready .number) in
             let long : length img ≡ 4096 * (2 * b + 1) = image-long img b (a .ready .right) (a .ready .number) .1 in
             let few = a .ready .few in

@@ -43,12 +43,12 @@ ready-clean img h =
     and-split (clean (region img)) (allFF (spare img)) (and-split (clean (region img) && allFF (spare img)) (idle (work img)) h .0) .0
 
 -- a value that has room is no longer than the largest region
-pub value-short : {img : List ℕ} {b t : ℕ} (v : Value) → IsReady img b t → spaceOf (step (put v) (valuesOf img)) ≤ regionSize img → plainSize v ≤ 28672
+pub value-short : {img : List ℕ} {b t u : ℕ} (v : Value) → IsReady img b t u → spaceOf (step (put v) (valuesOf img)) ≤ regionSize img → plainSize v ≤ 28672
 value-short {img} {b} v r h = omega (arith, put-space v (valuesOf img), r .few, region-size img b (r .number))
 
 -- the same value by other names
-pub asked-as : {img : List ℕ} {b at : ℕ} {places : Places} {v w : Value} → v ≡ w → Asked img b at places w → Asked img b at places v
-asked-as {img} {b} {at} {places} e a = subst (λ (x : Value). Asked img b at places x) (sym e) a
+pub asked-as : {img : List ℕ} {b at used : ℕ} {places : Places} {v w : Value} → v ≡ w → Asked img b at used places w → Asked img b at used places v
+asked-as {img} {b} {at} {used} {places} e a = subst (λ (x : Value). Asked img b at used places x) (sym e) a
 
 pub planned-as : {img c : List ℕ} {v w : Value} {p : Planned} → v ≡ w → PutPlanned img v c p → PutPlanned img w c p
 planned-as {img} {c} {p = p} e a = subst (λ (x : Value). PutPlanned img x c p) e a

@@ -34,7 +34,7 @@ use Rattle.change.proofs.Ready.{image-long, ready-clean}
 pub size-is : (name old own : List ℕ) → rounded (60 + length name + (length old + length own)) ≡ rounded (60 + length name + length (old ++ own))
 size-is name old own = ap (λ (k : ℕ). rounded (60 + length name + k)) (sym (length-append old own))
 
-module _ {img : List ℕ} {b at : ℕ} {places : Places} {v : Value} (a : Asked img b at places v) where
+module _ {img : List ℕ} {b at used : ℕ} {places : Places} {v : Value} (a : Asked img b at used places v) where
   pub fits : at + entrySize v ≤ 4096 * b → fitsTail (region img) v ≡ true
   unfolding fitsTail
   fits h = le-leb (tailAt (region img) + entrySize v) (length (region img)) (omega (arith, a .ready .long, a .ready .tail-at))

@@ -24,10 +24,10 @@ abbrev pub valued : List ℕ → List ℕ → ℕ → List ℕ → List ℕ → 
 valued name vendor attributes stamp bytes =
     record { name = name; vendor = vendor; attributes = attributes; stamp = stamp; bytes = bytes }
 
--- before a value is put: the image is ready, of b blocks and with its tail at an offset, the places are those of the name's entries, and the value is one that a
--- region can hold (a GUID is 16 bytes by its type) and has room beside the others
-pub record Asked (img : List ℕ) (b tail : ℕ) (places : Places) (v : Value) : Type 0 where
-  pub ready : IsReady img b tail
+-- before a value is put: the image is ready, of b blocks, with its tail at an offset and a number of used records, the places are those of the name's entries, and
+-- the value is one that a region can hold (a GUID is 16 bytes by its type) and has room beside the others
+pub record Asked (img : List ℕ) (b tail used : ℕ) (places : Places) (v : Value) : Type 0 where
+  pub ready : IsReady img b tail used
   pub added : places .added ≡ foundOf (added (keyOf v) (entries (region img)))
   pub replacing : places .replacing ≡ foundOf (replacing (keyOf v) (entries (region img)))
   pub valid : length (v .vendor) ≡ 16 → Valid v

@@ -18,10 +18,11 @@ use plan::Step;
 use values::Places;
 use values::lookup;
 
-// What stands in an image that is ready: its number of blocks, the offset of its tail, and where the entries of the name are.
+// What stands in an image that is ready: its number of blocks, the offset of its tail, the number of used records, and where the entries of the name are.
 pub struct Standing {
     pub b: usize,
     pub tail: usize,
+    pub used: usize,
     pub places: Places,
 }
 
@@ -70,7 +71,7 @@ fn fold(
     own: &[u8],
     content: &mut [u8],
 ) -> Planned
-    requires { ⌜ Asked (now image) (standing .b) (standing .tail) (standing .places) (valued (now name) (now vendor) attributes (now stamp) (now old ++ now own))
+    requires { ⌜ Asked (now image) (standing .b) (standing .tail) (standing .used) (standing .places) (valued (now name) (now vendor) attributes (now stamp) (now old ++ now own))
         × (fitsTail (region (now image)) (valued (now name) (now vendor) attributes (now stamp) (now old ++ now own)) ≡ false)
         × (length (now content) ≡ 28672) ⌝ }
     ensures { λ r.
@@ -91,9 +92,8 @@ fn fold(
         own,
     );
     compose::put_blank(content, n, layout::BLOCK * b - n);
-    let used = orders::compaction::used_records(image, b);
     plan::accept(
-        orders::compaction::compact(Step::Nothing, Step::Nothing, b, used),
+        orders::compaction::compact(Step::Nothing, Step::Nothing, b, standing.used),
         5,
     )
 }
@@ -110,7 +110,7 @@ fn in_tail(
     own: &[u8],
     content: &mut [u8],
 ) -> Planned
-    requires { ⌜ Asked (now image) (standing .b) (standing .tail) (standing .places) (valued (now name) (now vendor) attributes (now stamp) (now old ++ now own))
+    requires { ⌜ Asked (now image) (standing .b) (standing .tail) (standing .used) (standing .places) (valued (now name) (now vendor) attributes (now stamp) (now old ++ now own))
         × (fitsTail (region (now image)) (valued (now name) (now vendor) attributes (now stamp) (now old ++ now own)) ≡ true)
         × (length (now content) ≡ 28672) ⌝ }
     ensures { λ r.
@@ -137,7 +137,7 @@ pub fn put_value(
     own: &[u8],
     content: &mut [u8],
 ) -> Planned
-    requires { ⌜ Asked (now image) (standing .b) (standing .tail) (standing .places) (valued (now name) (now vendor) attributes (now stamp) (now old ++ now own))
+    requires { ⌜ Asked (now image) (standing .b) (standing .tail) (standing .used) (standing .places) (valued (now name) (now vendor) attributes (now stamp) (now old ++ now own))
         × (length (now content) ≡ 28672) ⌝ }
     ensures { λ r.
         ⌜ PutPlanned (now (image .entry))

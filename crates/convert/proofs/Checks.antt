@@ -28,7 +28,7 @@ use Rattle.model.proofs.Encode.{AllValid, joined-length}
 use Rattle.model.proofs.Moving.{moved-valid, source-length, target-length, source-ready, values-fit}
 use Rattle.image.specs.Check.{blocksOf, callIn}
 use Rattle.image.specs.declared.Check.the-variants as call
-use Rattle.image.proofs.Ready.{is-ready, refused-rule as image-rule}
+use Rattle.image.proofs.Ready.{refused-rule as image-rule}
 use Rattle.convert.specs.Bare.{contentIn, checkedOf}
 use Rattle.convert.specs.declared.Checked.the-variants.{Fits, Broken}
 
@@ -47,10 +47,7 @@ zero-wrong img h = go (rightLength img) refl h
         absurd (omega (arith, i .parts .low))
     go false e f = e
 
--- of an image of a right length, what the check tells is rule 2
-pub told-ready : (y : Layout) (img : List ℕ) (b t : ℕ) → callIn y img ≡ call.Ready b t → readyIn y img ≡ true
-told-ready y img b t p = is-ready y img b t p .ready
-
+-- of an image of a right length, a check that refuses it tells rule 2
 pub told-unready : (y : Layout) (img : List ℕ) (rule : Rule) → rightLength img ≡ true → callIn y img ≡ call.Refused rule → readyIn y img ≡ false
 unfolding firstBroken imageRulesIn rule1 rule2In
 told-unready y img rule r p = go (readyIn y img) refl

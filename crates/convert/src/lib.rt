@@ -29,7 +29,7 @@ fn check(from: Layout, to: Layout, image: &[u8], target: &[u8]) -> Checked
         return Checked::Broken(Rule::Length);
     }
     let c = image::check_in(from, image);
-    let Check::Ready(_, _) = c else {
+    let Check::Ready(_, _, _) = c else {
         return Checked::Broken(Rule::Source);
     };
     let region = slices::cut(image, 0, layout::BLOCK * b);

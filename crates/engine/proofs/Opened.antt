@@ -10,8 +10,9 @@ use mathlib.Core.Option.{Option, none, some}
 use lib.Dec.{eqb}
 use Rattle.model.specs.Layout.{authenticated}
 use Rattle.model.specs.Lists.{onSome, orElse}
-use Rattle.model.specs.Image.{blocks, region}
+use Rattle.model.specs.Image.{blocks, region, work}
 use Rattle.model.specs.Region.{tailAt}
+use Rattle.model.specs.Work.{usedRecords}
 use Rattle.model.specs.Rules.{firstBroken, rule1, rule2, imageRules, imageRulesIn}
 use Rattle.model.specs.Answers.{ruleNumber}
 use Rattle.model.proofs.Requests.{broken-append}
@@ -29,15 +30,15 @@ module _ (img : List ℕ) where
   unfolding firstBroken
   with-name named = broken-append (imageRules img) ((Name, not named) ∷ [])
 
-  pub open-named : (b t : ℕ) → callOf img ≡ Ready b t → openOf img true ≡ Ready b t
+  pub open-named : {b t u : ℕ} → callOf img ≡ Ready b t u → openOf img true ≡ Ready b t u
   unfolding openOf
-  open-named b t p =
-      let r = is-ready authenticated img b t p in
-      rw (with-name true, r .unbroken, r .number, r .tail-at)
+  open-named p =
+      let r = is-ready authenticated p in
+      rw (with-name true, r .unbroken, r .number, r .tail-at, r .used)
 
-  pub open-unnamed : (b t : ℕ) → callOf img ≡ Ready b t → openOf img false ≡ Refused Name
+  pub open-unnamed : {b t u : ℕ} → callOf img ≡ Ready b t u → openOf img false ≡ Refused Name
   unfolding openOf
-  open-unnamed b t p = rw (with-name false, is-ready authenticated img b t p .unbroken)
+  open-unnamed p = rw (with-name false, is-ready authenticated p .unbroken)
 
   pub open-refused : (rule : Rule) (named : Bool) → callOf img ≡ Refused rule → openOf img named ≡ Refused rule
   unfolding openOf
@@ -54,17 +55,17 @@ module _ (img : List ℕ) where
       go false true = refl
       go false false = refl
 
-  pub record Opens (b t : ℕ) (named : Bool) : Type 0 where
-    pub ready : IsReady img b t
+  pub record Opens (b t u : ℕ) (named : Bool) : Type 0 where
+    pub ready : IsReady img b t u
     pub later : (ts : List (Rule × Bool)) → firstBroken (imageRules img ++ ((Name, not named) ∷ ts)) ≡ firstBroken ts
 
-  pub opens : (b t : ℕ) (named : Bool) → openOf img named ≡ Ready b t → Opens b t named
+  pub opens : {b t u : ℕ} (named : Bool) → openOf img named ≡ Ready b t u → Opens b t u named
   unfolding openOf callIn firstBroken
-  opens b t named p = go (firstBroken (imageRules img)) refl named refl
+  opens {b} {t} {u} named p = go (firstBroken (imageRules img)) refl named refl
     where
-      go : (o : Option Rule) → firstBroken (imageRules img) ≡ o → (n : Bool) → named ≡ n → Opens b t named
+      go : (o : Option Rule) → firstBroken (imageRules img) ≡ o → (n : Bool) → named ≡ n → Opens b t u named
       go (some x) q n m =
-          let p : onSome (firstBroken (imageRules img ++ ((Name, not named) ∷ []))) Refused (Ready (blocks img) (tailAt (region img))) ≡ Ready b t = p in
+          let p : onSome (firstBroken (imageRules img ++ ((Name, not named) ∷ []))) Refused (Ready (blocks img) (tailAt (region img)) (usedRecords (work img))) ≡ Ready b t u = p in
           let p′ = rw (with-name named, q) at p in
           let z : _≡_ {A = ℕ} 0 1 = cc in
           absurd (omega arith)
@@ -73,7 +74,7 @@ module _ (img : List ℕ) where
           let z : _≡_ {A = ℕ} 0 1 = cc in
           absurd (omega arith)
       go none q true m = record {
-        ready = is-ready authenticated img b t (rw q (rw (with-name named, q, m) at p));
+        ready = is-ready authenticated (rw q (rw (with-name named, q, m) at p));
         later = λ ts. broken-append (imageRules img) ((Name, not named) ∷ ts) ∙ rw (q, m);
       }
 

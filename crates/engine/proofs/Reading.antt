@@ -123,7 +123,7 @@ module _ (img : List ℕ) (found : Option Value) (bytes : Value → List ℕ) (a
   Read named got after =
       Answered (readBroken img named found bytes buffer) (replyOf (readBroken img named found bytes buffer) found bytes attributes buffer) got after
 
-  pub read-found : {b t : ℕ} {named : Bool} → Opens img b t named → {got : Got} {after : List ℕ}
+  pub read-found : {b t u : ℕ} {named : Bool} → Opens img b t u named → {got : Got} {after : List ℕ}
       → Answered (foundBroken found bytes buffer) (foundReply found bytes attributes buffer) got after → Read named got after
   unfolding readBroken foundBroken
   read-found {named = named} o {got} {after} h =

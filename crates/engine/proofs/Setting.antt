@@ -66,7 +66,7 @@ image-refused s q img rule h =
     ap (λ (o : Option Rule). onSome o refuse (changePlan img (changeIn q vs))) broken
 
 -- what the decision asks of the region that was cut
-pub region-asked : {img r : List ℕ} {b at : ℕ} → IsReady img b at → r ≡ part 0 (4096 * b) img → (sound r ≡ true) × ((length r ≤ 28672) × ((at ≡ tailAt r) × (at ≤ length r)))
+pub region-asked : {img r : List ℕ} {b at used : ℕ} → IsReady img b at used → r ≡ part 0 (4096 * b) img → (sound r ≡ true) × ((length r ≤ 28672) × ((at ≡ tailAt r) × (at ≤ length r)))
 region-asked ready cut =
     let is = cut ∙ ready .cut in
     let n = ap length is in
@@ -74,7 +74,7 @@ region-asked ready cut =
 
 -- the region that was cut, with the decision over it and the places found in it
 module _ (s : Session) (name vendor : List ℕ) (a : ℕ) (bytes : List ℕ) (presence verdict : ℕ) (places : Places)
-    {img r : List ℕ} {b at : ℕ} {what : Decision} {t : Terms} {v : Value} (ready : IsReady img b at) (cut : r ≡ part 0 (4096 * b) img) (told : t ≡ termsOf s (keyed name vendor))
+    {img r : List ℕ} {b at used : ℕ} {what : Decision} {t : Terms} {v : Value} (ready : IsReady img b at used) (cut : r ≡ part 0 (4096 * b) img) (told : t ≡ termsOf s (keyed name vendor))
     (d : (what ≡ decisionOf (limitsFor (s .setup) (keyed name vendor)) t (requestOf name vendor a bytes presence verdict) (length r) (values (entries r)))
     × (places .added ≡ foundOf (added (keyed name vendor) (entries r)))
     × (places .replacing ≡ foundOf (replacing (keyed name vendor) (entries r)))
@@ -185,7 +185,7 @@ module _ (s : Session) (name vendor : List ℕ) (a : ℕ) (bytes : List ℕ) (pr
   unfolding changePlan
   put-plan h = plan (put v) (ap brokenOf h) (asked-change h)
 
-  pub put-asked : what ≡ decision.Put → Asked img b at places v
+  pub put-asked : what ≡ decision.Put → Asked img b at used places v
   unfolding newValue
   put-asked h =
       let accepted : setBroken s q img ≡ none = broken ∙ ap brokenOf h in

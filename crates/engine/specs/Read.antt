@@ -7,10 +7,11 @@ use mathlib.Core.Option.{Option, none, some}
 use lib.ListN.{length}
 use lib.Dec.{eqb, ltb}
 use Rattle.model.specs.Lists.{same, onSome}
-use Rattle.model.specs.Image.{blocks, region}
+use Rattle.model.specs.Image.{blocks, region, work}
 use Rattle.model.specs.Name.{Key, wellNamed, emptyName}
 use Rattle.model.specs.Entry.{Value}
 use Rattle.model.specs.Region.{tailAt, valuesOf}
+use Rattle.model.specs.Work.{usedRecords}
 use Rattle.model.specs.Session.{countedPhase}
 use Rattle.model.specs.Rules.{firstBroken, imageRules, rule11Read, rule14, namedBytes, valueToName}
 use Rattle.model.specs.Answers.{ruleNumber, Reply, refusal, written, answerOf, done, refused}
@@ -24,7 +25,8 @@ use Rattle.image.specs.declared.Check.the-variants as call
 -- rules 1, 2 and 3, of an image and of whether the name is one that the call takes
 unfoldable pub openOf : List ℕ → Bool → Check
 openOf img named =
-    onSome (firstBroken (imageRules img ++ ((Name, not named) ∷ []))) call.Refused (call.Ready (blocks img) (tailAt (region img)))
+    onSome (firstBroken (imageRules img ++ ((Name, not named) ∷ []))) call.Refused
+    (call.Ready (blocks img) (tailAt (region img)) (usedRecords (work img)))
 
 -- rules 11 and 14, of the value found and of what the call writes of it
 unfoldable pub foundBroken : Option Value → (Value → List ℕ) → List ℕ → Option Rule

@@ -47,13 +47,13 @@ fn refused(rule: Rule, needed: u32) -> Got
     }
 }
 
-// Rules 1, 2 and 3, the last as the name was found: the number of blocks and the offset of the tail, or the rule broken.
+// Rules 1, 2 and 3, the last as the name was found: what they leave to a call, or the rule broken.
 fn open(image: &[u8], named: bool) -> Check
     ensures { λ r. ⌜ r ≡ openOf (now (image .entry)) named ⌝ }
 {
     let check = image::check_call(image);
     match check {
-        Check::Ready(_, _) => {
+        Check::Ready(_, _, _) => {
             if named {
                 return check;
             }
@@ -167,7 +167,7 @@ pub fn get(
 {
     let opened = open(image, slices::is_named(name));
     match opened {
-        Check::Ready(b, _) => get_from(
+        Check::Ready(b, _, _) => get_from(
             slices::cut(image, 0, layout::BLOCK * b),
             session::at_runtime(s.phase),
             name,
@@ -197,7 +197,7 @@ fn name_behind(phase: u32, image: &[u8], name: &[u8], vendor: &[u8; 16], buffer:
 {
     let opened = open(image, is_next_named(name));
     match opened {
-        Check::Ready(b, _) => name_from(
+        Check::Ready(b, _, _) => name_from(
             slices::cut(image, 0, layout::BLOCK * b),
             session::at_runtime(phase),
             name,

@@ -40,7 +40,7 @@ fn plan_put(
     value: NewValue,
     content: &mut [u8],
 ) -> Planned
-    requires { ⌜ Asked (now image) (standing .b) (standing .tail) (standing .places)
+    requires { ⌜ Asked (now image) (standing .b) (standing .tail) (standing .used) (standing .places)
         (valueBy (now region) (now name) (now vendor) (now bytes) (elseFound (standing .places .added) (standing .places .replacing)) value)
         × (length (now content) ≡ 28672) ⌝ }
     ensures { λ r. ⌜ PutPlanned (now (image .entry))
@@ -64,19 +64,20 @@ fn plan_put(
     )
 }
 
-// A set over an image that is ready, of b blocks and with this tail: rules 3 to 13, 17, 18 and 21, then what it does to the values.
+// A set over an image that is ready, of b blocks, with this tail and so many used records: rules 3 to 13, 17, 18 and 21, then what it does to the values.
 fn plan_ready(
     s: Session,
     image: &[u8],
     b: usize,
     tail: usize,
+    used: usize,
     name: &[u8],
     vendor: &[u8; 16],
     asking: Asking,
     bytes: &[u8],
     content: &mut [u8],
 ) -> Planned
-    requires { ⌜ IsReady (now image) b tail
+    requires { ⌜ IsReady (now image) b tail used
         × Bytes (now image)
         × Sized (book.set s (requestOf (now name) (now vendor) (asking .attributes) (now bytes) (asking .presence) (asking .verdict)))
         × (length (now content) ≡ 28672) ⌝ }
@@ -99,7 +100,12 @@ fn plan_ready(
         Decision::Put => plan_put(
             image,
             region,
-            Standing { b, tail, places },
+            Standing {
+                b,
+                tail,
+                used,
+                places,
+            },
             name,
             vendor,
             bytes,
@@ -143,11 +149,12 @@ pub fn plan_set(
     guid(vendor);
     let check = image::check_call(image);
     match check {
-        Check::Ready(b, tail) => plan_ready(
+        Check::Ready(b, tail, used) => plan_ready(
             s,
             image,
             b,
             tail,
+            used,
             name,
             vendor,
             Asking {

@@ -12,7 +12,7 @@ use Rattle.model.specs.declared.Layout.{Layout}
 use Rattle.model.specs.Lists.{part, allFF}
 use Rattle.model.specs.Image.{block, blocks, rightLength, regionSize, region, work, spare}
 use Rattle.model.specs.Region.{tailAtIn, sound, clean, cleanIn}
-use Rattle.model.specs.Work.{wellFormed, endsInFC, idle, pending, readyIn, readyForStartUp}
+use Rattle.model.specs.Work.{usedRecords, wellFormed, endsInFC, idle, pending, readyIn, readyForStartUp}
 use Rattle.model.specs.Rules.{firstBroken, rule1, rule2StartUp, startUpBroken, imageRulesIn, rule2In}
 use Rattle.model.specs.declared.Rule.the-variants.{Length, Unready}
 use Rattle.model.proofs.Tests.{and-split, true-and}
@@ -89,7 +89,7 @@ parted img b h n = go (rightLength img) refl (sym h)
 -- ---- what the rules make of it
 
 module _ (y : Layout) (img : List ℕ) (b : ℕ) (p : Parted img b) where
-  pub call-ready : idle (work img) ≡ true → allFF (spare img) ≡ true → cleanIn y (region img) ≡ true → callIn y img ≡ call.Ready b (tailAtIn y (region img))
+  pub call-ready : idle (work img) ≡ true → allFF (spare img) ≡ true → cleanIn y (region img) ≡ true → callIn y img ≡ call.Ready b (tailAtIn y (region img)) (usedRecords (work img))
   unfolding callIn imageRulesIn firstBroken rule1 rule2In readyIn
   call-ready i s c = rw (p .right-length, c, s, i, p .same)
 

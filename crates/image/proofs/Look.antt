@@ -7,7 +7,7 @@ use mathlib.Core.List.{List}
 use Rattle.model.specs.declared.Layout.{Layout}
 use Rattle.model.specs.Lists.{allFF}
 use Rattle.model.specs.Region.{tailAtIn, tailIn, soundIn, cleanIn}
-use Rattle.model.specs.Work.{wellFormed, endsInFC, idle}
+use Rattle.model.specs.Work.{wellFormed, usedRecords, endsInFC, idle}
 use Rattle.model.proofs.Tests.{and-split}
 use Rattle.records.specs.Look.{lookAt, idleAt, endsAt}
 use Rattle.records.specs.declared.Look.{Look}
@@ -22,6 +22,11 @@ module _ {w w′ : List ℕ} (same : w′ ≡ w) {l : Look} (looked : l ≡ look
 
   pub told-closed : t ≡ endsAt l → (wellFormed w && endsInFC w) ≡ t
   told-closed e = sym (look-closed w) ∙ ap (λ (x : List ℕ). endsAt (lookAt x)) (sym same) ∙ ap endsAt (sym looked) ∙ sym e
+
+module _ {w w′ : List ℕ} (same : w′ ≡ w) {l : Look} (looked : l ≡ lookAt w′) where
+  pub told-used : l .used ≡ usedRecords w
+  unfolding lookAt
+  told-used = ap (λ (x : Look). x .used) looked ∙ ap usedRecords same
 
 module _ (y : Layout) {r r′ : List ℕ} (same : r′ ≡ r) {j : Judged} (judged : j ≡ judgedIn y r′) where
   its : j ≡ judgedIn y r

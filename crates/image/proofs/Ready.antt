@@ -13,7 +13,7 @@ use Rattle.model.specs.declared.Layout.{Layout}
 use Rattle.model.specs.Lists.{part, onSome, allFF}
 use Rattle.model.specs.Image.{block, blocks, rightLength, regionSize, region, spare, work}
 use Rattle.model.specs.Region.{tailAtIn, tailIn, soundIn, cleanIn}
-use Rattle.model.specs.Work.{idle, readyIn}
+use Rattle.model.specs.Work.{usedRecords, idle, readyIn}
 use Rattle.model.specs.Rules.{firstBroken, rule1, rule2In, imageRulesIn}
 use Rattle.model.specs.declared.Rule.{Rule}
 use Rattle.model.proofs.Tests.{and-split}
@@ -28,7 +28,7 @@ pub refused-rule : (y : Layout) (img : List ℕ) (rule : Rule) → callIn y img 
 unfolding callIn
 refused-rule y img rule p = go (firstBroken (imageRulesIn y img)) p
   where
-    go : (o : Option Rule) → onSome o Refused (Ready (blocks img) (tailAtIn y (region img))) ≡ Refused rule → o ≡ some rule
+    go : (o : Option Rule) → onSome o Refused (Ready (blocks img) (tailAtIn y (region img)) (usedRecords (work img))) ≡ Refused rule → o ≡ some rule
     go (some x) p = let same : x ≡ rule = cc in ap some same
     go none p = let z : _≡_ {A = ℕ} 0 1 = cc in absurd (omega arith)
 
@@ -56,16 +56,17 @@ sound-tail y r m s =
     let l = made-length y (c .made) in
     omega arith
 
-pub is-ready : (y : Layout) (img : List ℕ) (b t : ℕ) → callIn y img ≡ Ready b t → IsReadyIn y img b t
+pub is-ready : (y : Layout) {img : List ℕ} {b t u : ℕ} → callIn y img ≡ Ready b t u → IsReadyIn y img b t u
 unfolding callIn imageRulesIn rule1 rule2In region regionSize block
-is-ready y img b t p = go (firstBroken (imageRulesIn y img)) refl p
+is-ready y {img} {b} {t} {u} p = go (firstBroken (imageRulesIn y img)) refl p
   where
-    go : (o : Option Rule) → firstBroken (imageRulesIn y img) ≡ o → onSome o Refused (Ready (blocks img) (tailAtIn y (region img))) ≡ Ready b t
-        → IsReadyIn y img b t
+    go : (o : Option Rule) → firstBroken (imageRulesIn y img) ≡ o → onSome o Refused (Ready (blocks img) (tailAtIn y (region img)) (usedRecords (work img))) ≡ Ready b t u
+        → IsReadyIn y img b t u
     go (some x) q p = let z : _≡_ {A = ℕ} 0 1 = cc in absurd (omega arith)
     go none q p =
         let n : blocks img ≡ b = cc in
         let e : tailAtIn y (region img) ≡ t = cc in
+        let k : usedRecords (work img) ≡ u = cc in
         let right : rightLength img ≡ true = not-false (rightLength img) (unbroken (imageRulesIn y img) 1 q) in
         let ready : readyIn y img ≡ true = not-false (readyIn y img) (unbroken (imageRulesIn y img) 2 q) in
         let l = region-long img right in
@@ -81,4 +82,5 @@ is-ready y img b t p = go (firstBroken (imageRulesIn y img)) refl p
           long = omega (arith, l .1);
           tail-at = e;
           tail-within = omega arith;
+          used = k;
         }

@@ -10,7 +10,7 @@ use Rattle.model.specs.Layout.{authenticated}
 use Rattle.model.specs.Lists.{part, onSome}
 use Rattle.model.specs.Image.{blocks, rightLength, region, work}
 use Rattle.model.specs.Region.{tailAtIn, soundIn}
-use Rattle.model.specs.Work.{readyIn, pending}
+use Rattle.model.specs.Work.{usedRecords, readyIn, pending}
 use Rattle.model.specs.Rules.{firstBroken, imageRulesIn, startUpBroken}
 use Rattle.records.specs.Look.{lookAt}
 use Rattle.image.specs.declared.Check.{Check}
@@ -22,9 +22,10 @@ use Rattle.image.specs.declared.Start.the-variants as start
 unfoldable pub blocksOf : List ℕ → ℕ
 blocksOf img = cond (rightLength img) (blocks img) 0
 
--- of a call: the first of rules 1 and 2 broken, or b and the offset of the tail; in a form, and in the one in which calls store
+-- of a call: the first of rules 1 and 2 broken, or b, the offset of the tail and the number of used records; in a form, and in the one in which calls store
 unfoldable pub callIn : Layout → List ℕ → Check
-callIn y img = onSome (firstBroken (imageRulesIn y img)) call.Refused (call.Ready (blocks img) (tailAtIn y (region img)))
+callIn y img =
+    onSome (firstBroken (imageRulesIn y img)) call.Refused (call.Ready (blocks img) (tailAtIn y (region img)) (usedRecords (work img)))
 
 abbrev pub callOf : List ℕ → Check
 callOf = callIn authenticated
@@ -35,8 +36,8 @@ startUpOf img =
     onSome (startUpBroken img) start.Refused
     (cond (pending img) (start.Pending (blocks img) (lookAt (work img))) (start.Sound (blocks img) (lookAt (work img))))
 
--- an image that is ready in a form, of b blocks and with the tail at t
-pub record IsReadyIn (y : Layout) (img : List ℕ) (b t : ℕ) : Type 0 where
+-- an image that is ready in a form, of b blocks, with the tail at t and u used records
+pub record IsReadyIn (y : Layout) (img : List ℕ) (b t u : ℕ) : Type 0 where
   pub unbroken : firstBroken (imageRulesIn y img) ≡ none
   pub right : rightLength img ≡ true
   pub ready : readyIn y img ≡ true
@@ -47,6 +48,7 @@ pub record IsReadyIn (y : Layout) (img : List ℕ) (b t : ℕ) : Type 0 where
   pub long : length (region img) ≡ 4096 * b
   pub tail-at : tailAtIn y (region img) ≡ t
   pub tail-within : t ≤ length (region img)
+  pub used : usedRecords (work img) ≡ u
 
-abbrev pub IsReady : List ℕ → ℕ → ℕ → Type 0
+abbrev pub IsReady : List ℕ → ℕ → ℕ → ℕ → Type 0
 IsReady = IsReadyIn authenticated

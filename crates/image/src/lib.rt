@@ -12,9 +12,9 @@ use records::Look;
 // The bytes of a block of the region and of its block of the spare.
 const PAIR: usize = 8192;
 
-// What rules 1 and 2 leave to a call: the number of blocks and the offset of the tail, or the rule broken.
+// What rules 1 and 2 leave to a call: the number of blocks, the offset of the tail and the number of used records, or the rule broken.
 pub enum Check {
-    Ready(usize, usize),
+    Ready(usize, usize, usize),
     Refused(Rule),
 }
 
@@ -52,11 +52,12 @@ pub fn check_in(y: Layout, image: &[u8]) -> Check
         return Check::Refused(Rule::Length);
     }
     let size = layout::BLOCK * b;
-    if records::is_idle(records::look_at(slices::cut(image, size, layout::BLOCK))) {
+    let work = records::look_at(slices::cut(image, size, layout::BLOCK));
+    if records::is_idle(work) {
         if slices::is_blank(slices::cut(image, size + layout::BLOCK, size)) {
             let j = region::judge::judge_in(y, slices::cut(image, 0, size));
             if j.clean {
-                return Check::Ready(b, j.tail);
+                return Check::Ready(b, j.tail, work.used);
             }
         }
     }

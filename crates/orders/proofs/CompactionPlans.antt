@@ -4,13 +4,11 @@ use Prim.Native.Nat.{ℕ, _+_, _*_}
 use mathlib.Core.Path.{_≡_, refl}
 use mathlib.Core.Bool.{Bool, true, false, cond}
 use mathlib.Core.List.{List, [], _∷_, _++_, append-assoc, append-nil}
-use native.Mathlib.Omega.{arith}
 use lib.ListN.{take, drop}
-use lib.Seq.{take-take}
 use lib.Dec.{leb}
 use Rattle.model.specs.Lists.{part}
 use Rattle.model.specs.Image.{block}
-use Rattle.model.specs.Work.{recordSpace, records, usedRecords}
+use Rattle.model.specs.Work.{usedRecords}
 use Rattle.model.specs.Stores.{clear, erases}
 use Rattle.model.specs.Compact.{nextRecord, fillSpare, finish}
 use Rattle.plan.specs.declared.Step.{Step}
@@ -48,8 +46,3 @@ compact-on c b w content e = rw (e, append-nil) (simp append-assoc)
 pub resume-is : (c : List ℕ) (b place : ℕ) (content : List ℕ) → part 0 (block * b) c ≡ content → expand c (resumePlan b place) ≡ finish b place content
 unfolding expand storesOfStep resumePlan finish
 resume-is c b place content e = rw (e, append-nil) (simp append-assoc)
-
--- the records alone tell how many are used
-pub used-front : (at : ℕ) (img : List ℕ) → usedRecords (part at recordSpace img) ≡ usedRecords (part at block img)
-unfolding usedRecords records block
-used-front at img = rw (take-take 64 64 (drop at img) (omega arith), take-take 64 4096 (drop at img) (omega arith))

@@ -1,24 +1,12 @@
 // The plans of a compaction and of its second half. What the spare is to hold, or holds, stands at the front of the content.
 ghost use mathlib.Core.Path.{_≡_};
 ghost use mathlib.Core.Bool.{cond};
-ghost use Prim.Native.Nat.{_*_, _≤_, _<_};
+ghost use Prim.Native.Nat.{_≤_, _<_};
 ghost use lib.Dec.{leb};
-ghost use Rattle.model.specs.Lists.{part};
-ghost use Rattle.model.specs.Image.{block};
-ghost use Rattle.model.specs.Work.{usedRecords};
 ghost use Rattle.orders.specs.Compactions.{clearStep, compactPlan, resumePlan, restPlan};
 use plan::Op;
 use plan::Plan;
 use plan::Step;
-
-// How many records of the work block are used: only the records are looked at.
-pub fn used_records(image: &[u8], b: usize) -> usize
-    requires { ⌜ b ≤ 7 ⌝ }
-    ensures { λ r. ⌜ r ≡ usedRecords (part (block * b) block (now (image .entry))) ⌝ }
-{
-    let l = records::look_at(slices::cut(image, layout::BLOCK * b, records::RECORDS));
-    l.used
-}
 
 // The number of the next record: the first, where all 64 are used and the work block is erased.
 fn next_record(used: usize) -> usize

@@ -30,10 +30,10 @@ pub record Accepted (y : Layout) (img : List ℕ) (b t : ℕ) : Type 0 where
   pub tail-low : t ≤ 28672
   pub text : summaryLine (length (region img)) t (length (values (entriesIn y (region img)))) ++ valueLines (values (entriesIn y (region img))) ≡ listText y img
 
-pub accepted : (y : Layout) (img : List ℕ) (b t : ℕ) → callIn y img ≡ Ready b t → Accepted y img b t
+pub accepted : (y : Layout) (img : List ℕ) {b t u : ℕ} → callIn y img ≡ Ready b t u → Accepted y img b t
 unfolding listText storeText valuesIn regionSize block
-accepted y img b t p =
-    let r = is-ready y img b t p in
+accepted y img p =
+    let r = is-ready y p in
     record {
       few = r .few;
       cut = r .cut;

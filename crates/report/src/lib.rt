@@ -130,7 +130,9 @@ pub fn report_in(y: Layout, image: &[u8], out: &mut [u8]) -> usize
 {
     let c = image::check_in(y, image);
     match c {
-        Check::Ready(b, tail) => put_store(y, slices::cut(image, 0, layout::BLOCK * b), tail, out),
+        Check::Ready(b, tail, _) => {
+            put_store(y, slices::cut(image, 0, layout::BLOCK * b), tail, out)
+        }
         Check::Refused(rule) => put_refused(out, 0, model::number(rule)),
     }
 }

@@ -22,15 +22,13 @@ numbers-requires c κs = search needs
 cast-t9 : tie.Need-cast-t9
 cast-t9 c =
     let t = c .before .before .c .given in
-    let x = is-ready authenticated (now (c .before .before .before .before .before .before .args .image)) (t .0 .0) (t .0 .1 .0)
-    (sym (c .before .before .before .before .check-call .ensures) ∙ t .1) in
+    let x = is-ready authenticated (sym (c .before .before .before .before .check-call .ensures) ∙ t .1) in
     record { fits = omega (arith, x .few) }
 
 cast-t10 : tie.Need-cast-t10
 cast-t10 c =
     let t = c .before .before .c .given in
-    let x = is-ready authenticated (now (c .before .before .before .before .before .before .args .image)) (t .0 .0) (t .0 .1 .0)
-    (sym (c .before .before .before .before .check-call .ensures) ∙ t .1) in
+    let x = is-ready authenticated (sym (c .before .before .before .before .check-call .ensures) ∙ t .1) in
     record { fits = omega (arith, x .few, x .long, x .tail-within) }
 
 enum-known-c-2 : tie.Need-enum-known-c-2
@@ -42,7 +40,7 @@ numbers-requires-2 c κs = search needs
 returns : tie.Need-returns
 returns c =
     let t = c .before .before .c .given in
-    ready-told (now (c .before .before .before .before .before .before .args .image)) (t .0 .0) (t .0 .1 .0) (c .numbers .result) (sym (c .before .before .before .before .check-call .ensures) ∙ t .1) (c .numbers .ensures)
+    ready-told (now (c .before .before .before .before .before .before .args .image)) (c .numbers .result) (sym (c .before .before .before .before .check-call .ensures) ∙ t .1) (c .numbers .ensures)
 
 returns-2 : tie.Need-returns-2
 returns-2 c =

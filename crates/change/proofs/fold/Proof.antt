@@ -34,9 +34,6 @@ put-blank-requires c κs =
     let ve : length (now (s .args .vendor)) ≡ 16 = search needs in
     pad-asked (s .pre .0) ve (c .before .before .before .before .before .cut .ensures) (c .before .before .before .put-after .ensures .0) (s .pre .2) .1
 
-used-records-requires : tie.Need-used-records-requires
-used-records-requires c κs = search needs
-
 compact-requires : tie.Need-compact-requires
 compact-requires c κs = search needs
 
@@ -48,9 +45,9 @@ same-length c = search needs
 
 returns : tie.Need-returns
 returns c =
-    let s = c .before .before .before .before .before .before .before .before .before .before .before .before .before .before .before .before .before .before .before in
-    let ve : length (now (s .args .vendor)) ≡ 16 = c .before .before .before .before .before .before .before .before .before .put-after .ensures .1 in
-    fold-planned (s .pre .0) ve (c .before .before .before .before .before .before .before .before .before .before .before .cut .ensures) (c .before .before .before .before .before .before .before .before .before .put-after .ensures .0) (s .pre .2) (c .before .before .before .before .before .put-blank .ensures) (s .pre .1) (c .before .before .used-records .ensures) (c .before .compact .ensures) (c .accept .ensures)
+    let s = c .before .before .before .before .before .before .before .before .before .before .before .before .before .before .before .before .before .before in
+    let ve : length (now (s .args .vendor)) ≡ 16 = c .before .before .before .before .before .before .before .before .put-after .ensures .1 in
+    fold-planned (s .pre .0) ve (c .before .before .before .before .before .before .before .before .before .before .cut .ensures) (c .before .before .before .before .before .before .before .before .put-after .ensures .0) (s .pre .2) (c .before .before .before .before .put-blank .ensures) (s .pre .1) (c .before .compact .ensures) (c .accept .ensures)
 
 pub fold-spec : {M : Type 1} → statement M
 fold-spec =
@@ -62,7 +59,6 @@ fold-spec =
     mul-put-blank
     sub-put-blank
     put-blank-requires
-    used-records-requires
     compact-requires
     accept-requires
     same-length

@@ -10,8 +10,9 @@ use Rattle.model.specs.Image.{regionSize, block}
 use Rattle.model.specs.Change.{spaceIn}
 use Rattle.model.specs.Move.{rule20, movedValues}
 use Rattle.image.proofs.Cut.{parted}
+use Rattle.image.proofs.Ready.{is-ready}
 use Rattle.convert.proofs.Carried.{part-short}
-use Rattle.convert.proofs.Checks.{told-ready, told-unready, source-wrong, target-wrong, unready, too-stamped, too-large, fitting, cut-values, cut-space}
+use Rattle.convert.proofs.Checks.{told-unready, source-wrong, target-wrong, unready, too-stamped, too-large, fitting, cut-values, cut-space}
 use borrow.Author.Needs.{needs}
 use Rattle.convert.proofs.check.Statement.{statement}
 use Rattle.convert.proofs.check.Tie as tie
@@ -81,7 +82,7 @@ returns-4 c =
     let q = parted tgt (c .before .before .before .before .before .before .before .blocks3 .result)
     (c .before .before .before .before .before .before .before .blocks3 .ensures .0) (c .before .before .before .before .before .before .if2 .left) in
     let t = c .before .before .before .enum-told .given in
-    let d = told-ready (a .from) img (t .0 .0) (t .0 .1 .0) (sym (c .before .before .before .before .before .check-in .ensures) ∙ t .1) in
+    let d = is-ready (a .from) (sym (c .before .before .before .before .before .check-in .ensures) ∙ t .1) .ready in
     let same = c .before .before .cut .ensures ∙ p .its-region in
     let u = ap (rule20 (a .to)) (sym (cut-values (a .from) (a .to) img same)) ∙ sym (c .before .is-unstampable .ensures) in
     sym (too-stamped (a .from) (a .to) img tgt (p .right-length) (q .right-length) d (u ∙ c .if3 .taken))
@@ -113,7 +114,7 @@ returns-5 c =
     (c .before .before .before .before .before .before .before .before .before .blocks3 .ensures .0)
     (c .before .before .before .before .before .before .before .before .if2 .left) in
     let t = c .before .before .before .before .before .enum-told .given in
-    let d = told-ready (a .from) img (t .0 .0) (t .0 .1 .0) (sym (c .before .before .before .before .before .before .before .check-in .ensures) ∙ t .1) in
+    let d = is-ready (a .from) (sym (c .before .before .before .before .before .before .before .check-in .ensures) ∙ t .1) .ready in
     let same = c .before .before .before .before .cut .ensures ∙ p .its-region in
     let u = ap (rule20 (a .to)) (sym (cut-values (a .from) (a .to) img same)) ∙ sym (c .before .before .before .is-unstampable .ensures) in
     let size = ap (λ (n : ℕ). 4096 * n) (q .same) in
@@ -135,7 +136,7 @@ returns-6 c =
     (c .before .before .before .before .before .before .before .before .before .blocks3 .ensures .0)
     (c .before .before .before .before .before .before .before .before .if2 .left) in
     let t = c .before .before .before .before .before .enum-told .given in
-    let d = told-ready (a .from) img (t .0 .0) (t .0 .1 .0) (sym (c .before .before .before .before .before .before .before .check-in .ensures) ∙ t .1) in
+    let d = is-ready (a .from) (sym (c .before .before .before .before .before .before .before .check-in .ensures) ∙ t .1) .ready in
     let same = c .before .before .before .before .cut .ensures ∙ p .its-region in
     let u = ap (rule20 (a .to)) (sym (cut-values (a .from) (a .to) img same)) ∙ sym (c .before .before .before .is-unstampable .ensures) in
     let size = ap (λ (n : ℕ). 4096 * n) (q .same) in

@@ -1,11 +1,10 @@
 -- `image::check_in` meets its contract: each look tells what rule 2 asks of one part. Assumes nothing.
-use Prim.Native.Nat.{ℕ}
-use mathlib.Core.Path.{sym, ap, _∙_}
+use mathlib.Core.Path.{sym, ap, ap₂, _∙_}
 use Rattle.image.specs.declared.Check.the-variants.{Ready}
 use denote.Ref.{now}
 use Rattle.model.specs.Lists.{allFF}
 use Rattle.image.proofs.Cut.{none-refused, parted, call-ready, call-not-idle, call-not-blank, call-not-clean}
-use Rattle.image.proofs.Look.{told-idle, told-clean, told-clean-tail}
+use Rattle.image.proofs.Look.{told-idle, told-used, told-clean, told-clean-tail}
 use borrow.Author.Needs.{needs}
 use Rattle.image.proofs.check_in.Statement.{statement}
 use Rattle.image.proofs.check_in.Tie as tie
@@ -59,8 +58,10 @@ returns-2 c =
     let s = ap allFF (sym (c .before .before .before .before .before .cut2 .ensures ∙ p .its-spare)) ∙ sym
     (c .before .before .before .before .is-blank .ensures) in
     let k = told-clean (a .y) (c .before .before .cut3 .ensures ∙ p .its-region) (c .before .judge-in .ensures) in
+    let u = told-used (c .before .before .before .before .before .before .before .before .before .cut .ensures ∙ p .its-work)
+    (c .before .before .before .before .before .before .before .before .look-at .ensures) in
     let t = told-clean-tail (a .y) (c .before .before .cut3 .ensures ∙ p .its-region) (c .before .judge-in .ensures) (c .if4 .taken) in
-    ap (λ (at : ℕ). Ready n at) t
+    ap₂ (Ready n) t u
     ∙ sym (call-ready (a .y) img n p (i ∙ c .before .before .before .before .before .before .if2 .taken) (s ∙ c .before .before .before .if3 .taken)
     (k ∙ c .if4 .taken))
 

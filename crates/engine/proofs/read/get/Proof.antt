@@ -27,7 +27,7 @@ mul-cut : tie.Need-mul-cut
 mul-cut c =
     let img = now (c .before .before .before .before .before .before .before .before .args .image) in
     let t = c .before .opened .given in
-    let o = opens img (t .0 .0) (t .0 .1 .0) (c .before .before .before .before .is-named .result) (sym (c .before .before .before .«open» .ensures) ∙ t .1) in
+    let o = opens img (c .before .before .before .before .is-named .result) (sym (c .before .before .before .«open» .ensures) ∙ t .1) in
     record { fits = omega (arith, o .ready .few) }
 
 cut-requires : tie.Need-cut-requires
@@ -40,7 +40,7 @@ get-from-requires : tie.Need-get-from-requires
 get-from-requires c κs =
     let img = now (c .before .before .before .before .before .before .before .before .before .before .before .args .image) in
     let t = c .before .before .before .before .opened .given in
-    let o = opens img (t .0 .0) (t .0 .1 .0) (c .before .before .before .before .before .before .before .is-named .result) (sym (c .before .before .before .before .before .before .«open» .ensures) ∙ t .1) in
+    let o = opens img (c .before .before .before .before .before .before .before .is-named .result) (sym (c .before .before .before .before .before .before .«open» .ensures) ∙ t .1) in
     let n = ap length (c .before .before .cut .ensures ∙ o .ready .cut) in
     omega (arith, o .ready .few, o .ready .long)
 
@@ -60,7 +60,7 @@ returns c =
     let r = now (c .before .before .before .before .before .cut .result) in
     let k = keyed (now (a .name)) (now (a .vendor)) in
     let t = c .before .before .before .before .before .before .before .opened .given in
-    let o = opens img (t .0 .0) (t .0 .1 .0) (c .before .before .before .before .before .before .before .before .before .before .is-named .result) (sym (c .before .before .before .before .before .before .before .before .before .«open» .ensures) ∙ t .1) in
+    let o = opens img (c .before .before .before .before .before .before .before .before .before .before .is-named .result) (sym (c .before .before .before .before .before .before .before .before .before .«open» .ensures) ∙ t .1) in
     let found = valueToGet (c .before .before .before .before .at-runtime .result) k (values (entries r)) in
     let here = read-found img found gotBytes (λ v. v .attributes) (now (a .buffer)) o (c .before .before .get-from .ensures) in
     let value = region-get (a .s) k img r (c .before .before .before .before .at-runtime .result) (c .before .before .before .before .before .cut .ensures ∙ o .ready .cut) (c .before .before .before .before .at-runtime .ensures) in

@@ -27,7 +27,7 @@ mul-cut : tie.Need-mul-cut
 mul-cut c =
     let img = now (c .before .before .before .before .before .before .before .before .args .image) in
     let t = c .before .opened .given in
-    let o = opens img (t .0 .0) (t .0 .1 .0) (c .before .before .before .before .is-next-named .result) (sym (c .before .before .before .«open» .ensures) ∙ t .1) in
+    let o = opens img (c .before .before .before .before .is-next-named .result) (sym (c .before .before .before .«open» .ensures) ∙ t .1) in
     record { fits = omega (arith, o .ready .few) }
 
 cut-requires : tie.Need-cut-requires
@@ -40,7 +40,7 @@ name-from-requires : tie.Need-name-from-requires
 name-from-requires c κs =
     let img = now (c .before .before .before .before .before .before .before .before .before .before .before .args .image) in
     let t = c .before .before .before .before .opened .given in
-    let o = opens img (t .0 .0) (t .0 .1 .0) (c .before .before .before .before .before .before .before .is-next-named .result) (sym (c .before .before .before .before .before .before .«open» .ensures) ∙ t .1) in
+    let o = opens img (c .before .before .before .before .before .before .before .is-next-named .result) (sym (c .before .before .before .before .before .before .«open» .ensures) ∙ t .1) in
     let n = ap length (c .before .before .cut .ensures ∙ o .ready .cut) in
     omega (arith, o .ready .few, o .ready .long)
 
@@ -60,7 +60,7 @@ returns c =
     let r = now (c .before .before .before .before .before .cut .result) in
     let k = keyed (now (a .name)) (now (a .vendor)) in
     let t = c .before .before .before .before .before .before .before .opened .given in
-    let o = opens img (t .0 .0) (t .0 .1 .0) (c .before .before .before .before .before .before .before .before .before .before .is-next-named .result) (sym (c .before .before .before .before .before .before .before .before .before .«open» .ensures) ∙ t .1) in
+    let o = opens img (c .before .before .before .before .before .before .before .before .before .before .is-next-named .result) (sym (c .before .before .before .before .before .before .before .before .before .«open» .ensures) ∙ t .1) in
     let found = valueToName (c .before .before .before .before .at-runtime .result) k (values (entries r)) in
     let here = read-found img found namedBytes (λ v. 0) (now (a .buffer)) o (c .before .before .name-from .ensures) in
     let value = region-name (a .phase) k img r (c .before .before .before .before .at-runtime .result) (c .before .before .before .before .before .cut .ensures ∙ o .ready .cut) (c .before .before .before .before .at-runtime .ensures) in

@@ -18,7 +18,7 @@ returns : tie.Need-returns
 returns c =
     let img = now (c .before .before .before .before .before .args .image) in
     let t = c .before .enum-told .given in
-    t .1 ∙ sym (ap (openOf img) (c .if1 .taken) ∙ open-named img (t .0 .0) (t .0 .1 .0) (sym (c .before .before .before .check-call .ensures) ∙ t .1))
+    t .1 ∙ sym (ap (openOf img) (c .if1 .taken) ∙ open-named img (sym (c .before .before .before .check-call .ensures) ∙ t .1))
 
 enum-told-2 : tie.Need-enum-told-2
 enum-told-2 c = search needs
@@ -27,7 +27,7 @@ returns-2 : tie.Need-returns-2
 returns-2 c =
     let img = now (c .before .before .before .before .before .args .image) in
     let t = c .before .enum-told .given in
-    sym (ap (openOf img) (c .if1 .left) ∙ open-unnamed img (t .0 .0) (t .0 .1 .0) (sym (c .before .before .before .check-call .ensures) ∙ t .1))
+    sym (ap (openOf img) (c .if1 .left) ∙ open-unnamed img (sym (c .before .before .before .check-call .ensures) ∙ t .1))
 
 returns-3 : tie.Need-returns-3
 returns-3 c =

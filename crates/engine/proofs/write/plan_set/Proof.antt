@@ -32,7 +32,7 @@ plan-ready-requires c κs =
     let kn = c .before .before .before .before .before .before .before .shared-slice-known2 .given in
     let kd = c .before .before .before .before .before .before .shared-slice-known3 .given in
     let g = c .before .before .before .before .before .guid .ensures in (
-      is-ready authenticated _ _ _ (sym (c .before .before .before .before .check-call .ensures) ∙ c .before .before .check .given .1),
+      is-ready authenticated (sym (c .before .before .before .before .check-call .ensures) ∙ c .before .before .check .given .1),
       bytes-of i (λ j. let x : getD i j 0 ≤ 0xFF = omega (arith, ki j) in x),
       (bytes-of n (λ j. let x : getD n j 0 ≤ 0xFF = omega (arith, kn j) in x), g .0, g .1, bytes-of d (λ j. let x : getD d j 0 ≤ 0xFF = omega (arith, kd j) in x)),
       search needs,
