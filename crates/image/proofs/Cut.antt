@@ -130,7 +130,7 @@ module _ (img : List ℕ) (b : ℕ) (p : Parted img b) where
   unfolding startUpOf startUpBroken firstBroken rule1 rule2StartUp readyForStartUp
   start-pending q = rw (p .right-length, q, p .same)
 
-  pub start-sound : pending img ≡ false → sound (region img) ≡ true → startUpOf img ≡ start.Sound b (lookAt (work img))
+  pub start-sound : pending img ≡ false → sound (region img) ≡ true → startUpOf img ≡ start.Sound b (lookAt (work img)) (clean (region img))
   unfolding startUpOf startUpBroken firstBroken rule1 rule2StartUp readyForStartUp
   start-sound q s = rw (p .right-length, q, s, p .same)
 

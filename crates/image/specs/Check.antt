@@ -9,7 +9,7 @@ use Rattle.model.specs.declared.Layout.{Layout}
 use Rattle.model.specs.Layout.{authenticated}
 use Rattle.model.specs.Lists.{part, onSome}
 use Rattle.model.specs.Image.{blocks, rightLength, region, work}
-use Rattle.model.specs.Region.{tailAtIn, soundIn}
+use Rattle.model.specs.Region.{tailAtIn, soundIn, clean}
 use Rattle.model.specs.Work.{usedRecords, readyIn, pending}
 use Rattle.model.specs.Rules.{firstBroken, imageRulesIn, startUpBroken}
 use Rattle.records.specs.Look.{lookAt}
@@ -30,11 +30,12 @@ callIn y img =
 abbrev pub callOf : List ℕ → Check
 callOf = callIn authenticated
 
--- of a start-up: the first broken, or b of what is pending, else of the sound region, and what a look at the work block tells
+-- of a start-up: the first broken, or b of what is pending, else of the sound region, and what a look at the work block tells; of the region whether it is clean
 unfoldable pub startUpOf : List ℕ → Start
 startUpOf img =
     onSome (startUpBroken img) start.Refused
-    (cond (pending img) (start.Pending (blocks img) (lookAt (work img))) (start.Sound (blocks img) (lookAt (work img))))
+    (cond (pending img) (start.Pending (blocks img) (lookAt (work img)))
+    (start.Sound (blocks img) (lookAt (work img)) (clean (region img))))
 
 -- an image that is ready in a form, of b blocks, with the tail at t and u used records
 pub record IsReadyIn (y : Layout) (img : List ℕ) (b t u : ℕ) : Type 0 where

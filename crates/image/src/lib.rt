@@ -18,10 +18,11 @@ pub enum Check {
     Refused(Rule),
 }
 
-// What they leave to a start-up: the number of blocks of a pending compaction or of a sound region, with the look at the work block, or the rule broken.
+// What they leave to a start-up: the number of blocks of a pending compaction or of a sound region, with the look at the work block, and of the region whether it is
+// clean; or the rule broken.
 pub enum Start {
     Pending(usize, Look),
-    Sound(usize, Look),
+    Sound(usize, Look, bool),
     Refused(Rule),
 }
 
@@ -99,7 +100,7 @@ pub fn check_start(image: &[u8]) -> Start
     }
     let j = region::judge::judge(slices::cut(image, 0, size));
     if j.sound {
-        return Start::Sound(b, looked);
+        return Start::Sound(b, looked, j.clean);
     }
     Start::Refused(Rule::Unready)
 }

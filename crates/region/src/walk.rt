@@ -2,7 +2,7 @@
 ghost use mathlib.Core.Path.{_≡_};
 ghost use Prim.Native.Nat.{_+_, _<_, _^_};
 ghost use Rattle.model.specs.Name.{keyed};
-ghost use Rattle.model.specs.Region.{tailAt, tailAtIn, isEntry};
+ghost use Rattle.model.specs.Region.{isEntry};
 ghost use Rattle.region.specs.Walk.{strideIn, entryAs, entryAt, stampAt, vendorAs, vendorAt, turnIn, turnOf};
 use crate::Turn;
 use layout::Entry;
@@ -37,26 +37,6 @@ pub fn turn(region: &[u8], at: usize) -> Turn
     ensures { λ r. ⌜ r ≡ turnOf (now (region .entry)) at ⌝ }
 {
     turn_in(Layout::authenticated(), region, at)
-}
-
-// The offset of the tail, at which the walk stops.
-pub fn tail_at_in(y: Layout, region: &[u8]) -> usize
-    ensures { λ r. ⌜ r ≡ tailAtIn y (now (region .entry)) ⌝ }
-{
-    let mut at: usize = layout::REGION_HEADER;
-    loop {
-        let t = turn_in(y, region, at);
-        let Turn::Entry(_, next) = t else {
-            return at;
-        };
-        at = next;
-    }
-}
-
-pub fn tail_at(region: &[u8]) -> usize
-    ensures { λ r. ⌜ r ≡ tailAt (now (region .entry)) ⌝ }
-{
-    tail_at_in(Layout::authenticated(), region)
 }
 
 // The name of the entry at an offset, by its numbers: the part of the region from its first byte on is handed to the reader of entries.

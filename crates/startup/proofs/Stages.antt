@@ -7,10 +7,10 @@ use mathlib.Core.Path.{_≡_, refl, sym, ap, _∙_}
 use mathlib.Core.Bool.{Bool, true, cond, _&&_}
 use mathlib.Core.List.{List}
 use lib.ListN.{length, drop, length-drop}
-use lib.Seq.{length-take-le, take-all}
+use lib.Seq.{length-take-le}
 use Rattle.model.specs.Lists.{part, allFF}
 use Rattle.model.specs.Image.{block, blocks, regionSize, region, work, spare}
-use Rattle.model.specs.Region.{tail, tailAt, clean, tailIn}
+use Rattle.model.specs.Region.{clean}
 use Rattle.model.specs.Work.{wellFormed, usedRecords, endsInFC, idle, pending}
 use Rattle.model.specs.Compact.{finish}
 use Rattle.model.specs.StartUp.{resume}
@@ -19,7 +19,7 @@ use Rattle.model.proofs.WorkBlock.{Last, work-last}
 use Rattle.records.specs.Look.{lookAt, idleAt}
 use Rattle.records.specs.declared.Look.{Look}
 use Rattle.image.proofs.Cut.{Parted, blocks-right, parted}
-use Rattle.image.proofs.Look.{told-idle}
+use Rattle.image.proofs.Look.{told-idle, told-used}
 use Rattle.plan.specs.declared.Step.{Step}
 use Rattle.orders.specs.Compactions.{workStep, tidied}
 use Rattle.orders.proofs.StartUps.{tidied-used}
@@ -62,10 +62,6 @@ module _ (img : List ℕ) (b : ℕ) (low : 1 ≤ b) (high : b ≤ 7) (long : len
   -- ---- what a look at the work block tells
 
   module _ {l : Look} (looked : l ≡ lookAt (work img)) where
-    used-told : l .used ≡ usedRecords (work img)
-    unfolding lookAt
-    used-told = ap (λ (x : Look). x .used) looked
-
     idle-told : idle (work img) ≡ idleAt l
     idle-told = told-idle refl looked refl
 
@@ -74,7 +70,7 @@ module _ (img : List ℕ) (b : ℕ) (low : 1 ≤ b) (high : b ≤ 7) (long : len
     left-step e = e ∙ ap (workStep b) (sym idle-told)
 
     pub left-used : {n : ℕ} → n ≡ cond (idleAt l) (l .used) 0 → n ≡ usedRecords (tidied (work img))
-    left-used e = e ∙ ap (λ (k : ℕ). cond (idleAt l) k 0) used-told ∙ tidied-used (work img) (idleAt l) idle-told
+    left-used e = e ∙ ap (λ (k : ℕ). cond (idleAt l) k 0) (told-used refl looked) ∙ tidied-used (work img) (idleAt l) idle-told
 
     -- a compaction is pending: the last used record
     module _ (waits : pending img ≡ true) where
@@ -86,29 +82,17 @@ module _ (img : List ℕ) (b : ℕ) (low : 1 ≤ b) (high : b ≤ 7) (long : len
           work-last (work img) work-long (f .0) (f .1)
 
       pub some-used : 1 ≤ l .used
-      some-used = rw used-told (last .some-used)
+      some-used = rw (told-used refl looked) (last .some-used)
 
       pub last-within : l .used - 1 < 64
-      last-within = let h = some-used in omega (arith, used-told, last .within)
+      last-within = let h = some-used in omega (arith, (told-used refl looked), last .within)
 
       pub resume-list : finish b (l .used - 1) (part (block * b + block) (block * b) img) ≡ resume img
       unfolding resume
-      resume-list = rw (waits, its-blocks, used-told, its-spare)
+      resume-list = rw (waits, its-blocks, (told-used refl looked), its-spare)
 
   -- ---- which stores the other stages have
 
   module _ {s : List ℕ} (same : s ≡ part (block * b + block) (block * b) img) {t : Bool} (told : t ≡ allFF s) where
     pub blank-told : allFF (spare img) ≡ t
     blank-told = ap allFF (sym (same ∙ its-spare)) ∙ sym told
-
-  -- the tail as it is cut
-  pub tail-cut : {s t : List ℕ} {n : ℕ} → s ≡ part 0 (block * b) img → n ≡ tailAt s → t ≡ part n (block * b) s → allFF t ≡ allFF (tail (region img))
-  unfolding tailIn
-  tail-cut {s} {t} {n} e f g =
-      let r : s ≡ region img = e ∙ its-region in
-      let short : length s ≡ block * b = ap length r ∙ region-long in
-      ap allFF
-      (g
-      ∙ take-all (block * b) (drop n s) (rw length-drop (omega arith))
-      ∙ ap (λ (k : ℕ). drop k s) f
-      ∙ ap (λ (x : List ℕ). drop (tailAt x) x) r)

@@ -14,7 +14,7 @@ use borrow.Author.Tests.{leb-true, eqb-true}
 use Rattle.model.specs.declared.Rule.{Rule}
 use Rattle.model.specs.Lists.{part, allFF, onSome}
 use Rattle.model.specs.Image.{block, blocks, rightLength, region, work, spare}
-use Rattle.model.specs.Region.{sound, tail, entries, values}
+use Rattle.model.specs.Region.{sound, clean, cleanIn, tail, entries, values}
 use Rattle.model.specs.Work.{idle, pending, readyForStartUp, usedRecords}
 use Rattle.model.specs.Rules.{startUpBroken}
 use Rattle.model.specs.Stores.{Store, Write, stores, Bytes}
@@ -50,8 +50,8 @@ use Rattle.startup.proofs.Stages.{its-size, last-within, resume-list}
 
 -- ---- what was found
 
-abbrev startOf : Option Rule → Bool → ℕ → Look → Start
-startOf o t b l = onSome o Refused (cond t (Pending b l) (Sound b l))
+abbrev startOf : Option Rule → Bool → ℕ → Look → Bool → Start
+startOf o t b l k = onSome o Refused (cond t (Pending b l) (Sound b l k))
 
 -- accepted, with or without a compaction pending
 pub record Accepted (img : List ℕ) (b : ℕ) (t : Bool) : Type 0 where
@@ -59,32 +59,36 @@ pub record Accepted (img : List ℕ) (b : ℕ) (t : Bool) : Type 0 where
   pub waits : pending img ≡ t
   pub same : blocks img ≡ b
 
-module _ (img : List ℕ) (b : ℕ) (l : Look) (t : Bool) (found : startUpOf img ≡ cond t (Pending b l) (Sound b l)) where
-  both : (startUpBroken img ≡ none) × (pending img ≡ t) × (blocks img ≡ b) × (l ≡ lookAt (work img))
+module _ (img : List ℕ) (b : ℕ) (l : Look) (k t : Bool) (found : startUpOf img ≡ cond t (Pending b l) (Sound b l k)) where
+  both : (startUpBroken img ≡ none) × (pending img ≡ t) × (blocks img ≡ b) × (l ≡ lookAt (work img)) × (t ≡ false → k ≡ clean (region img))
   unfolding startUpOf
   both = go (startUpBroken img) (pending img) t found
     where
-      go : (o : Option Rule) (u t : Bool) → startOf o u (blocks img) (lookAt (work img)) ≡ cond t (Pending b l) (Sound b l)
-          → (o ≡ none) × (u ≡ t) × (blocks img ≡ b) × (l ≡ lookAt (work img))
+      go : (o : Option Rule) (u t : Bool) → startOf o u (blocks img) (lookAt (work img)) (clean (region img)) ≡ cond t (Pending b l) (Sound b l k)
+          → (o ≡ none) × (u ≡ t) × (blocks img ≡ b) × (l ≡ lookAt (work img)) × (t ≡ false → k ≡ clean (region img))
       go (some rule) u true h = let z : _≡_ {A = ℕ} 0 1 = cc in absurd (omega arith)
       go (some rule) u false h = let z : _≡_ {A = ℕ} 0 1 = cc in absurd (omega arith)
-      go none true true h = (refl, refl, cc, cc)
+      go none true true h = (refl, refl, cc, cc, λ e. let z : _≡_ {A = ℕ} 0 1 = cc in absurd (omega arith))
       go none true false h = let z : _≡_ {A = ℕ} 0 1 = cc in absurd (omega arith)
       go none false true h = let z : _≡_ {A = ℕ} 0 1 = cc in absurd (omega arith)
-      go none false false h = (refl, refl, cc, cc)
+      go none false false h = let same : k ≡ clean (region img) = cc in (refl, refl, cc, cc, λ e. same)
 
   pub accepts : Accepted img b t
-  accepts = let k = both in record { unbroken = k .0; waits = k .1; same = k .2 }
+  accepts = let f = both in record { unbroken = f .0; waits = f .1; same = f .2 }
 
   -- the look at the work block
   pub looks : l ≡ lookAt (work img)
   looks = both .3
 
+  -- whether the region is clean
+  pub cleans : t ≡ false → k ≡ clean (region img)
+  cleans = both .4
+
 pub refused-plan : (img : List ℕ) (rule : Rule) → startUpOf img ≡ Refused rule → startUpPlan img ≡ refuse rule
 unfolding startUpOf startUpPlan
 refused-plan img rule h = go (startUpBroken img) (pending img) h
   where
-    go : (o : Option Rule) (u : Bool) → startOf o u (blocks img) (lookAt (work img)) ≡ Refused rule → onSome o refuse (make [] (startUpStores img)) ≡ refuse rule
+    go : (o : Option Rule) (u : Bool) → startOf o u (blocks img) (lookAt (work img)) (clean (region img)) ≡ Refused rule → onSome o refuse (make [] (startUpStores img)) ≡ refuse rule
     go (some r) u h = let same : r ≡ rule = cc in ap refuse same
     go none true h = let z : _≡_ {A = ℕ} 0 1 = cc in absurd (omega arith)
     go none false h = let z : _≡_ {A = ℕ} 0 1 = cc in absurd (omega arith)
@@ -173,6 +177,11 @@ module _ (img : List ℕ) (b : ℕ) (f : Accepted img b false) where
   sounds =
       let h : (pending img || sound (region img)) ≡ true = startUp-ready img (f .unbroken) in
       rw (f .waits) at h
+
+  -- of a sound region, that it is clean says that its tail is blank
+  pub tail-told : {k t : Bool} → k ≡ clean (region img) → k ≡ t → allFF (tail (region img)) ≡ t
+  unfolding cleanIn
+  tail-told e f = let h : clean (region img) ≡ allFF (tail (region img)) = rw sounds in sym h ∙ sym e ∙ f
 
   its : Image img
   its = right-parts img (startUp-length img (f .unbroken))

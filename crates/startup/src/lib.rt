@@ -7,7 +7,7 @@ ghost use Prim.Native.Nat.{_+_, _*_, _≤_};
 ghost use lib.ListN.{length};
 ghost use Rattle.model.specs.Lists.{allFF, part};
 ghost use Rattle.model.specs.Image.{block, region, spare};
-ghost use Rattle.model.specs.Region.{sound, tail, entries, values};
+ghost use Rattle.model.specs.Region.{sound, entries, values};
 ghost use Rattle.model.specs.Compact.{encode};
 ghost use Rattle.model.specs.StartUp.{startUpPlan};
 ghost use Rattle.records.specs.Look.{idleAt};
@@ -65,17 +65,6 @@ fn work_left(b: usize, looked: Look) -> WorkLeft
     }
 }
 
-// Whether the region's tail is all FF.
-fn tail_is_blank(image: &[u8], b: usize) -> bool
-    requires { ⌜ (1 ≤ b) × (b ≤ 7) × (length (now image) ≡ block * (2 * b + 1)) ⌝ }
-    ensures { λ r. ⌜ r ≡ allFF (tail (region (now (image .entry)))) ⌝ }
-{
-    let size = layout::BLOCK * b;
-    let region = slices::cut(image, 0, size);
-    let at = region::walk::tail_at(region);
-    slices::is_blank(slices::cut(region, at, size))
-}
-
 // The region after a compaction with no change: all values are carried over, "rest FF".
 fn compose_all(image: &[u8], b: usize, content: &mut [u8])
     requires { ⌜ ((1 ≤ b) × (b ≤ 7) × (length (now image) ≡ block * (2 * b + 1)))
@@ -88,15 +77,16 @@ fn compose_all(image: &[u8], b: usize, content: &mut [u8])
     compose::put_blank(content, n, layout::BLOCK * b - n);
 }
 
-// "Then erase the spare's blocks .., the work block .., and compact with no change if the tail is not all FF."
-pub fn tidy(image: &[u8], b: usize, looked: Look, content: &mut [u8]) -> Planned
-    requires { ⌜ (startUpOf (now image) ≡ Sound b looked) × (length (now content) ≡ 28672) ⌝ }
+// "Then erase the spare's blocks .., the work block .., and compact with no change if the tail is not all FF": if the sound
+// region is not clean.
+pub fn tidy(image: &[u8], b: usize, looked: Look, clean: bool, content: &mut [u8]) -> Planned
+    requires { ⌜ (startUpOf (now image) ≡ Sound b looked clean) × (length (now content) ≡ 28672) ⌝ }
     ensures { λ r. ⌜ Plans (startUpPlan (now (image .entry))) (now (image .entry)) (now (content .entry)) (now (content .exit)) r ⌝ }
 {
     let spare = spare_step(image, b);
     let left = work_left(b, looked);
     let work = left.step;
-    if tail_is_blank(image, b) {
+    if clean {
         return plan::accept(orders::compaction::rest(spare, work), 12);
     }
     compose_all(image, b, content);

@@ -1,13 +1,13 @@
 -- `image::check_start` meets its contract: what is pending is resumed, else the region must be sound. Assumes nothing.
 use Prim.Native.Nat.{_≤_}
 use native.Mathlib.Omega.{arith}
-use mathlib.Core.Path.{sym, ap, _∙_}
+use mathlib.Core.Path.{sym, ap, ap₂, _∙_}
 use denote.Ref.{now}
 use Rattle.records.specs.Look.{lookAt}
 use Rattle.image.specs.declared.Start.the-variants.{Pending, Sound}
 use Rattle.image.proofs.Cut.{none-refused, parted, start-pending, start-sound, start-refused}
 use Rattle.model.specs.Layout.{authenticated}
-use Rattle.image.proofs.Look.{told-sound}
+use Rattle.image.proofs.Look.{told-sound, told-clean}
 use borrow.Author.Needs.{needs}
 use Rattle.image.proofs.check_start.Statement.{statement}
 use Rattle.image.proofs.check_start.Tie as tie
@@ -59,7 +59,8 @@ returns-3 c =
     let p = parted img n (c .before .before .before .before .before .before .before .before .blocks2 .ensures .0) (c .before .before .before .before .before .before .before .if1 .left) in
     let l = c .before .before .before .before .before .look-at .ensures ∙ ap lookAt (c .before .before .before .before .before .before .cut .ensures ∙ p .its-work) in
     let s = told-sound authenticated (c .before .before .cut2 .ensures ∙ p .its-region) (c .before .judge .ensures) in
-    ap (Sound n) l ∙ sym (start-sound img n p (sym (c .before .before .before .before .is-pending .ensures) ∙ c .before .before .before .if2 .left) (s ∙ c .if3 .taken))
+    let k = told-clean authenticated (c .before .before .cut2 .ensures ∙ p .its-region) (c .before .judge .ensures) in
+    ap₂ (Sound n) l (sym k) ∙ sym (start-sound img n p (sym (c .before .before .before .before .is-pending .ensures) ∙ c .before .before .before .if2 .left) (s ∙ c .if3 .taken))
 
 returns-4 : tie.Need-returns-4
 returns-4 c =

@@ -1,7 +1,7 @@
 -- `startup::resume` meets its contract: the spare stands at the content's front, and from there on the stores are those of a compaction. Assumes nothing.
 use native.Mathlib.Omega.{arith}
 use Prim.Native.Nat.{_≤_}
-use mathlib.Core.Bool.{true}
+use mathlib.Core.Bool.{true, false}
 use lib.ListN.{getD}
 use denote.Ref.{now}
 use Rattle.plan.proofs.Bits.{bytes-of}
@@ -14,19 +14,19 @@ use Rattle.startup.proofs.resume.Tie as tie
 mul-cut : tie.Need-mul-cut
 mul-cut c =
     let s = c .before .before .before in
-    let h = sized (now (s .args .image)) (s .args .b) true (accepts (now (s .args .image)) (s .args .b) (s .args .looked) true (s .pre .0)) .1 in
+    let h = sized (now (s .args .image)) (s .args .b) true (accepts (now (s .args .image)) (s .args .b) (s .args .looked) false true (s .pre .0)) .1 in
     omega arith
 
 add-cut : tie.Need-add-cut
 add-cut c =
     let s = c .before .before .before in
-    let h = sized (now (s .args .image)) (s .args .b) true (accepts (now (s .args .image)) (s .args .b) (s .args .looked) true (s .pre .0)) .1 in
+    let h = sized (now (s .args .image)) (s .args .b) true (accepts (now (s .args .image)) (s .args .b) (s .args .looked) false true (s .pre .0)) .1 in
     omega arith
 
 mul-cut-2 : tie.Need-mul-cut-2
 mul-cut-2 c =
     let s = c .before .before .before in
-    let h = sized (now (s .args .image)) (s .args .b) true (accepts (now (s .args .image)) (s .args .b) (s .args .looked) true (s .pre .0)) .1 in
+    let h = sized (now (s .args .image)) (s .args .b) true (accepts (now (s .args .image)) (s .args .b) (s .args .looked) false true (s .pre .0)) .1 in
     omega arith
 
 cut-requires : tie.Need-cut-requires
@@ -39,17 +39,17 @@ sub-resume : tie.Need-sub-resume
 sub-resume c =
     let s = c .before .before .before .before .before .before .before .before in
     let i = now (s .args .image) in
-    let f = accepts i (s .args .b) (s .args .looked) true (s .pre .0) in
+    let f = accepts i (s .args .b) (s .args .looked) false true (s .pre .0) in
     let z = sized i (s .args .b) true f in
-    some-used i (s .args .b) (z .0) (z .1) (z .2) (looks i (s .args .b) (s .args .looked) true (s .pre .0)) (f .waits)
+    some-used i (s .args .b) (z .0) (z .1) (z .2) (looks i (s .args .b) (s .args .looked) false true (s .pre .0)) (f .waits)
 
 resume-requires : tie.Need-resume-requires
 resume-requires c κs =
     let s = c .before .before .before .before .before .before .before .before in
     let i = now (s .args .image) in
-    let f = accepts i (s .args .b) (s .args .looked) true (s .pre .0) in
+    let f = accepts i (s .args .b) (s .args .looked) false true (s .pre .0) in
     let z = sized i (s .args .b) true f in
-    (z .1, last-within i (s .args .b) (z .0) (z .1) (z .2) (looks i (s .args .b) (s .args .looked) true (s .pre .0)) (f .waits))
+    (z .1, last-within i (s .args .b) (z .0) (z .1) (z .2) (looks i (s .args .b) (s .args .looked) false true (s .pre .0)) (f .waits))
 
 accept-requires : tie.Need-accept-requires
 accept-requires c κs = search needs
@@ -61,9 +61,9 @@ returns : tie.Need-returns
 returns c =
     let s = c .before .before .before .before .before .before .before .before .before .before in
     let i = now (s .args .image) in
-    let f = accepts i (s .args .b) (s .args .looked) true (s .pre .0) in
+    let f = accepts i (s .args .b) (s .args .looked) false true (s .pre .0) in
     let k = c .before .before .before .before .before .before .before .before .before .shared-slice-known .given in
-    resume-plans i (s .args .b) f (bytes-of i (λ j. let x : getD i j 0 ≤ 0xFF = omega (arith, k j) in x)) (looks i (s .args .b) (s .args .looked) true (s .pre .0))
+    resume-plans i (s .args .b) f (bytes-of i (λ j. let x : getD i j 0 ≤ 0xFF = omega (arith, k j) in x)) (looks i (s .args .b) (s .args .looked) false true (s .pre .0))
     (c .before .before .before .before .before .before .cut .ensures) (c .before .before .before .before .before .put-bytes .ensures) (s .pre .1) (c .before .resume .ensures) (c .accept .ensures)
 
 pub resume-spec : {M : Type 1} → statement M
