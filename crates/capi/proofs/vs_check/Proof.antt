@@ -10,15 +10,6 @@ use borrow.Author.Needs.{needs}
 use Rattle.capi.proofs.vs_check.Statement.{statement}
 use Rattle.capi.proofs.vs_check.Tie as tie
 
-check-call-requires : tie.Need-check-call-requires
-check-call-requires c κs = search needs
-
-enum-known-c : tie.Need-enum-known-c
-enum-known-c c = search needs
-
-numbers-requires : tie.Need-numbers-requires
-numbers-requires c κs = search needs
-
 cast-t9 : tie.Need-cast-t9
 cast-t9 c =
     let t = c .before .before .c .given in
@@ -30,12 +21,6 @@ cast-t10 c =
     let t = c .before .before .c .given in
     let x = is-ready authenticated (sym (c .before .before .before .before .check-call .ensures) ∙ t .1) in
     record { fits = omega (arith, x .few, x .long, x .tail-within) }
-
-enum-known-c-2 : tie.Need-enum-known-c-2
-enum-known-c-2 c = search needs
-
-numbers-requires-2 : tie.Need-numbers-requires-2
-numbers-requires-2 c κs = search needs
 
 returns : tie.Need-returns
 returns c =
@@ -51,12 +36,12 @@ pub vs-check-spec : {M : Type 1} → statement M
 vs-check-spec =
     tie.close
     (tie.spec
-    check-call-requires
-    enum-known-c
-    numbers-requires
+    (λ c κs. search needs)
+    (λ c. search needs)
+    (λ c κs. search needs)
     cast-t9
     cast-t10
-    enum-known-c-2
-    numbers-requires-2
+    (λ c. search needs)
+    (λ c κs. search needs)
     returns
     returns-2)

@@ -9,21 +9,6 @@ use borrow.Author.Needs.{needs}
 use Rattle.capi.proofs.vs_from_plain.Statement.{statement}
 use Rattle.capi.proofs.vs_from_plain.Tie as tie
 
-plain-requires : tie.Need-plain-requires
-plain-requires c κs = search needs
-
-authenticated-requires : tie.Need-authenticated-requires
-authenticated-requires c κs = search needs
-
-move-values-requires : tie.Need-move-values-requires
-move-values-requires c κs = search needs
-
-numbers-requires : tie.Need-numbers-requires
-numbers-requires c κs = search needs
-
-same-length : tie.Need-same-length
-same-length c = search needs
-
 returns : tie.Need-returns
 returns c =
     let a = c .before .before .before .before .before .before .before .before .before .args in
@@ -37,4 +22,4 @@ returns c =
 pub vs-from-plain-spec : {M : Type 1} → statement M
 vs-from-plain-spec =
     tie.close
-    (tie.spec plain-requires authenticated-requires move-values-requires numbers-requires same-length returns)
+    (tie.spec (λ c κs. search needs) (λ c κs. search needs) (λ c κs. search needs) (λ c κs. search needs) (λ c. search needs) returns)

@@ -6,17 +6,8 @@ use borrow.Author.Needs.{needs}
 use Rattle.capi.proofs.vs_get.Statement.{statement}
 use Rattle.capi.proofs.vs_get.Tie as tie
 
-get-requires : tie.Need-get-requires
-get-requires c κs = search needs
-
-numbers-requires : tie.Need-numbers-requires
-numbers-requires c κs = search needs
-
-same-length : tie.Need-same-length
-same-length c = search needs
-
 returns : tie.Need-returns
 returns c = let e = c .before .before .before .get .ensures in (c .numbers .ensures ∙ ap numbersOf (e .0 .0), e .1)
 
 pub vs-get-spec : {M : Type 1} → statement M
-vs-get-spec = tie.close (tie.spec get-requires numbers-requires same-length returns)
+vs-get-spec = tie.close (tie.spec (λ c κs. search needs) (λ c κs. search needs) (λ c. search needs) returns)

@@ -6,14 +6,8 @@ use borrow.Author.Needs.{needs}
 use Rattle.capi.proofs.vs_lock.Statement.{statement}
 use Rattle.capi.proofs.vs_lock.Tie as tie
 
-lock-requires : tie.Need-lock-requires
-lock-requires c κs = search needs
-
-numbers-requires : tie.Need-numbers-requires
-numbers-requires c κs = search needs
-
 returns : tie.Need-returns
 returns c = let e = c .before .before .lock .ensures in (c .numbers .ensures ∙ ap numbersOf (e .0), e .1)
 
 pub vs-lock-spec : {M : Type 1} → statement M
-vs-lock-spec = tie.close (tie.spec lock-requires numbers-requires returns)
+vs-lock-spec = tie.close (tie.spec (λ c κs. search needs) (λ c κs. search needs) returns)

@@ -4,12 +4,6 @@ use borrow.Author.Needs.{needs}
 use Rattle.capi.proofs.vs_plan_format.Statement.{statement}
 use Rattle.capi.proofs.vs_plan_format.Tie as tie
 
-plan-format-requires : tie.Need-plan-format-requires
-plan-format-requires c κs = search needs
-
-in-numbers-requires : tie.Need-in-numbers-requires
-in-numbers-requires c κs = search needs
-
 returns : tie.Need-returns
 returns c =
     let p = c .before .plan-format in
@@ -17,4 +11,4 @@ returns c =
     (told _ (p .result) (p .ensures .same) n, p .ensures .kept, record { planned = p .result; plans = p .ensures; same = n })
 
 pub vs-plan-format-spec : {M : Type 1} → statement M
-vs-plan-format-spec = tie.close (tie.spec plan-format-requires in-numbers-requires returns)
+vs-plan-format-spec = tie.close (tie.spec (λ c κs. search needs) (λ c κs. search needs) returns)

@@ -4,12 +4,6 @@ use borrow.Author.Needs.{needs}
 use Rattle.capi.proofs.vs_plan_set.Statement.{statement}
 use Rattle.capi.proofs.vs_plan_set.Tie as tie
 
-plan-set-requires : tie.Need-plan-set-requires
-plan-set-requires c κs = search needs
-
-in-numbers-requires : tie.Need-in-numbers-requires
-in-numbers-requires c κs = search needs
-
 returns : tie.Need-returns
 returns c =
     let p = c .before .plan-set in
@@ -17,4 +11,4 @@ returns c =
     (told _ (p .result) (p .ensures .same) n, p .ensures .kept, record { planned = p .result; plans = p .ensures; same = n })
 
 pub vs-plan-set-spec : {M : Type 1} → statement M
-vs-plan-set-spec = tie.close (tie.spec plan-set-requires in-numbers-requires returns)
+vs-plan-set-spec = tie.close (tie.spec (λ c κs. search needs) (λ c κs. search needs) returns)

@@ -5,18 +5,9 @@ use borrow.Author.Needs.{needs}
 use Rattle.capi.proofs.vs_set.Statement.{statement}
 use Rattle.capi.proofs.vs_set.Tie as tie
 
-set-requires : tie.Need-set-requires
-set-requires c κs = search needs
-
-numbers-requires : tie.Need-numbers-requires
-numbers-requires c κs = search needs
-
-same-length : tie.Need-same-length
-same-length c = search needs
-
 returns : tie.Need-returns
 returns c =
     let e = c .before .before .before .set .ensures in (c .numbers .ensures ∙ ap numbersOf (e .0 .0), e .0 .1, e .1)
 
 pub vs-set-spec : {M : Type 1} → statement M
-vs-set-spec = tie.close (tie.spec set-requires numbers-requires same-length returns)
+vs-set-spec = tie.close (tie.spec (λ c κs. search needs) (λ c κs. search needs) (λ c. search needs) returns)

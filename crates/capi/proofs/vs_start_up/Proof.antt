@@ -7,19 +7,10 @@ use borrow.Author.Needs.{needs}
 use Rattle.capi.proofs.vs_start_up.Statement.{statement}
 use Rattle.capi.proofs.vs_start_up.Tie as tie
 
-start-up-requires : tie.Need-start-up-requires
-start-up-requires c κs = search needs
-
-numbers-requires : tie.Need-numbers-requires
-numbers-requires c κs = search needs
-
-same-length : tie.Need-same-length
-same-length c = search needs
-
 returns : tie.Need-returns
 unfolding planOf startUpPlan
 returns c =
     let e = c .before .before .before .before .start-up .ensures in (c .numbers .ensures ∙ ap numbersOf (e .0 .0), e .1, e .0 .1, e .2)
 
 pub vs-start-up-spec : {M : Type 1} → statement M
-vs-start-up-spec = tie.close (tie.spec start-up-requires numbers-requires same-length returns)
+vs-start-up-spec = tie.close (tie.spec (λ c κs. search needs) (λ c κs. search needs) (λ c. search needs) returns)

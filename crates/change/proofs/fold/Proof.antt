@@ -7,20 +7,11 @@ use borrow.Author.Needs.{needs}
 use Rattle.change.proofs.fold.Statement.{statement}
 use Rattle.change.proofs.fold.Tie as tie
 
-mul-cut : tie.Need-mul-cut
-mul-cut c = search needs
-
-cut-requires : tie.Need-cut-requires
-cut-requires c κs = search needs
-
 put-after-requires : tie.Need-put-after-requires
 put-after-requires c κs =
     let s = c .before .before .before .before .before .before .before .before .before in
     let ve : length (now (s .args .vendor)) ≡ 16 = search needs in
     fold-room (s .pre .0) ve (c .before .cut .ensures)
-
-mul-put-blank : tie.Need-mul-put-blank
-mul-put-blank c = search needs
 
 sub-put-blank : tie.Need-sub-put-blank
 sub-put-blank c =
@@ -34,15 +25,6 @@ put-blank-requires c κs =
     let ve : length (now (s .args .vendor)) ≡ 16 = search needs in
     pad-asked (s .pre .0) ve (c .before .before .before .before .before .cut .ensures) (c .before .before .before .put-after .ensures .0) (s .pre .2) .1
 
-compact-requires : tie.Need-compact-requires
-compact-requires c κs = search needs
-
-accept-requires : tie.Need-accept-requires
-accept-requires c κs = search needs
-
-same-length : tie.Need-same-length
-same-length c = search needs
-
 returns : tie.Need-returns
 returns c =
     let s = c .before .before .before .before .before .before .before .before .before .before .before .before .before .before .before .before .before .before in
@@ -53,13 +35,13 @@ pub fold-spec : {M : Type 1} → statement M
 fold-spec =
     tie.close
     (tie.spec
-    mul-cut
-    cut-requires
+    (λ c. search needs)
+    (λ c κs. search needs)
     put-after-requires
-    mul-put-blank
+    (λ c. search needs)
     sub-put-blank
     put-blank-requires
-    compact-requires
-    accept-requires
-    same-length
+    (λ c κs. search needs)
+    (λ c κs. search needs)
+    (λ c. search needs)
     returns)

@@ -18,21 +18,12 @@ put-entry-in-requires c κs =
     let ve : length (now (s .args .vendor)) ≡ 16 = search needs in
     (omega arith, omega arith, omega arith, omega arith, omega arith, omega arith)
 
-add-tail-write : tie.Need-add-tail-write
-add-tail-write c = search needs
-
 tail-write-requires : tie.Need-tail-write-requires
 tail-write-requires c κs =
     let s = c .before .before .before .before .before .before .before .before .before .before .before .before in
     let l = length-append (now (s .args .old)) (now (s .args .own)) in
     let t = tail-asked (s .pre .0) (s .pre .1) in
     (t .0, t .1, omega (arith, t .2))
-
-accept-requires : tie.Need-accept-requires
-accept-requires c κs = search needs
-
-same-length : tie.Need-same-length
-same-length c = search needs
 
 returns : tie.Need-returns
 returns c =
@@ -45,8 +36,8 @@ in-tail-spec =
     tie.close
     (tie.spec
     put-entry-in-requires
-    add-tail-write
+    (λ c. search needs)
     tail-write-requires
-    accept-requires
-    same-length
+    (λ c κs. search needs)
+    (λ c. search needs)
     returns)

@@ -11,15 +11,6 @@ use borrow.Author.Needs.{needs}
 use Rattle.change.proofs.put_after.Statement.{statement}
 use Rattle.change.proofs.put_after.Tie as tie
 
-standing-requires : tie.Need-standing-requires
-standing-requires c κs = search needs
-
-left-out-requires : tie.Need-left-out-requires
-left-out-requires c κs = search needs
-
-put-values-requires : tie.Need-put-values-requires
-put-values-requires c κs = search needs
-
 put-entry-requires : tie.Need-put-entry-requires
 put-entry-requires c κs =
     let a = c .before .before .before .before .before .before .before .before .before .before .before .before .before .before in
@@ -33,9 +24,6 @@ put-entry-requires c κs =
     let l = length-append (now (a .args .old)) (now (a .args .own)) in
     (k .0, k .1, k .2, k .3, omega (arith, k .4), omega (arith, k .4))
 
-same-length : tie.Need-same-length
-same-length c = search needs
-
 returns : tie.Need-returns
 returns c =
     let a = c .before .before .before .before .before .before .before .before .before .before .before .before .before .before .before .before .before in
@@ -45,4 +33,4 @@ returns c =
     (put-wrote _ _ _ w (c .before .before .put-entry .ensures), a .pre .5)
 
 pub put-after-spec : {M : Type 1} → statement M
-put-after-spec = tie.close (tie.spec standing-requires left-out-requires put-values-requires put-entry-requires same-length returns)
+put-after-spec = tie.close (tie.spec (λ c κs. search needs) (λ c κs. search needs) (λ c κs. search needs) put-entry-requires (λ c. search needs) returns)

@@ -29,32 +29,17 @@ add-if1 c =
     let h = value-short _ r (s .pre .0 .room) in
     omega (arith, length-append (now (s .args .old)) (now (s .args .own)), r .tail-within, r .long, r .few)
 
-mul-if1 : tie.Need-mul-if1
-mul-if1 c = search needs
-
 in-tail-requires : tie.Need-in-tail-requires
 in-tail-requires c κs =
     let s = c .before .before .before .before .before .before .before .before .before .before in
     let e = c .before .before .before .before .entry-size .ensures ∙ size-is (now (s .args .name)) (now (s .args .old)) (now (s .args .own)) in
     (s .pre .0, fits (s .pre .0) (subst (λ (k : ℕ). s .args .standing .tail + k ≤ 4096 * s .args .standing .b) e (c .before .if1 .taken)), s .pre .1)
 
-same-length : tie.Need-same-length
-same-length c = search needs
-
-returns : tie.Need-returns
-returns c = search needs
-
 fold-requires : tie.Need-fold-requires
 fold-requires c κs =
     let s = c .before .before .before .before .before .before .before .before .before .before in
     let e = c .before .before .before .before .entry-size .ensures ∙ size-is (now (s .args .name)) (now (s .args .old)) (now (s .args .own)) in
     (s .pre .0, fits-not (s .pre .0) (subst (λ (k : ℕ). 4096 * s .args .standing .b < s .args .standing .tail + k) e (c .before .if1 .left)), s .pre .1)
-
-same-length-2 : tie.Need-same-length-2
-same-length-2 c = search needs
-
-returns-2 : tie.Need-returns-2
-returns-2 c = search needs
 
 pub put-value-spec : {M : Type 1} → statement M
 put-value-spec =
@@ -63,10 +48,10 @@ put-value-spec =
     add-entry-size
     entry-size-requires
     add-if1
-    mul-if1
+    (λ c. search needs)
     in-tail-requires
-    same-length
-    returns
+    (λ c. search needs)
+    (λ c. search needs)
     fold-requires
-    same-length-2
-    returns-2)
+    (λ c. search needs)
+    (λ c. search needs))

@@ -3,14 +3,8 @@ use borrow.Author.Needs.{needs}
 use Rattle.compose.proofs.put_entry.Statement.{statement}
 use Rattle.compose.proofs.put_entry.Tie as tie
 
-put-entry-in-requires : tie.Need-put-entry-in-requires
-put-entry-in-requires c κs = search needs
-
-same-length : tie.Need-same-length
-same-length c = search needs
-
 returns : tie.Need-returns
 returns c = c .before .before .put-entry-in .ensures
 
 pub put-entry-spec : {M : Type 1} → statement M
-put-entry-spec = tie.close (tie.spec put-entry-in-requires same-length returns)
+put-entry-spec = tie.close (tie.spec (λ c κs. search needs) (λ c. search needs) returns)

@@ -9,20 +9,11 @@ use borrow.Author.Needs.{needs}
 use Rattle.compose.proofs.put_other.Statement.{statement}
 use Rattle.compose.proofs.put_other.Tie as tie
 
-is-left-out-requires : tie.Need-is-left-out-requires
-is-left-out-requires c κs = search needs
-
 returns : tie.Need-returns
 returns c =
     let a = c .before .before .before .before .before .args in
     let none = left-out (now (a .region)) (a .place) (a .e) (now (a .leave)) (sym (c .before .is-left-out .ensures) ∙ c .if1 .taken) in
     (wrote-as (sym none) (wrote-none (a .at) (now (a .out))), omega arith)
-
-put-value-requires : tie.Need-put-value-requires
-put-value-requires c κs = search needs
-
-same-length : tie.Need-same-length
-same-length c = search needs
 
 returns-2 : tie.Need-returns-2
 returns-2 c =
@@ -34,4 +25,4 @@ returns-2 c =
 
 pub put-other-spec : {M : Type 1} → statement M
 put-other-spec =
-    tie.close (tie.spec is-left-out-requires returns put-value-requires same-length returns-2)
+    tie.close (tie.spec (λ c κs. search needs) returns (λ c κs. search needs) (λ c. search needs) returns-2)

@@ -13,15 +13,6 @@ use borrow.Author.Needs.{needs}
 use Rattle.compose.proofs.put_padding.Statement.{statement}
 use Rattle.compose.proofs.put_padding.Tie as tie
 
-rounded-requires : tie.Need-rounded-requires
-rounded-requires c κs = search needs
-
-sub-n : tie.Need-sub-n
-sub-n c = search needs
-
-array-share-prefix-blank : tie.Need-array-share-prefix-blank
-array-share-prefix-blank c = search needs
-
 slice-aggregate-put-bytes : tie.Need-slice-aggregate-put-bytes
 slice-aggregate-put-bytes c =
     let w = c .before .before .rounded in
@@ -37,9 +28,6 @@ put-bytes-requires c κs =
     let l = length-take-le {A = ℕ} (w .result - a .size) (0xFF ∷ 0xFF ∷ 0xFF ∷ []) (omega arith) in
     omega arith
 
-same-length : tie.Need-same-length
-same-length c = search needs
-
 returns : tie.Need-returns
 returns c =
     let w = c .before .before .before .before .before .rounded in
@@ -51,10 +39,10 @@ pub put-padding-spec : {M : Type 1} → statement M
 put-padding-spec =
     tie.close
     (tie.spec
-    rounded-requires
-    sub-n
-    array-share-prefix-blank
+    (λ c κs. search needs)
+    (λ c. search needs)
+    (λ c. search needs)
     slice-aggregate-put-bytes
     put-bytes-requires
-    same-length
+    (λ c. search needs)
     returns)

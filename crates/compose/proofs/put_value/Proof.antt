@@ -9,29 +9,11 @@ use borrow.Author.Needs.{needs}
 use Rattle.compose.proofs.put_value.Statement.{statement}
 use Rattle.compose.proofs.put_value.Tie as tie
 
-stamp-of-requires : tie.Need-stamp-of-requires
-stamp-of-requires c κs = search needs
-
-name-of-requires : tie.Need-name-of-requires
-name-of-requires c κs = search needs
-
-vendor-of-requires : tie.Need-vendor-of-requires
-vendor-of-requires c κs = search needs
-
-data-of-requires : tie.Need-data-of-requires
-data-of-requires c κs = search needs
-
-slice-aggregate-put-entry : tie.Need-slice-aggregate-put-entry
-slice-aggregate-put-entry c = search needs
-
 put-entry-requires : tie.Need-put-entry-requires
 put-entry-requires c κs =
     let a = c .before .before .before .before .before .before .before .before .args in
     let s = short (now (a .region)) (a .place) (a .e) (c .before .before .before .before .before .stamp-of .ensures) (c .before .before .before .before .name-of .ensures) (c .before .before .before .vendor-of .ensures) (c .before .before .data-of .ensures) in
     (omega arith, omega (arith, s .stamp-short), omega (arith, s .name-short), omega (arith, s .vendor-short), omega (arith, s .bytes-short), search needs)
-
-same-length : tie.Need-same-length
-same-length c = search needs
 
 returns : tie.Need-returns
 returns c =
@@ -45,11 +27,11 @@ pub put-value-spec : {M : Type 1} → statement M
 put-value-spec =
     tie.close
     (tie.spec
-    stamp-of-requires
-    name-of-requires
-    vendor-of-requires
-    data-of-requires
-    slice-aggregate-put-entry
+    (λ c κs. search needs)
+    (λ c κs. search needs)
+    (λ c κs. search needs)
+    (λ c κs. search needs)
+    (λ c. search needs)
     put-entry-requires
-    same-length
+    (λ c. search needs)
     returns)

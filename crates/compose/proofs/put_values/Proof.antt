@@ -5,24 +5,6 @@ use Rattle.output.proofs.Writing.{wrote-append, wrote-as}
 use Rattle.compose.proofs.put_values.Statement.{statement}
 use Rattle.compose.proofs.put_values.Tie as tie
 
-region-header-requires : tie.Need-region-header-requires
-region-header-requires c κs = search needs
-
-slice-aggregate-put-bytes : tie.Need-slice-aggregate-put-bytes
-slice-aggregate-put-bytes c = search needs
-
-put-bytes-requires : tie.Need-put-bytes-requires
-put-bytes-requires c κs = search needs
-
-slice-aggregate-put-others : tie.Need-slice-aggregate-put-others
-slice-aggregate-put-others c = search needs
-
-put-others-requires : tie.Need-put-others-requires
-put-others-requires c κs = search needs
-
-same-length : tie.Need-same-length
-same-length c = search needs
-
 returns : tie.Need-returns
 returns c =
     let b = c .before .before .before .before .before .before .before in
@@ -32,10 +14,10 @@ pub put-values-spec : {M : Type 1} → statement M
 put-values-spec =
     tie.close
     (tie.spec
-    region-header-requires
-    slice-aggregate-put-bytes
-    put-bytes-requires
-    slice-aggregate-put-others
-    put-others-requires
-    same-length
+    (λ c κs. search needs)
+    (λ c. search needs)
+    (λ c κs. search needs)
+    (λ c. search needs)
+    (λ c κs. search needs)
+    (λ c. search needs)
     returns)

@@ -17,16 +17,10 @@ use borrow.Author.Needs.{needs}
 use Rattle.convert.proofs.check.Statement.{statement}
 use Rattle.convert.proofs.check.Tie as tie
 
-blocks-requires : tie.Need-blocks-requires
-blocks-requires c κs = search needs
-
 returns : tie.Need-returns
 returns c =
     let a = c .before .before .before .before .args in
     sym (source-wrong (a .from) (a .to) (now (a .image)) (now (a .target)) (sym (c .before .blocks2 .ensures .0) ∙ c .if1 .taken))
-
-blocks-requires-2 : tie.Need-blocks-requires-2
-blocks-requires-2 c κs = search needs
 
 returns-2 : tie.Need-returns-2
 returns-2 c =
@@ -35,15 +29,6 @@ returns-2 c =
     let tgt = now (a .target) in
     let p = parted img (c .before .before .before .blocks2 .result) (c .before .before .before .blocks2 .ensures .0) (c .before .before .if1 .left) in
     sym (target-wrong (a .from) (a .to) img tgt (p .right-length) (sym (c .before .blocks3 .ensures .0) ∙ c .if2 .taken))
-
-check-in-requires : tie.Need-check-in-requires
-check-in-requires c κs = search needs
-
-enum-told : tie.Need-enum-told
-enum-told c = search needs
-
-enum-told-2 : tie.Need-enum-told-2
-enum-told-2 c = search needs
 
 returns-3 : tie.Need-returns-3
 returns-3 c =
@@ -57,12 +42,6 @@ returns-3 c =
     let t = c .enum-told2 .given in
     let d = told-unready (a .from) img (t .0 .0) (p .right-length) (sym (c .before .before .check-in .ensures) ∙ t .1) in
     sym (unready (a .from) (a .to) img tgt (p .right-length) (q .right-length) d)
-
-mul-cut : tie.Need-mul-cut
-mul-cut c = search needs
-
-cut-requires : tie.Need-cut-requires
-cut-requires c κs = search needs
 
 is-unstampable-requires : tie.Need-is-unstampable-requires
 is-unstampable-requires c κs =
@@ -86,12 +65,6 @@ returns-4 c =
     let same = c .before .before .cut .ensures ∙ p .its-region in
     let u = ap (rule20 (a .to)) (sym (cut-values (a .from) (a .to) img same)) ∙ sym (c .before .is-unstampable .ensures) in
     sym (too-stamped (a .from) (a .to) img tgt (p .right-length) (q .right-length) d (u ∙ c .if3 .taken))
-
-mul-if4 : tie.Need-mul-if4
-mul-if4 c = search needs
-
-mul-needed : tie.Need-mul-needed
-mul-needed c = search needs
 
 needed-requires : tie.Need-needed-requires
 needed-requires c κs =
@@ -150,20 +123,20 @@ pub check-spec : {M : Type 1} → statement M
 check-spec =
     tie.close
     (tie.spec
-    blocks-requires
+    (λ c κs. search needs)
     returns
-    blocks-requires-2
+    (λ c κs. search needs)
     returns-2
-    check-in-requires
-    enum-told
-    enum-told-2
+    (λ c κs. search needs)
+    (λ c. search needs)
+    (λ c. search needs)
     returns-3
-    mul-cut
-    cut-requires
+    (λ c. search needs)
+    (λ c κs. search needs)
     is-unstampable-requires
     returns-4
-    mul-if4
-    mul-needed
+    (λ c. search needs)
+    (λ c. search needs)
     needed-requires
     returns-5
     returns-6)

@@ -12,12 +12,6 @@ use borrow.Author.Needs.{needs}
 use Rattle.convert.proofs.move_values.Statement.{statement}
 use Rattle.convert.proofs.move_values.Tie as tie
 
-check-requires : tie.Need-check-requires
-check-requires c κs = search needs
-
-enum-known-c : tie.Need-enum-known-c
-enum-known-c c = search needs
-
 mul-put-image : tie.Need-mul-put-image
 mul-put-image c = let a = c .before .before .before .before .before .before .before .before .args in
     let img = now (a .image) in
@@ -34,9 +28,6 @@ mul-cut c = let a = c .before .before .before .before .before .before .before .b
     let g = goes (a .from) (a .to) img (now (a .target)) (t .0 .0) (t .0 .1 .0) told (part 0 (4096 * t .0 .0) img) refl in
     record { fits = omega (arith, g .few) }
 
-cut-requires : tie.Need-cut-requires
-cut-requires c κs = search needs
-
 put-image-requires : tie.Need-put-image-requires
 put-image-requires c κs = let a = c .before .before .before .before .before .before .before .before .before .args in
     let img = now (a .image) in
@@ -47,12 +38,6 @@ put-image-requires c κs = let a = c .before .before .before .before .before .be
     let e = ap length (c .cut .ensures) in
     (omega (arith, s, e, g .few), g .room)
 
-enum-known-c-2 : tie.Need-enum-known-c-2
-enum-known-c-2 c = search needs
-
-same-length : tie.Need-same-length
-same-length c = search needs
-
 returns : tie.Need-returns
 returns c = let a = c .before .before .before .before .before .before .before .before .before .before .before .before .args in
     let img = now (a .image) in
@@ -61,9 +46,6 @@ returns c = let a = c .before .before .before .before .before .before .before .b
     let g = goes (a .from) (a .to) img (now (a .target)) (t .0 .0) (t .0 .1 .0) told (now (c .before .before .before .cut .result))
     (c .before .before .before .cut .ensures) in
     (g .answer, c .before .before .put-image .ensures ∙ g .image)
-
-same-length-2 : tie.Need-same-length-2
-same-length-2 c = search needs
 
 returns-2 : tie.Need-returns-2
 returns-2 c = let a = c .before .before .before .before .before .before .before .args in
@@ -75,14 +57,14 @@ pub move-values-spec : {M : Type 1} → statement M
 move-values-spec =
     tie.close
     (tie.spec
-    check-requires
-    enum-known-c
+    (λ c κs. search needs)
+    (λ c. search needs)
     mul-put-image
     mul-cut
-    cut-requires
+    (λ c κs. search needs)
     put-image-requires
-    enum-known-c-2
-    same-length
+    (λ c. search needs)
+    (λ c. search needs)
     returns
-    same-length-2
+    (λ c. search needs)
     returns-2)

@@ -16,12 +16,6 @@ use borrow.Author.Needs.{needs}
 use Rattle.decision.proofs.decide.Statement.{statement}
 use Rattle.decision.proofs.decide.Tie as tie
 
-places-requires : tie.Need-places-requires
-places-requires c κs = search needs
-
-standing-requires : tie.Need-standing-requires
-standing-requires c κs = search needs
-
 decide-over-requires : tie.Need-decide-over-requires
 unfolding standing
 decide-over-requires c κs =
@@ -31,9 +25,6 @@ decide-over-requires c κs =
     let k = keyed (now (a .name)) (now (a .vendor)) in
     let l = c .before .places .ensures in
     (p .0, (p .1 .0, (p .1 .1, c .standing .ensures ∙ ap₂ elseFound (l .0) (l .1) ∙ sym (found-else (added k es) (replacing k es)))))
-
-value-requires : tie.Need-value-requires
-value-requires c κs = search needs
 
 returns : tie.Need-returns
 unfolding standing
@@ -58,4 +49,4 @@ returns c =
 
 pub decide-spec : {M : Type 1} → statement M
 decide-spec =
-    tie.close (tie.spec places-requires standing-requires decide-over-requires value-requires returns)
+    tie.close (tie.spec (λ c κs. search needs) (λ c κs. search needs) decide-over-requires (λ c κs. search needs) returns)

@@ -24,21 +24,6 @@ use borrow.Author.Needs.{needs}
 use Rattle.decision.proofs.decide_over.Statement.{statement}
 use Rattle.decision.proofs.decide_over.Tie as tie
 
-proper-requires : tie.Need-proper-requires
-proper-requires c κs = search needs
-
-appends-requires : tie.Need-appends-requires
-appends-requires c κs = search needs
-
-kept-data-requires : tie.Need-kept-data-requires
-kept-data-requires c κs = search needs
-
-forbids-requires : tie.Need-forbids-requires
-forbids-requires c κs = search needs
-
-add-size : tie.Need-add-size
-add-size c = search needs
-
 judge-requires : tie.Need-judge-requires
 unfolding newSize keptData
 judge-requires c κs =
@@ -47,9 +32,6 @@ judge-requires c κs =
     let p = m .pre in
     let kept = c .before .kept-data .ensures ∙ ap (λ (t : Bool). cond t (oldData (now (a .region)) (a .old)) []) (c .before .before .appends .ensures) in
     (p .0, (p .1 .1 .1, (c .before .before .before .proper .ensures, ap (λ (b : List ℕ). length b + length (now (c .before .before .before .proper .result))) kept)))
-
-limited-requires : tie.Need-limited-requires
-limited-requires c κs = search needs
 
 roomed-requires : tie.Need-roomed-requires
 unfolding newSize keptData
@@ -96,12 +78,12 @@ pub decide-over-spec : {M : Type 1} → statement M
 decide-over-spec =
     tie.close
     (tie.spec
-    proper-requires
-    appends-requires
-    kept-data-requires
-    forbids-requires
-    add-size
+    (λ c κs. search needs)
+    (λ c κs. search needs)
+    (λ c κs. search needs)
+    (λ c κs. search needs)
+    (λ c. search needs)
     judge-requires
-    limited-requires
+    (λ c κs. search needs)
     roomed-requires
     returns)

@@ -13,27 +13,6 @@ use borrow.Author.Needs.{needs}
 use Rattle.decision.proofs.judge.Statement.{statement}
 use Rattle.decision.proofs.judge.Tie as tie
 
-request-requires : tie.Need-request-requires
-request-requires c κs = search needs
-
-enum-known-q : tie.Need-enum-known-q
-enum-known-q c = search needs
-
-enum-told : tie.Need-enum-told
-enum-told c = search needs
-
-judge-standing-requires : tie.Need-judge-standing-requires
-judge-standing-requires c κs = search needs
-
-enum-known-j : tie.Need-enum-known-j
-enum-known-j c = search needs
-
-enum-told-2 : tie.Need-enum-told-2
-enum-told-2 c = search needs
-
-outcome-requires : tie.Need-outcome-requires
-outcome-requires c κs = search needs
-
 returns : tie.Need-returns
 returns c =
     let a = c .before .before .before .before .before .before .before .before .args in
@@ -68,13 +47,13 @@ pub judge-spec : {M : Type 1} → statement M
 judge-spec =
     tie.close
     (tie.spec
-    request-requires
-    enum-known-q
-    enum-told
-    judge-standing-requires
-    enum-known-j
-    enum-told-2
-    outcome-requires
+    (λ c κs. search needs)
+    (λ c. search needs)
+    (λ c. search needs)
+    (λ c κs. search needs)
+    (λ c. search needs)
+    (λ c. search needs)
+    (λ c κs. search needs)
     returns
     returns-2
     returns-3)

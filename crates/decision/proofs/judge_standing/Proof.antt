@@ -17,27 +17,6 @@ use borrow.Author.Needs.{needs}
 use Rattle.decision.proofs.judge_standing.Statement.{statement}
 use Rattle.decision.proofs.judge_standing.Tie as tie
 
-standing-requires : tie.Need-standing-requires
-standing-requires c κs = search needs
-
-enum-told : tie.Need-enum-told
-enum-told c = search needs
-
-stands-requires : tie.Need-stands-requires
-stands-requires c κs = search needs
-
-wanted-requires : tie.Need-wanted-requires
-wanted-requires c κs = search needs
-
-stamp-requires : tie.Need-stamp-requires
-stamp-requires c κs = search needs
-
-verdict-requires : tie.Need-verdict-requires
-verdict-requires c κs = search needs
-
-enum-told-2 : tie.Need-enum-told-2
-enum-told-2 c = search needs
-
 returns : tie.Need-returns
 returns c =
     let a = c .before .before .before .before .before .before .before .before .before .before .before .args in
@@ -64,12 +43,12 @@ pub judge-standing-spec : {M : Type 1} → statement M
 judge-standing-spec =
     tie.close
     (tie.spec
-    standing-requires
-    enum-told
-    stands-requires
-    wanted-requires
-    stamp-requires
-    verdict-requires
-    enum-told-2
+    (λ c κs. search needs)
+    (λ c. search needs)
+    (λ c κs. search needs)
+    (λ c κs. search needs)
+    (λ c κs. search needs)
+    (λ c κs. search needs)
+    (λ c. search needs)
     returns
     returns-2)

@@ -9,16 +9,10 @@ use borrow.Author.Needs.{needs}
 use Rattle.decision.proofs.kept.Statement.{statement}
 use Rattle.decision.proofs.kept.Tie as tie
 
-standing-requires : tie.Need-standing-requires
-standing-requires c κs = search needs
-
-kept-data-requires : tie.Need-kept-data-requires
-kept-data-requires c κs = search needs
-
 returns : tie.Need-returns
 returns c =
     let a = c .before .before .before .args in
     c .kept-data .ensures ∙ ap (λ (f : Found). cond (a .keeps) (oldData (now (a .region)) f) []) (c .before .standing .ensures)
 
 pub kept-spec : {M : Type 1} → statement M
-kept-spec = tie.close (tie.spec standing-requires kept-data-requires returns)
+kept-spec = tie.close (tie.spec (λ c κs. search needs) (λ c κs. search needs) returns)

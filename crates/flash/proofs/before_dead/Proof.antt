@@ -9,9 +9,6 @@ use borrow.Author.Needs.{needs}
 use Rattle.flash.proofs.before_dead.Statement.{statement}
 use Rattle.flash.proofs.before_dead.Tie as tie
 
-touches-requires : tie.Need-touches-requires
-touches-requires c κs = search needs
-
 sub-result : tie.Need-sub-result
 sub-result c =
     let a = c .before .before .before .before .args in
@@ -24,4 +21,4 @@ returns-2 : tie.Need-returns-2
 returns-2 c = rw (sym (c .before .touches .ensures) ∙ c .if1 .left)
 
 pub before-dead-spec : {M : Type 1} → statement M
-before-dead-spec = tie.close (tie.spec touches-requires sub-result returns returns-2)
+before-dead-spec = tie.close (tie.spec (λ c κs. search needs) sub-result returns returns-2)

@@ -6,12 +6,6 @@ use borrow.Author.Needs.{needs}
 use Rattle.flash.proofs.bytes.Statement.{statement}
 use Rattle.flash.proofs.bytes.Tie as tie
 
-least-requires : tie.Need-least-requires
-least-requires c κs = search needs
-
-spared-requires : tie.Need-spared-requires
-spared-requires c κs = search needs
-
 put-run-requires : tie.Need-put-run-requires
 put-run-requires c κs =
     let s = c .before .before .before .before .before .before .before in
@@ -21,9 +15,6 @@ put-run-requires c κs =
     reach-within (now (a .dead)) (now (a .content)) (a .at) (a .from) (c .before .before .before .least .result) (now (a .image)) (c .before .spared .result) (omega (arith, s .pre .2, e .0))
     (c .before .spared .ensures) in
     (omega (arith, s .pre .2, e .0, k), omega (arith, s .pre .3, e .0, k))
-
-same-length : tie.Need-same-length
-same-length c = search needs
 
 returns : tie.Need-returns
 returns c =
@@ -35,4 +26,4 @@ returns c =
     (s .pre .2) (e .0) (e .2 (s .pre .0) (s .pre .1)) (e .1) (c .before .before .before .before .spared .ensures) (c .before .before .put-run .ensures)
 
 pub bytes-spec : {M : Type 1} → statement M
-bytes-spec = tie.close (tie.spec least-requires spared-requires put-run-requires same-length returns)
+bytes-spec = tie.close (tie.spec (λ c κs. search needs) (λ c κs. search needs) put-run-requires (λ c. search needs) returns)

@@ -7,29 +7,14 @@ use borrow.Author.Needs.{needs}
 use Rattle.flash.proofs.carry_out.Statement.{statement}
 use Rattle.flash.proofs.carry_out.Tie as tie
 
-enum-told : tie.Need-enum-told
-enum-told c = search needs
-
-dead-count-requires : tie.Need-dead-count-requires
-dead-count-requires c κs = search needs
-
 array-share-prefix-dead : tie.Need-array-share-prefix-dead
 array-share-prefix-dead c = c .before .before .dead-count .ensures .1
 
 slice-aggregate-make-stores : tie.Need-slice-aggregate-make-stores
 slice-aggregate-make-stores c = sym (length-take-le (c .before .before .before .dead-count .result) _ (c .before .before .before .dead-count .ensures .1))
 
-width-requires : tie.Need-width-requires
-width-requires c κs = search needs
-
 make-stores-requires : tie.Need-make-stores-requires
 make-stores-requires c κs = (c .before .before .before .before .before .before .before .before .before .before .pre, c .before .before .width .ensures .1)
-
-enum-known-judged : tie.Need-enum-known-judged
-enum-known-judged c = search needs
-
-same-length : tie.Need-same-length
-same-length c = search needs
 
 returns : tie.Need-returns
 returns c =
@@ -46,13 +31,13 @@ pub carry-out-spec : {M : Type 1} → statement M
 carry-out-spec =
     tie.close
     (tie.spec
-    enum-told
-    dead-count-requires
-    width-requires
+    (λ c. search needs)
+    (λ c κs. search needs)
+    (λ c κs. search needs)
     array-share-prefix-dead
     slice-aggregate-make-stores
     make-stores-requires
-    enum-known-judged
-    same-length
+    (λ c. search needs)
+    (λ c. search needs)
     returns
     returns-2)

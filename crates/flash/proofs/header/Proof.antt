@@ -14,9 +14,6 @@ header-bytes-requires c κs =
     let s = c .before .before .before .before .before in
     (header-short (s .pre .0) (c .before .if1 .taken), s .pre .1, s .pre .2, s .pre .3)
 
-same-length : tie.Need-same-length
-same-length c = search needs
-
 returns : tie.Need-returns
 returns c =
     rw (c .before .before .before .before .if1 .taken) (c .before .before .header-bytes .ensures)
@@ -41,9 +38,6 @@ one-page-requires c κs =
     let s = c .before .before .before .before .before in
     let l = header-long (s .pre .0) (c .before .if1 .left) in (omega (arith, l), s .pre .1, omega (arith, l, s .pre .2), omega (arith, l, s .pre .3), s .pre .4, c .before .if1 .left)
 
-same-length-2 : tie.Need-same-length-2
-same-length-2 c = search needs
-
 returns-2 : tie.Need-returns-2
 returns-2 c =
     let s = c .before .before .before .before .before .before .before .before in
@@ -58,11 +52,11 @@ header-spec =
     tie.close
     (tie.spec
     header-bytes-requires
-    same-length
+    (λ c. search needs)
     returns
     add-one-page
     add-one-page-2
     sub-one-page
     one-page-requires
-    same-length-2
+    (λ c. search needs)
     returns-2)

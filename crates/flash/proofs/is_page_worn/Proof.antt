@@ -21,30 +21,12 @@ abbrev μ-loop : tie.MeasureT-loop
 loop-holds : tie.Need-loop-holds Inv-loop μ-loop
 loop-holds c = (omega arith, refl)
 
-mul-address : tie.Need-mul-address Inv-loop μ-loop
-mul-address c = search needs
-
-shared-slice-read-address : tie.Need-shared-slice-read-address Inv-loop μ-loop
-shared-slice-read-address c = search needs
-
-address-requires : tie.Need-address-requires Inv-loop μ-loop
-address-requires c κs = search needs
-
-touches-requires : tie.Need-touches-requires Inv-loop μ-loop
-touches-requires c κs = search needs
-
 returns : tie.Need-returns Inv-loop μ-loop
 returns c =
     let l = c .before .before .before .before .before in
     let s = l .before .before .before .before in
     let a = s .args in
     sym (sym (l .loop .inv .1) ∙ page-here (a .at) (now (a .content)) (a .from) (a .n) (now (a .image)) (s .pre .0) (now (a .dead)) (l .loop .d) (omega arith) (ap (touched (a .at) (now (a .content)) (a .from) (a .n) (now (a .image)) (s .pre .0)) (sym (c .before .before .address .ensures)) ∙ sym (c .before .touches .ensures) ∙ c .if1 .taken))
-
-add-d : tie.Need-add-d Inv-loop μ-loop
-add-d c = search needs
-
-loop-less : tie.Need-loop-less Inv-loop μ-loop
-loop-less c = search needs
 
 loop-again : tie.Need-loop-again Inv-loop μ-loop
 loop-again c =
@@ -67,12 +49,12 @@ is-page-worn-spec =
     Inv-loop
     μ-loop
     loop-holds
-    mul-address
-    shared-slice-read-address
-    address-requires
-    touches-requires
+    (λ c. search needs)
+    (λ c. search needs)
+    (λ c κs. search needs)
+    (λ c κs. search needs)
     returns
-    add-d
-    loop-less
+    (λ c. search needs)
+    (λ c. search needs)
     loop-again
     returns-2)

@@ -32,15 +32,6 @@ loop-holds c =
     let a = s .args in
     (omega arith, omega arith, refl, omega arith, underway-begins (now (a .dead)) (a .w) (now (a .content)) (a .t2) (now (a .image)) (s .pre .0))
 
-mul-o : tie.Need-mul-o Inv-loop μ-loop
-mul-o c = search needs
-
-array-copy-out-o : tie.Need-array-copy-out-o Inv-loop μ-loop
-array-copy-out-o c = search needs
-
-size-requires : tie.Need-size-requires Inv-loop μ-loop
-size-requires c κs = search needs
-
 same-length : tie.Need-same-length Inv-loop μ-loop
 same-length c = c .before .before .before .before .before .loop .inv .2
 
@@ -52,9 +43,6 @@ returns c =
     let t = c .before .if1 .taken in
     let z = c .before .before .size .ensures in
     underway-stopped (now (a .dead)) (a .w) (now (a .content)) (a .t2) (now (a .image)) (s .pre .0) (l .op) (l .i) (l .image) (l .made) (a .n) (l .inv .4) (omega arith) (c .if2 .taken)
-
-sub-turn : tie.Need-sub-turn Inv-loop μ-loop
-sub-turn c = search needs
 
 turn-requires : tie.Need-turn-requires Inv-loop μ-loop
 turn-requires c κs =
@@ -70,9 +58,6 @@ turn-requires c κs =
       s .pre .1,
     )
 
-same-length-2 : tie.Need-same-length-2 Inv-loop μ-loop
-same-length-2 c = search needs
-
 returns-2 : tie.Need-returns-2 Inv-loop μ-loop
 returns-2 c =
     let l = c .before .before .before .before .before .before .before .before .before .before .loop in
@@ -83,9 +68,6 @@ returns-2 c =
     let z = ap (countOf (a .w)) (c .if3 .taken) ∙ count-none (a .w) in
     let none = underway-worn (now (a .dead)) (a .w) (now (a .content)) (a .t2) (now (a .image)) (s .pre .0) (l .op) (l .i) (l .image) (l .made) (a .n) (l .inv .4) (m .worn z) (omega arith) in
     (none .0, unchanged m z ∙ none .1)
-
-counted-requires : tie.Need-counted-requires Inv-loop μ-loop
-counted-requires c κs = search needs
 
 add-made : tie.Need-add-made Inv-loop μ-loop
 add-made c = omega (arith, c .before .before .before .before .turn .ensures .1 .few, c .counted .ensures)
@@ -115,12 +97,6 @@ loop-again c =
           (underway-turns (now (a .dead)) (a .w) (now (a .content)) (a .t2) (now (a .image)) (s .pre .0) (l .op) (l .i) (l .image) (l .made) (a .n - l .made) (f .last .0) (f .result) (l .inv .4) (f .ensures) (omega (arith, some))),
     )
 
-add-op : tie.Need-add-op Inv-loop μ-loop
-add-op c = search needs
-
-loop-less-2 : tie.Need-loop-less-2 Inv-loop μ-loop
-loop-less-2 c = search needs
-
 loop-again-2 : tie.Need-loop-again-2 Inv-loop μ-loop
 loop-again-2 c =
     let l = c .before .before .before .before .loop in
@@ -148,22 +124,22 @@ make-stores-spec =
     Inv-loop
     μ-loop
     loop-holds
-    mul-o
-    array-copy-out-o
-    size-requires
+    (λ c. search needs)
+    (λ c. search needs)
+    (λ c κs. search needs)
     same-length
     returns
-    sub-turn
+    (λ c. search needs)
     turn-requires
-    same-length-2
+    (λ c. search needs)
     returns-2
-    counted-requires
+    (λ c κs. search needs)
     add-made
     add-i
     loop-less
     loop-again
-    add-op
-    loop-less-2
+    (λ c. search needs)
+    (λ c. search needs)
     loop-again-2
     same-length-3
     returns-3)

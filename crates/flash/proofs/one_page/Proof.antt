@@ -6,15 +6,6 @@ use borrow.Author.Needs.{needs}
 use Rattle.flash.proofs.one_page.Statement.{statement}
 use Rattle.flash.proofs.one_page.Tie as tie
 
-to-page-end-requires : tie.Need-to-page-end-requires
-to-page-end-requires c κs = search needs
-
-is-page-worn-requires : tie.Need-is-page-worn-requires
-is-page-worn-requires c κs = search needs
-
-same-length : tie.Need-same-length
-same-length c = search needs
-
 returns : tie.Need-returns
 returns c =
     let s = c .before .before .before .before .before .before .before in
@@ -22,12 +13,6 @@ returns c =
     let e = c .before .before .before .to-page-end .ensures in
     page-failed (now (a .dead)) (a .w) (now (a .content)) (a .at) (a .from) (a .len) (c .before .before .before .to-page-end .result) (a .left) (now (a .image)) _ (s .pre .2) (s .pre .5) (e .0) (e .1) (e .2) (e .3) (s .pre .1)
     (sym (c .before .is-page-worn .ensures) ∙ c .if1 .taken) refl
-
-put-run-requires : tie.Need-put-run-requires
-put-run-requires c κs = search needs
-
-same-length-2 : tie.Need-same-length-2
-same-length-2 c = search needs
 
 returns-2 : tie.Need-returns-2
 returns-2 c =
@@ -41,10 +26,10 @@ pub one-page-spec : {M : Type 1} → statement M
 one-page-spec =
     tie.close
     (tie.spec
-    to-page-end-requires
-    is-page-worn-requires
-    same-length
+    (λ c κs. search needs)
+    (λ c κs. search needs)
+    (λ c. search needs)
     returns
-    put-run-requires
-    same-length-2
+    (λ c κs. search needs)
+    (λ c. search needs)
     returns-2)

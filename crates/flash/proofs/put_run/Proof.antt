@@ -22,24 +22,6 @@ abbrev μ-loop : tie.MeasureT-loop
 loop-holds : tie.Need-loop-holds Inv-loop μ-loop
 loop-holds c = (omega arith, refl, run-none (now (c .args .content)) (c .args .at) (c .args .from) (now (c .args .image)))
 
-add-image : tie.Need-add-image Inv-loop μ-loop
-add-image c = search needs
-
-shared-slice-read-image : tie.Need-shared-slice-read-image Inv-loop μ-loop
-shared-slice-read-image c = search needs
-
-add-image-2 : tie.Need-add-image-2 Inv-loop μ-loop
-add-image-2 c = search needs
-
-slice-write-image : tie.Need-slice-write-image Inv-loop μ-loop
-slice-write-image c = search needs
-
-add-j : tie.Need-add-j Inv-loop μ-loop
-add-j c = search needs
-
-loop-less : tie.Need-loop-less Inv-loop μ-loop
-loop-less c = search needs
-
 loop-again : tie.Need-loop-again Inv-loop μ-loop
 loop-again c =
     let l = c .before .before .loop in
@@ -50,9 +32,6 @@ loop-again c =
       length-set (l .image) (a .at + l .j) v ∙ l .inv .1,
       ap (λ (x : List ℕ). set x (a .at + l .j) v) (l .inv .2) ∙ run-more (now (a .content)) (a .at) (a .from) (l .j) (now (a .image)) (omega (arith, s .pre .0)),
     )
-
-same-length : tie.Need-same-length Inv-loop μ-loop
-same-length c = search needs
 
 returns : tie.Need-returns Inv-loop μ-loop
 returns c =
@@ -68,12 +47,12 @@ put-run-spec =
     Inv-loop
     μ-loop
     loop-holds
-    add-image
-    shared-slice-read-image
-    add-image-2
-    slice-write-image
-    add-j
-    loop-less
+    (λ c. search needs)
+    (λ c. search needs)
+    (λ c. search needs)
+    (λ c. search needs)
+    (λ c. search needs)
+    (λ c. search needs)
     loop-again
-    same-length
+    (λ c. search needs)
     returns)

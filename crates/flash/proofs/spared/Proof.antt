@@ -26,24 +26,6 @@ loop-holds c =
     let a = s .args in
     (omega arith, omega arith, reach-no-dead (now (a .content)) (a .at) (a .from) (a .r) (now (a .dead)) (now (a .image)) (s .pre .0))
 
-mul-address : tie.Need-mul-address Inv-loop μ-loop
-mul-address c = search needs
-
-shared-slice-read-address : tie.Need-shared-slice-read-address Inv-loop μ-loop
-shared-slice-read-address c = search needs
-
-address-requires : tie.Need-address-requires Inv-loop μ-loop
-address-requires c κs = search needs
-
-before-dead-requires : tie.Need-before-dead-requires Inv-loop μ-loop
-before-dead-requires c κs = search needs
-
-add-d : tie.Need-add-d Inv-loop μ-loop
-add-d c = search needs
-
-loop-less : tie.Need-loop-less Inv-loop μ-loop
-loop-less c = search needs
-
 loop-again : tie.Need-loop-again Inv-loop μ-loop
 loop-again c =
     let l = c .before .before .before .before in
@@ -68,11 +50,11 @@ spared-spec =
     Inv-loop
     μ-loop
     loop-holds
-    mul-address
-    shared-slice-read-address
-    address-requires
-    before-dead-requires
-    add-d
-    loop-less
+    (λ c. search needs)
+    (λ c. search needs)
+    (λ c κs. search needs)
+    (λ c κs. search needs)
+    (λ c. search needs)
+    (λ c. search needs)
     loop-again
     returns)

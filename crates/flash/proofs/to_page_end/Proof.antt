@@ -7,9 +7,6 @@ use borrow.Author.Needs.{needs}
 use Rattle.flash.proofs.to_page_end.Statement.{statement}
 use Rattle.flash.proofs.to_page_end.Tie as tie
 
-rem-n : tie.Need-rem-n
-rem-n c = search needs
-
 sub-n : tie.Need-sub-n
 sub-n c = let l : c .args .at % c .args .w < c .args .w = mod-lt (c .args .at) (omega (arith, c .pre .0)) in omega (arith, l)
 
@@ -26,4 +23,4 @@ returns-2 c =
     (omega (arith, l), omega (arith, c .if1 .left), omega (arith, l), λ n. omega (arith, l))
 
 pub to-page-end-spec : {M : Type 1} → statement M
-to-page-end-spec = tie.close (tie.spec rem-n sub-n returns returns-2)
+to-page-end-spec = tie.close (tie.spec (λ c. search needs) sub-n returns returns-2)

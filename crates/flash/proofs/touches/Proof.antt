@@ -18,19 +18,10 @@ returns-2 c =
     let a = c .before .before .args in
     beyond (a .at) (a .a) (a .n) (getD (now (a .image)) (a .a) 0) _ (omega arith)
 
-shared-slice-read-old : tie.Need-shared-slice-read-old
-shared-slice-read-old c = search needs
-
-add-new : tie.Need-add-new
-add-new c = search needs
-
-shared-slice-read-new : tie.Need-shared-slice-read-new
-shared-slice-read-new c = search needs
-
 returns-3 : tie.Need-returns-3
 returns-3 c =
     let a = c .before .before .before .before .args in
     sym (within (a .at) (a .a) (a .n) (getD (now (a .image)) (a .a) 0) _ (omega arith) (omega arith))
 
 pub touches-spec : {M : Type 1} → statement M
-touches-spec = tie.close (tie.spec returns returns-2 shared-slice-read-old add-new shared-slice-read-new returns-3)
+touches-spec = tie.close (tie.spec returns returns-2 (λ c. search needs) (λ c. search needs) (λ c. search needs) returns-3)

@@ -11,21 +11,12 @@ use borrow.Author.Needs.{needs}
 use Rattle.flash.proofs.turn.Statement.{statement}
 use Rattle.flash.proofs.turn.Tie as tie
 
-enum-told : tie.Need-enum-told
-enum-told c = search needs
-
-enum-known-step : tie.Need-enum-known-step
-enum-known-step c = search needs
-
 mark-requires : tie.Need-mark-requires
 mark-requires c κs =
     let s = c .before .before .before .before .before .before .before in
     let a = s .args in
     let p = asked-as (c .before .before .step .given .1) (a .w) (length (now (a .content))) (length (now (a .image))) (a .i) (now (a .image)) (s .pre .0) (s .pre .2) (s .pre .3) in
     (p .1, p .2 (omega (arith, p .0)))
-
-enum-known-step-2 : tie.Need-enum-known-step-2
-enum-known-step-2 c = search needs
 
 add-clear : tie.Need-add-clear
 unfolding block
@@ -42,9 +33,6 @@ clear-requires c κs =
     let a = s .args in
     let p = asked-as (c .before .before .step2 .given .1) (a .w) (length (now (a .content))) (length (now (a .image))) (a .i) (now (a .image)) (s .pre .0) (s .pre .2) (s .pre .3) in
     omega (arith, p .0, p .1)
-
-enum-known-step-3 : tie.Need-enum-known-step-3
-enum-known-step-3 c = search needs
 
 add-program : tie.Need-add-program
 add-program c =
@@ -74,9 +62,6 @@ program-requires c κs =
     let p = asked-as (c .before .before .step3 .given .1) (a .w) (length (now (a .content))) (length (now (a .image))) (a .i) (now (a .image)) (s .pre .0) (s .pre .2) (s .pre .3) in
     (omega (arith, p .0), s .pre .1, omega (arith, p .0, p .1 .0), omega (arith, p .0, p .1 .1), s .pre .4)
 
-enum-known-step-4 : tie.Need-enum-known-step-4
-enum-known-step-4 c = search needs
-
 header-requires : tie.Need-header-requires
 header-requires c κs =
     let s = c .before .before .before .before .before .before .before in
@@ -91,9 +76,6 @@ returns c =
     let p = asked-as (c .enum-told .given .1) (a .w) (length (now (a .content))) (length (now (a .image))) (a .i) (now (a .image)) (s .pre .0) (s .pre .2) (s .pre .3) in
     absurd (omega (arith, p .0))
 
-same-length : tie.Need-same-length
-same-length c = search needs
-
 returns-2 : tie.Need-returns-2
 returns-2 c =
     let s = c .before .before .before .before .before .before .before .before .before .before in
@@ -102,9 +84,6 @@ returns-2 c =
     let p = asked-as (e .1) (a .w) (length (now (a .content))) (length (now (a .image))) (a .i) (now (a .image)) (s .pre .0) (s .pre .2) (s .pre .3) in
     turned-as (e .1) (now (a .dead)) (a .w) (now (a .content)) (a .i) (a .left) (now (a .image)) (c .before .before .mark .result)
     (mark-turned (now (a .dead)) (a .w) (now (a .content)) (e .0 .0) (e .0 .1 .0) (a .i) (a .left) (now (a .image)) _ (c .before .before .mark .result) (p .0) (s .pre .1) (c .before .before .mark .ensures .0) (c .before .before .mark .ensures .1))
-
-same-length-2 : tie.Need-same-length-2
-same-length-2 c = search needs
 
 returns-3 : tie.Need-returns-3
 returns-3 c =
@@ -115,9 +94,6 @@ returns-3 c =
     turned-as (e .1) (now (a .dead)) (a .w) (now (a .content)) (a .i) (a .left) (now (a .image)) 1
     (erase-turned (now (a .dead)) (a .w) (now (a .content)) (e .0 .0) (e .0 .1 .0) (a .i) (a .left) (now (a .image)) _ (p .0) (s .pre .1) (c .before .before .clear .ensures))
 
-same-length-3 : tie.Need-same-length-3
-same-length-3 c = search needs
-
 returns-4 : tie.Need-returns-4
 returns-4 c =
     let s = c .before .before .before .before .before .before .before .before .before .before in
@@ -127,9 +103,6 @@ returns-4 c =
     turned-as (e .1) (now (a .dead)) (a .w) (now (a .content)) (a .i) (a .left) (now (a .image)) (c .before .before .program .result)
     (piece-turned (now (a .dead)) (a .w) (now (a .content)) (Program (e .0 .0) (e .0 .1 .0) (e .0 .1 .1 .0)) (a .i) (e .0 .0 + a .i) (e .0 .1 .0 + a .i) (e .0 .1 .1 .0 - a .i) (a .left) (now (a .image)) _ (c .before .before .program .result)
     (program-piece (a .w) (now (a .content)) (e .0 .0) (e .0 .1 .0) (e .0 .1 .1 .0) (a .i)) (omega (arith, p .0)) (c .before .before .program .ensures))
-
-same-length-4 : tie.Need-same-length-4
-same-length-4 c = search needs
 
 returns-5 : tie.Need-returns-5
 returns-5 c =
@@ -143,25 +116,25 @@ pub turn-spec : {M : Type 1} → statement M
 turn-spec =
     tie.close
     (tie.spec
-    enum-told
-    enum-known-step
+    (λ c. search needs)
+    (λ c. search needs)
     mark-requires
-    enum-known-step-2
+    (λ c. search needs)
     add-clear
     clear-requires
-    enum-known-step-3
+    (λ c. search needs)
     add-program
     add-program-2
     sub-program
     program-requires
-    enum-known-step-4
+    (λ c. search needs)
     header-requires
     returns
-    same-length
+    (λ c. search needs)
     returns-2
-    same-length-2
+    (λ c. search needs)
     returns-3
-    same-length-3
+    (λ c. search needs)
     returns-4
-    same-length-4
+    (λ c. search needs)
     returns-5)

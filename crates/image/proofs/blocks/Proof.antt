@@ -15,12 +15,6 @@ returns c = (sym (blocks-wrong (now (c .before .args .image)) (λ b l h n. omega
 returns-2 : tie.Need-returns-2
 returns-2 c = (sym (blocks-wrong (now (c .before .before .args .image)) (λ b l h n. omega (arith, c .if2 .taken))), omega arith)
 
-mul-if3 : tie.Need-mul-if3
-mul-if3 c = search needs
-
-add-if3 : tie.Need-add-if3
-add-if3 c = search needs
-
 returns-3 : tie.Need-returns-3
 returns-3 c =
     let img = now (c .before .before .before .args .image) in
@@ -31,4 +25,4 @@ returns-4 c =
     (sym (blocks-wrong (now (c .before .before .before .args .image)) (λ b l h n. c .if3 .left (omega arith))), omega arith)
 
 pub blocks-spec : {M : Type 1} → statement M
-blocks-spec = tie.close (tie.spec returns returns-2 mul-if3 add-if3 returns-3 returns-4)
+blocks-spec = tie.close (tie.spec returns returns-2 (λ c. search needs) (λ c. search needs) returns-3 returns-4)

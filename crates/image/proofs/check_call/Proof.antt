@@ -7,16 +7,10 @@ use Rattle.image.specs.Check.{callIn}
 use Rattle.image.proofs.check_call.Statement.{statement}
 use Rattle.image.proofs.check_call.Tie as tie
 
-authenticated-requires : tie.Need-authenticated-requires
-authenticated-requires c κs = search needs
-
-check-in-requires : tie.Need-check-in-requires
-check-in-requires c κs = search needs
-
 returns : tie.Need-returns
 returns c =
     let a = c .before .before .before .args in
     c .check-in .ensures ∙ ap (λ (y : Layout). callIn y (now (a .image))) (c .before .authenticated .ensures)
 
 pub check-call-spec : {M : Type 1} → statement M
-check-call-spec = tie.close (tie.spec authenticated-requires check-in-requires returns)
+check-call-spec = tie.close (tie.spec (λ c κs. search needs) (λ c κs. search needs) returns)

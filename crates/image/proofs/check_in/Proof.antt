@@ -9,41 +9,11 @@ use borrow.Author.Needs.{needs}
 use Rattle.image.proofs.check_in.Statement.{statement}
 use Rattle.image.proofs.check_in.Tie as tie
 
-blocks-requires : tie.Need-blocks-requires
-blocks-requires c κs = search needs
-
 returns : tie.Need-returns
 returns c =
     let a = c .before .before .before .args in
     let img = now (a .image) in
     sym (none-refused (a .y) img (sym (c .before .blocks2 .ensures .0) ∙ c .if1 .taken) .0)
-
-mul-size : tie.Need-mul-size
-mul-size c = search needs
-
-cut-requires : tie.Need-cut-requires
-cut-requires c κs = search needs
-
-look-at-requires : tie.Need-look-at-requires
-look-at-requires c κs = search needs
-
-is-idle-requires : tie.Need-is-idle-requires
-is-idle-requires c κs = search needs
-
-add-cut : tie.Need-add-cut
-add-cut c = search needs
-
-cut-requires-2 : tie.Need-cut-requires-2
-cut-requires-2 c κs = search needs
-
-is-blank-requires : tie.Need-is-blank-requires
-is-blank-requires c κs = search needs
-
-cut-requires-3 : tie.Need-cut-requires-3
-cut-requires-3 c κs = search needs
-
-judge-in-requires : tie.Need-judge-in-requires
-judge-in-requires c κs = search needs
 
 returns-2 : tie.Need-returns-2
 returns-2 c =
@@ -98,17 +68,17 @@ pub check-in-spec : {M : Type 1} → statement M
 check-in-spec =
     tie.close
     (tie.spec
-    blocks-requires
+    (λ c κs. search needs)
     returns
-    mul-size
-    cut-requires
-    look-at-requires
-    is-idle-requires
-    add-cut
-    cut-requires-2
-    is-blank-requires
-    cut-requires-3
-    judge-in-requires
+    (λ c. search needs)
+    (λ c κs. search needs)
+    (λ c κs. search needs)
+    (λ c κs. search needs)
+    (λ c. search needs)
+    (λ c κs. search needs)
+    (λ c κs. search needs)
+    (λ c κs. search needs)
+    (λ c κs. search needs)
     returns-2
     returns-3
     returns-4

@@ -12,22 +12,10 @@ use borrow.Author.Needs.{needs}
 use Rattle.image.proofs.check_start.Statement.{statement}
 use Rattle.image.proofs.check_start.Tie as tie
 
-blocks-requires : tie.Need-blocks-requires
-blocks-requires c κs = search needs
-
 returns : tie.Need-returns
 returns c =
     let img = now (c .before .before .before .args .image) in
     sym (none-refused authenticated img (sym (c .before .blocks2 .ensures .0) ∙ c .if1 .taken) .1)
-
-mul-size : tie.Need-mul-size
-mul-size c = search needs
-
-cut-requires : tie.Need-cut-requires
-cut-requires c κs = search needs
-
-look-at-requires : tie.Need-look-at-requires
-look-at-requires c κs = search needs
 
 is-pending-requires : tie.Need-is-pending-requires
 is-pending-requires c κs =
@@ -45,12 +33,6 @@ returns-2 c =
     let p = parted img n (c .before .before .before .before .before .blocks2 .ensures .0) (c .before .before .before .before .if1 .left) in
     let l = c .before .before .look-at .ensures ∙ ap lookAt (c .before .before .before .cut .ensures ∙ p .its-work) in
     ap (Pending n) l ∙ sym (start-pending img n p (sym (c .before .is-pending .ensures) ∙ c .if2 .taken))
-
-cut-requires-2 : tie.Need-cut-requires-2
-cut-requires-2 c κs = search needs
-
-judge-requires : tie.Need-judge-requires
-judge-requires c κs = search needs
 
 returns-3 : tie.Need-returns-3
 returns-3 c =
@@ -74,14 +56,14 @@ pub check-start-spec : {M : Type 1} → statement M
 check-start-spec =
     tie.close
     (tie.spec
-    blocks-requires
+    (λ c κs. search needs)
     returns
-    mul-size
-    cut-requires
-    look-at-requires
+    (λ c. search needs)
+    (λ c κs. search needs)
+    (λ c κs. search needs)
     is-pending-requires
     returns-2
-    cut-requires-2
-    judge-requires
+    (λ c κs. search needs)
+    (λ c κs. search needs)
     returns-3
     returns-4)

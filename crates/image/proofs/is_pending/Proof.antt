@@ -9,21 +9,6 @@ use borrow.Author.Needs.{needs}
 use Rattle.image.proofs.is_pending.Statement.{statement}
 use Rattle.image.proofs.is_pending.Tie as tie
 
-ends-in-fc-requires : tie.Need-ends-in-fc-requires
-ends-in-fc-requires c κs = search needs
-
-mul-size : tie.Need-mul-size
-mul-size c = search needs
-
-add-cut : tie.Need-add-cut
-add-cut c = search needs
-
-cut-requires : tie.Need-cut-requires
-cut-requires c κs = search needs
-
-judge-requires : tie.Need-judge-requires
-judge-requires c κs = search needs
-
 returns : tie.Need-returns
 returns c =
     let s = c .before .before .before .before .before in
@@ -38,4 +23,4 @@ returns-2 c =
     sym (not-pending (now (s .args .image)) (s .args .b) p (told-closed refl (s .pre .3) (c .before .ends-in-fc .ensures) ∙ c .if1 .left))
 
 pub is-pending-spec : {M : Type 1} → statement M
-is-pending-spec = tie.close (tie.spec ends-in-fc-requires mul-size add-cut cut-requires judge-requires returns returns-2)
+is-pending-spec = tie.close (tie.spec (λ c κs. search needs) (λ c. search needs) (λ c. search needs) (λ c κs. search needs) (λ c κs. search needs) returns returns-2)

@@ -11,28 +11,10 @@ use borrow.Author.Needs.{needs}
 use Rattle.layout.proofs.data_of.Statement.{statement}
 use Rattle.layout.proofs.data_of.Tie as tie
 
-slice-aggregate-result : tie.Need-slice-aggregate-result
-slice-aggregate-result c = search needs
-
 returns : tie.Need-returns
 unfolding dataIn placed
 returns c = let a = c .before .before .before .before .args in
     rw (eq-eqb (a .e .state) 0xFF (c .before .if1 .taken))
-
-header-requires : tie.Need-header-requires
-header-requires c κs = search needs
-
-cast-cut : tie.Need-cast-cut
-cast-cut c = search needs
-
-add-cut : tie.Need-add-cut
-add-cut c = search needs
-
-cast-cut-2 : tie.Need-cast-cut-2
-cast-cut-2 c = search needs
-
-cut-requires : tie.Need-cut-requires
-cut-requires c κs = search needs
 
 returns-2 : tie.Need-returns-2
 unfolding dataIn placed
@@ -45,11 +27,11 @@ pub data-of-spec : {M : Type 1} → statement M
 data-of-spec =
     tie.close
     (tie.spec
-    slice-aggregate-result
+    (λ c. search needs)
     returns
-    header-requires
-    cast-cut
-    add-cut
-    cast-cut-2
-    cut-requires
+    (λ c κs. search needs)
+    (λ c. search needs)
+    (λ c. search needs)
+    (λ c. search needs)
+    (λ c κs. search needs)
     returns-2)

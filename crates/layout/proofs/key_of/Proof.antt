@@ -8,27 +8,12 @@ use Rattle.layout.proofs.Named.{unnamed-key, named-key}
 use Rattle.layout.proofs.key_of.Statement.{statement}
 use Rattle.layout.proofs.key_of.Tie as tie
 
-vendor-requires : tie.Need-vendor-requires
-vendor-requires c κs = search needs
-
-cut-requires : tie.Need-cut-requires
-cut-requires c κs = search needs
-
 returns : tie.Need-returns
 returns c =
     let a = c .before .before .before .before .before .args in
     c .cut .ensures
     ∙ ap (λ (i : ℕ). part i 16 (now (a .s))) (c .before .before .before .vendor .ensures .0)
     ∙ unnamed-key (a .y) (now (a .s)) (a .e) (c .before .if1 .taken)
-
-cast-cut : tie.Need-cast-cut
-cast-cut c = search needs
-
-add-cut : tie.Need-add-cut
-add-cut c = search needs
-
-cut-requires-2 : tie.Need-cut-requires-2
-cut-requires-2 c κs = search needs
 
 returns-2 : tie.Need-returns-2
 returns-2 c =
@@ -38,4 +23,4 @@ returns-2 c =
     ∙ named-key (a .y) (now (a .s)) (a .e) (c .before .before .if1 .left)
 
 pub key-of-spec : {M : Type 1} → statement M
-key-of-spec = tie.close (tie.spec vendor-requires cut-requires returns cast-cut add-cut cut-requires-2 returns-2)
+key-of-spec = tie.close (tie.spec (λ c κs. search needs) (λ c κs. search needs) returns (λ c. search needs) (λ c. search needs) (λ c κs. search needs) returns-2)

@@ -19,21 +19,6 @@ returns c =
     let a = c .before .before .before .args in
     (may-short (now (a .s)) (now (a .name)) (omega arith), λ h. absurd (true≢false h))
 
-add-four : tie.Need-add-four
-add-four c = search needs
-
-four-requires : tie.Need-four-requires
-four-requires c κs = search needs
-
-four-requires-2 : tie.Need-four-requires-2
-four-requires-2 c κs = search needs
-
-four-requires-3 : tie.Need-four-requires-3
-four-requires-3 c κs = search needs
-
-four-requires-4 : tie.Need-four-requires-4
-four-requires-4 c κs = search needs
-
 returns-2 : tie.Need-returns-2
 returns-2 c =
     let a = c .before .before .before .before .before .before .before .before .args in
@@ -58,10 +43,10 @@ may-be-spec =
     tie.close
     (tie.spec
     returns
-    add-four
-    four-requires
-    four-requires-2
-    four-requires-3
-    four-requires-4
+    (λ c. search needs)
+    (λ c κs. search needs)
+    (λ c κs. search needs)
+    (λ c κs. search needs)
+    (λ c κs. search needs)
     returns-2
     returns-3)

@@ -11,22 +11,10 @@ use borrow.Author.Needs.{needs}
 use Rattle.layout.proofs.name_of.Statement.{statement}
 use Rattle.layout.proofs.name_of.Tie as tie
 
-slice-aggregate-result : tie.Need-slice-aggregate-result
-slice-aggregate-result c = search needs
-
 returns : tie.Need-returns
 unfolding nameIn placed
 returns c = let a = c .before .before .before .before .args in
     rw (eq-eqb (a .e .state) 0xFF (c .before .if1 .taken))
-
-header-requires : tie.Need-header-requires
-header-requires c κs = search needs
-
-cast-cut : tie.Need-cast-cut
-cast-cut c = search needs
-
-cut-requires : tie.Need-cut-requires
-cut-requires c κs = search needs
 
 returns-2 : tie.Need-returns-2
 unfolding nameIn placed
@@ -38,4 +26,4 @@ returns-2 c = let b = c .before .before .before in
 pub name-of-spec : {M : Type 1} → statement M
 name-of-spec =
     tie.close
-    (tie.spec slice-aggregate-result returns header-requires cast-cut cut-requires returns-2)
+    (tie.spec (λ c. search needs) returns (λ c κs. search needs) (λ c. search needs) (λ c κs. search needs) returns-2)

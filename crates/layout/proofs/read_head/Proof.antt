@@ -12,35 +12,11 @@ use borrow.Author.Needs.{needs}
 use Rattle.layout.proofs.read_head.Statement.{statement}
 use Rattle.layout.proofs.read_head.Tie as tie
 
-header-requires : tie.Need-header-requires
-header-requires c κs = search needs
-
 returns : tie.Need-returns
 unfolding headIn readHeaderIn
 returns c =
     let a = c .before .before .before .args in
     simp (lt-leb (headerLength (a .y)) (length (now (a .s))) (omega (arith, c .before .header .ensures .0, c .if1 .taken)))
-
-u16-at-requires : tie.Need-u16-at-requires
-u16-at-requires c κs = search needs
-
-shared-slice-read-t9 : tie.Need-shared-slice-read-t9
-shared-slice-read-t9 c = search needs
-
-u32-at-requires : tie.Need-u32-at-requires
-u32-at-requires c κs = search needs
-
-name-size-requires : tie.Need-name-size-requires
-name-size-requires c κs = search needs
-
-u32-at-requires-2 : tie.Need-u32-at-requires-2
-u32-at-requires-2 c κs = search needs
-
-data-size-requires : tie.Need-data-size-requires
-data-size-requires c κs = search needs
-
-u32-at-requires-3 : tie.Need-u32-at-requires-3
-u32-at-requires-3 c κs = search needs
 
 returns-2 : tie.Need-returns-2
 unfolding headIn readHeaderIn headerFieldsIn
@@ -72,14 +48,14 @@ pub read-head-spec : {M : Type 1} → statement M
 read-head-spec =
     tie.close
     (tie.spec
-    header-requires
+    (λ c κs. search needs)
     returns
-    u16-at-requires
-    shared-slice-read-t9
-    u32-at-requires
-    name-size-requires
-    u32-at-requires-2
-    data-size-requires
-    u32-at-requires-3
+    (λ c κs. search needs)
+    (λ c. search needs)
+    (λ c κs. search needs)
+    (λ c κs. search needs)
+    (λ c κs. search needs)
+    (λ c κs. search needs)
+    (λ c κs. search needs)
     returns-2
     returns-3)

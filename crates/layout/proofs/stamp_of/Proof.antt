@@ -4,12 +4,9 @@ use Rattle.model.specs.Entry.{headerFieldsIn}
 use Rattle.layout.proofs.stamp_of.Statement.{statement}
 use Rattle.layout.proofs.stamp_of.Tie as tie
 
-cut-requires : tie.Need-cut-requires
-cut-requires c κs = search needs
-
 returns : tie.Need-returns
 unfolding headerFieldsIn
 returns c = c .cut .ensures
 
 pub stamp-of-spec : {M : Type 1} → statement M
-stamp-of-spec = tie.close (tie.spec cut-requires returns)
+stamp-of-spec = tie.close (tie.spec (λ c κs. search needs) returns)

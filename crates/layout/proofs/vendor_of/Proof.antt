@@ -9,16 +9,10 @@ use borrow.Author.Needs.{needs}
 use Rattle.layout.proofs.vendor_of.Statement.{statement}
 use Rattle.layout.proofs.vendor_of.Tie as tie
 
-vendor-requires : tie.Need-vendor-requires
-vendor-requires c κs = search needs
-
-cut-requires : tie.Need-cut-requires
-cut-requires c κs = search needs
-
 returns : tie.Need-returns
 unfolding headerFieldsIn
 returns c = let a = c .before .before .before .args in
     c .cut .ensures ∙ ap (λ (i : ℕ). part i 16 (now (a .s))) (c .before .vendor .ensures .0)
 
 pub vendor-of-spec : {M : Type 1} → statement M
-vendor-of-spec = tie.close (tie.spec vendor-requires cut-requires returns)
+vendor-of-spec = tie.close (tie.spec (λ c κs. search needs) (λ c κs. search needs) returns)

@@ -8,9 +8,6 @@ use borrow.Author.Needs.{needs}
 use Rattle.limits.proofs.breaks.Statement.{statement}
 use Rattle.limits.proofs.breaks.Tie as tie
 
-breaks-any-requires : tie.Need-breaks-any-requires
-breaks-any-requires c κs = search needs
-
 returns : tie.Need-returns
 returns c =
     let a = c .before .before .before .before .before .args in
@@ -18,4 +15,4 @@ returns c =
     c .breaks-any .ensures ∙ sym (by-name (a .u) k (a .stands) (now (a .old) ++ now (a .own)))
 
 pub breaks-spec : {M : Type 1} → statement M
-breaks-spec = tie.close (tie.spec breaks-any-requires returns)
+breaks-spec = tie.close (tie.spec (λ c κs. search needs) returns)

@@ -35,15 +35,6 @@ returns c =
     let f : Limit → Bool = breaksFor k (a .stands) (now (a .old) ++ now (a .own)) in
     sym (by-table (a .t1) (a .count) k (a .stands) (now (a .old) ++ now (a .own)) ∙ l .loop .inv .1 ∙ from-end f (a .t1) (min (a .count) 32) (l .loop .i) (omega arith))
 
-mul-breaks-one : tie.Need-mul-breaks-one Inv-loop μ-loop
-mul-breaks-one c = search needs
-
-array-copy-out-breaks-one : tie.Need-array-copy-out-breaks-one Inv-loop μ-loop
-array-copy-out-breaks-one c = search needs
-
-breaks-one-requires : tie.Need-breaks-one-requires Inv-loop μ-loop
-breaks-one-requires c κs = search needs
-
 returns-2 : tie.Need-returns-2 Inv-loop μ-loop
 returns-2 c =
     let l = c .before .before .before .before .before in
@@ -53,12 +44,6 @@ returns-2 c =
     let n : length (a .t1) ≡ 32 = c .before .before .before .before .before .before .before .before .before .good .0 .1 .0 .1 in
     sym (by-table (a .t1) (a .count) k (a .stands) (now (a .old) ++ now (a .own)) ∙ l .loop .inv .1
     ∙ from-here f (a .t1) (min (a .count) 32) noLimit (l .loop .i) (omega arith) (omega arith) (sym (c .before .breaks-one .ensures) ∙ c .if2 .taken))
-
-add-i : tie.Need-add-i Inv-loop μ-loop
-add-i c = search needs
-
-loop-less : tie.Need-loop-less Inv-loop μ-loop
-loop-less c = search needs
 
 loop-again : tie.Need-loop-again Inv-loop μ-loop
 loop-again c =
@@ -85,11 +70,11 @@ breaks-any-spec =
     μ-loop
     loop-holds
     returns
-    mul-breaks-one
-    array-copy-out-breaks-one
-    breaks-one-requires
+    (λ c. search needs)
+    (λ c. search needs)
+    (λ c κs. search needs)
     returns-2
-    add-i
-    loop-less
+    (λ c. search needs)
+    (λ c. search needs)
     loop-again
     returns-3)

@@ -7,9 +7,6 @@ use borrow.Author.Needs.{needs}
 use Rattle.limits.proofs.breaks_one.Statement.{statement}
 use Rattle.limits.proofs.breaks_one.Tie as tie
 
-is-for-requires : tie.Need-is-for-requires
-is-for-requires c κs = search needs
-
 returns : tie.Need-returns
 unfolding breaksFor
 returns c = rw (sym (c .before .is-for .ensures) ∙ not-true (c .before .is-for .result) (c .if1 .taken))
@@ -26,9 +23,6 @@ returns-3 c =
     let i = c .before .before .before .before .is-for in
     rw (sym (i .ensures) ∙ not-false (i .result) (c .before .before .before .if1 .left), eq-eqb _ _ (c .before .if2 .left), not-true (c .before .before .before .before .before .before .before .before .args .stands) (c .if3 .taken))
 
-meets-requires : tie.Need-meets-requires
-meets-requires c κs = search needs
-
 returns-4 : tie.Need-returns-4
 unfolding breaksFor
 returns-4 c =
@@ -37,4 +31,4 @@ returns-4 c =
 
 pub breaks-one-spec : {M : Type 1} → statement M
 breaks-one-spec =
-    tie.close (tie.spec is-for-requires returns returns-2 returns-3 meets-requires returns-4)
+    tie.close (tie.spec (λ c κs. search needs) returns returns-2 returns-3 (λ c κs. search needs) returns-4)

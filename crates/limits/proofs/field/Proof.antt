@@ -10,26 +10,11 @@ use borrow.Author.Needs.{needs}
 use Rattle.limits.proofs.field.Statement.{statement}
 use Rattle.limits.proofs.field.Tie as tie
 
-byte-of-requires : tie.Need-byte-of-requires
-byte-of-requires c κs = search needs
-
 returns : tie.Need-returns
 returns c =
     let a = c .before .before .before .before .args in
     let s : List ℕ = now (a .old) ++ now (a .own) in
     c .before .byte-of .ensures .0 ∙ sym (one-byte s (a .at)) ∙ ap (λ (w : ℕ). little (part (a .at) w s)) (sym (c .if1 .taken))
-
-add-byte-of : tie.Need-add-byte-of
-add-byte-of c = search needs
-
-byte-of-requires-2 : tie.Need-byte-of-requires-2
-byte-of-requires-2 c κs = search needs
-
-mul-result : tie.Need-mul-result
-mul-result c = search needs
-
-add-result : tie.Need-add-result
-add-result c = search needs
 
 returns-2 : tie.Need-returns-2
 returns-2 c =
@@ -37,36 +22,6 @@ returns-2 c =
     let s : List ℕ = now (a .old) ++ now (a .own) in
     rw (c .before .before .before .byte-of .ensures .0, c .before .byte-of2 .ensures .0)
     (sym (two-bytes s (a .at)) ∙ ap (λ (w : ℕ). little (part (a .at) w s)) (sym (c .if2 .taken)))
-
-add-byte-of-2 : tie.Need-add-byte-of-2
-add-byte-of-2 c = search needs
-
-byte-of-requires-3 : tie.Need-byte-of-requires-3
-byte-of-requires-3 c κs = search needs
-
-add-byte-of-3 : tie.Need-add-byte-of-3
-add-byte-of-3 c = search needs
-
-byte-of-requires-4 : tie.Need-byte-of-requires-4
-byte-of-requires-4 c κs = search needs
-
-mul-result-2 : tie.Need-mul-result-2
-mul-result-2 c = search needs
-
-add-result-2 : tie.Need-add-result-2
-add-result-2 c = search needs
-
-mul-result-3 : tie.Need-mul-result-3
-mul-result-3 c = search needs
-
-add-result-3 : tie.Need-add-result-3
-add-result-3 c = search needs
-
-mul-result-4 : tie.Need-mul-result-4
-mul-result-4 c = search needs
-
-add-result-4 : tie.Need-add-result-4
-add-result-4 c = search needs
 
 returns-3 : tie.Need-returns-3
 returns-3 c =
@@ -80,21 +35,21 @@ pub field-spec : {M : Type 1} → statement M
 field-spec =
     tie.close
     (tie.spec
-    byte-of-requires
+    (λ c κs. search needs)
     returns
-    add-byte-of
-    byte-of-requires-2
-    mul-result
-    add-result
+    (λ c. search needs)
+    (λ c κs. search needs)
+    (λ c. search needs)
+    (λ c. search needs)
     returns-2
-    add-byte-of-2
-    byte-of-requires-3
-    add-byte-of-3
-    byte-of-requires-4
-    mul-result-2
-    add-result-2
-    mul-result-3
-    add-result-3
-    mul-result-4
-    add-result-4
+    (λ c. search needs)
+    (λ c κs. search needs)
+    (λ c. search needs)
+    (λ c κs. search needs)
+    (λ c. search needs)
+    (λ c. search needs)
+    (λ c. search needs)
+    (λ c. search needs)
+    (λ c. search needs)
+    (λ c. search needs)
     returns-3)

@@ -5,9 +5,6 @@ use borrow.Author.Needs.{needs}
 use Rattle.limits.proofs.is_allowed.Statement.{statement}
 use Rattle.limits.proofs.is_allowed.Tie as tie
 
-is-listed-requires : tie.Need-is-listed-requires
-is-listed-requires c κs = search needs
-
 returns : tie.Need-returns
 unfolding allowed
 returns c = rw (eq-eqb _ _ (c .before .before .if1 .taken)) (c .is-listed .ensures)
@@ -21,4 +18,4 @@ unfolding allowed
 returns-3 c = rw (ne-eqb _ _ (c .before .before .before .if1 .left), le-leb _ _ (c .before .if2 .left))
 
 pub is-allowed-spec : {M : Type 1} → statement M
-is-allowed-spec = tie.close (tie.spec is-listed-requires returns returns-2 returns-3)
+is-allowed-spec = tie.close (tie.spec (λ c κs. search needs) returns returns-2 returns-3)

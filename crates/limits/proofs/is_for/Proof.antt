@@ -9,9 +9,6 @@ use borrow.Author.Needs.{needs}
 use Rattle.limits.proofs.is_for.Statement.{statement}
 use Rattle.limits.proofs.is_for.Tie as tie
 
-cast-size : tie.Need-cast-size
-cast-size c = search needs
-
 returns : tie.Need-returns
 returns c =
     let a = c .before .before .before .args in
@@ -19,26 +16,11 @@ returns c =
     let room : length (a .t .name) ≡ 128 = sym (length-map (a .t .name) (λ v. v)) ∙ c .before .before .before .good .0 .1 .1 .1 .1 .1 .1 .1 .1 .1 .1 .1 .1 .1 .0 .1 .0 .1 in
     sym (other-length (a .t) k room (c .if1 .taken))
 
-slice-aggregate-cut : tie.Need-slice-aggregate-cut
-slice-aggregate-cut c = search needs
-
-cut-requires : tie.Need-cut-requires
-cut-requires c κs = search needs
-
-equal-requires : tie.Need-equal-requires
-equal-requires c κs = search needs
-
 returns-2 : tie.Need-returns-2
 returns-2 c =
     let a = c .before .before .before .before .before .before .before .before .args in
     let k : Key = record { name = now (a .name); vendor = now (a .vendor) } in
     sym (other-name (a .t) k (now (c .before .before .cut .result)) (c .before .before .cut .ensures) (sym (c .before .equal .ensures) ∙ not-true (c .before .equal .result) (c .if2 .taken)))
-
-slice-aggregate-equal : tie.Need-slice-aggregate-equal
-slice-aggregate-equal c = search needs
-
-equal-requires-2 : tie.Need-equal-requires-2
-equal-requires-2 c κs = search needs
 
 returns-3 : tie.Need-returns-3
 returns-3 c =
@@ -51,12 +33,12 @@ pub is-for-spec : {M : Type 1} → statement M
 is-for-spec =
     tie.close
     (tie.spec
-    cast-size
+    (λ c. search needs)
     returns
-    slice-aggregate-cut
-    cut-requires
-    equal-requires
+    (λ c. search needs)
+    (λ c κs. search needs)
+    (λ c κs. search needs)
     returns-2
-    slice-aggregate-equal
-    equal-requires-2
+    (λ c. search needs)
+    (λ c κs. search needs)
     returns-3)

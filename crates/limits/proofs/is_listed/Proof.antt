@@ -27,24 +27,12 @@ returns c =
     let a = l .before .args in
     sym (by-list (a .t1) (a .count) (a .n) ∙ l .loop .inv .1 ∙ from-end (eqb (a .n)) (a .t1) (min (a .count) 8) (l .loop .i) (omega arith))
 
-mul-if2 : tie.Need-mul-if2 Inv-loop μ-loop
-mul-if2 c = search needs
-
-array-read-if2 : tie.Need-array-read-if2 Inv-loop μ-loop
-array-read-if2 c = search needs
-
 returns-2 : tie.Need-returns-2 Inv-loop μ-loop
 returns-2 c =
     let l = c .before .before .before in
     let a = l .before .args in
     let n : length (a .t1) ≡ 8 = l .before .good .0 .1 .0 .1 in
     sym (by-list (a .t1) (a .count) (a .n) ∙ l .loop .inv .1 ∙ from-here (eqb (a .n)) (a .t1) (min (a .count) 8) 0 (l .loop .i) (omega arith) (omega arith) (eq-eqb _ _ (sym (c .if2 .taken))))
-
-add-i : tie.Need-add-i Inv-loop μ-loop
-add-i c = search needs
-
-loop-less : tie.Need-loop-less Inv-loop μ-loop
-loop-less c = search needs
 
 loop-again : tie.Need-loop-again Inv-loop μ-loop
 loop-again c =
@@ -67,10 +55,10 @@ is-listed-spec =
     μ-loop
     loop-holds
     returns
-    mul-if2
-    array-read-if2
+    (λ c. search needs)
+    (λ c. search needs)
     returns-2
-    add-i
-    loop-less
+    (λ c. search needs)
+    (λ c. search needs)
     loop-again
     returns-3)

@@ -7,41 +7,20 @@ use borrow.Author.Needs.{needs}
 use Rattle.limits.proofs.meets.Statement.{statement}
 use Rattle.limits.proofs.meets.Tie as tie
 
-add-n : tie.Need-add-n
-add-n c = search needs
-
-cast-if1 : tie.Need-cast-if1
-cast-if1 c = search needs
-
 returns : tie.Need-returns
 returns c =
     let a = c .before .before .before .before .args in
     sym (too-short (a .t) (now (a .old)) (now (a .own)) (c .if1 .taken))
-
-cast-if2 : tie.Need-cast-if2
-cast-if2 c = search needs
 
 returns-2 : tie.Need-returns-2
 returns-2 c =
     let a = c .before .before .before .before .before .before .args in
     sym (too-long (a .t) (now (a .old)) (now (a .own)) (c .if2 .taken))
 
-is-width-requires : tie.Need-is-width-requires
-is-width-requires c κs = search needs
-
 returns-3 : tie.Need-returns-3
 returns-3 c =
     let a = c .before .before .before .before .before .before .before .before .args in
     sym (other-width (a .t) (now (a .old)) (now (a .own)) (sym (c .before .is-width .ensures) ∙ not-true (c .before .is-width .result) (c .if3 .taken)))
-
-cast-if4 : tie.Need-cast-if4
-cast-if4 c = search needs
-
-cast-if4-2 : tie.Need-cast-if4-2
-cast-if4-2 c = search needs
-
-add-if4 : tie.Need-add-if4
-add-if4 c = search needs
 
 returns-4 : tie.Need-returns-4
 returns-4 c =
@@ -50,9 +29,6 @@ returns-4 c =
 
 field-requires : tie.Need-field-requires
 field-requires c κs = sym (c .before .before .before .before .is-width .ensures) ∙ not-false (c .before .before .before .before .is-width .result) (c .before .before .before .if3 .left)
-
-is-allowed-requires : tie.Need-is-allowed-requires
-is-allowed-requires c κs = search needs
 
 returns-5 : tie.Need-returns-5
 returns-5 c =
@@ -65,17 +41,17 @@ pub meets-spec : {M : Type 1} → statement M
 meets-spec =
     tie.close
     (tie.spec
-    add-n
-    cast-if1
+    (λ c. search needs)
+    (λ c. search needs)
     returns
-    cast-if2
+    (λ c. search needs)
     returns-2
-    is-width-requires
+    (λ c κs. search needs)
     returns-3
-    cast-if4
-    cast-if4-2
-    add-if4
+    (λ c. search needs)
+    (λ c. search needs)
+    (λ c. search needs)
     returns-4
     field-requires
-    is-allowed-requires
+    (λ c κs. search needs)
     returns-5)

@@ -22,18 +22,6 @@ loop-holds : tie.Need-loop-holds Inv-loop μ-loop
 unfolding hexOf
 loop-holds c = (search needs, omega arith, refl, wrote-none _ _)
 
-shared-slice-read-put-hex-byte : tie.Need-shared-slice-read-put-hex-byte Inv-loop μ-loop
-shared-slice-read-put-hex-byte c = search needs
-
-put-hex-byte-requires : tie.Need-put-hex-byte-requires Inv-loop μ-loop
-put-hex-byte-requires c κs = search needs
-
-add-i : tie.Need-add-i Inv-loop μ-loop
-add-i c = search needs
-
-loop-less : tie.Need-loop-less Inv-loop μ-loop
-loop-less c = search needs
-
 loop-again : tie.Need-loop-again Inv-loop μ-loop
 unfolding hexOf
 loop-again c =
@@ -46,9 +34,6 @@ loop-again c =
       wrote-hex s (l .loop .i) (search needs) (l .loop .inv .3) (f .ensures .0),
     )
 
-same-length : tie.Need-same-length Inv-loop μ-loop
-same-length c = search needs
-
 returns : tie.Need-returns Inv-loop μ-loop
 returns c = (wrote-as (ap hexOf (take-all _ _ (c .loop-test .left))) (c .before .loop .inv .3), omega arith)
 
@@ -59,10 +44,10 @@ put-hex-spec =
     Inv-loop
     μ-loop
     loop-holds
-    shared-slice-read-put-hex-byte
-    put-hex-byte-requires
-    add-i
-    loop-less
+    (λ c. search needs)
+    (λ c κs. search needs)
+    (λ c. search needs)
+    (λ c. search needs)
     loop-again
-    same-length
+    (λ c. search needs)
     returns)

@@ -4,21 +4,6 @@ use borrow.Author.Needs.{needs}
 use Rattle.plan.proofs.in_numbers.Statement.{statement}
 use Rattle.plan.proofs.in_numbers.Tie as tie
 
-enum-told : tie.Need-enum-told
-enum-told c = search needs
-
-operations-requires : tie.Need-operations-requires
-operations-requires c κs = search needs
-
-enum-known-judged : tie.Need-enum-known-judged
-enum-known-judged c = search needs
-
-number-requires : tie.Need-number-requires
-number-requires c κs = search needs
-
-no-operations-requires : tie.Need-no-operations-requires
-no-operations-requires c κs = search needs
-
 returns : tie.Need-returns
 returns c =
     let s = c .before .before .before .before in
@@ -31,4 +16,4 @@ returns-2 c =
 
 pub in-numbers-spec : {M : Type 1} → statement M
 in-numbers-spec =
-    tie.close (tie.spec enum-told operations-requires enum-known-judged number-requires no-operations-requires returns returns-2)
+    tie.close (tie.spec (λ c. search needs) (λ c κs. search needs) (λ c. search needs) (λ c κs. search needs) (λ c κs. search needs) returns returns-2)

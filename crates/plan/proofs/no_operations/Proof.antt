@@ -6,14 +6,8 @@ use borrow.Author.Needs.{needs}
 use Rattle.plan.proofs.no_operations.Statement.{statement}
 use Rattle.plan.proofs.no_operations.Tie as tie
 
-nothing-requires : tie.Need-nothing-requires
-nothing-requires c κs = search needs
-
-operations-requires : tie.Need-operations-requires
-operations-requires c κs = search needs
-
 returns : tie.Need-returns
 returns c = c .operations .ensures ∙ ap operationsOf (c .before .nothing .ensures) ∙ none-at-all
 
 pub no-operations-spec : {M : Type 1} → statement M
-no-operations-spec = tie.close (tie.spec nothing-requires operations-requires returns)
+no-operations-spec = tie.close (tie.spec (λ c κs. search needs) (λ c κs. search needs) returns)

@@ -3,24 +3,6 @@ use borrow.Author.Needs.{needs}
 use Rattle.plan.proofs.operation.Statement.{statement}
 use Rattle.plan.proofs.operation.Tie as tie
 
-enum-told : tie.Need-enum-told
-enum-told c = search needs
-
-enum-known-step : tie.Need-enum-known-step
-enum-known-step c = search needs
-
-cast-t13 : tie.Need-cast-t13
-cast-t13 c = search needs
-
-enum-known-step-2 : tie.Need-enum-known-step-2
-enum-known-step-2 c = search needs
-
-enum-known-step-3 : tie.Need-enum-known-step-3
-enum-known-step-3 c = search needs
-
-enum-known-step-4 : tie.Need-enum-known-step-4
-enum-known-step-4 c = search needs
-
 returns : tie.Need-returns
 returns c = rw (c .enum-told .given .1)
 
@@ -40,12 +22,12 @@ pub operation-spec : {M : Type 1} → statement M
 operation-spec =
     tie.close
     (tie.spec
-    enum-told
-    enum-known-step
-    cast-t13
-    enum-known-step-2
-    enum-known-step-3
-    enum-known-step-4
+    (λ c. search needs)
+    (λ c. search needs)
+    (λ c. search needs)
+    (λ c. search needs)
+    (λ c. search needs)
+    (λ c. search needs)
     returns
     returns-2
     returns-3

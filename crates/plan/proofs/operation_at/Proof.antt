@@ -10,18 +10,6 @@ use borrow.Author.Needs.{needs}
 use Rattle.plan.proofs.operation_at.Statement.{statement}
 use Rattle.plan.proofs.operation_at.Tie as tie
 
-mul-o : tie.Need-mul-o
-mul-o c = search needs
-
-array-copy-out-o : tie.Need-array-copy-out-o
-array-copy-out-o c = search needs
-
-operation-requires : tie.Need-operation-requires
-operation-requires c κs = search needs
-
-returns : tie.Need-returns
-returns c = search needs
-
 returns-2 : tie.Need-returns-2
 returns-2 c =
     let a = c .before .args in
@@ -29,4 +17,4 @@ returns-2 c =
     sym (ap (λ (o : Op). operationOf (o .step)) (List·getD-eq-default (a .t1) (op Nothing) (omega (arith, c .if1 .left))))
 
 pub operation-at-spec : {M : Type 1} → statement M
-operation-at-spec = tie.close (tie.spec mul-o array-copy-out-o operation-requires returns returns-2)
+operation-at-spec = tie.close (tie.spec (λ c. search needs) (λ c. search needs) (λ c κs. search needs) (λ c. search needs) returns-2)

@@ -6,42 +6,6 @@ use borrow.Author.Needs.{needs}
 use Rattle.plan.proofs.operations.Statement.{statement}
 use Rattle.plan.proofs.operations.Tie as tie
 
-operation-at-requires : tie.Need-operation-at-requires
-operation-at-requires c κs = search needs
-
-operation-at-requires-2 : tie.Need-operation-at-requires-2
-operation-at-requires-2 c κs = search needs
-
-operation-at-requires-3 : tie.Need-operation-at-requires-3
-operation-at-requires-3 c κs = search needs
-
-operation-at-requires-4 : tie.Need-operation-at-requires-4
-operation-at-requires-4 c κs = search needs
-
-operation-at-requires-5 : tie.Need-operation-at-requires-5
-operation-at-requires-5 c κs = search needs
-
-operation-at-requires-6 : tie.Need-operation-at-requires-6
-operation-at-requires-6 c κs = search needs
-
-operation-at-requires-7 : tie.Need-operation-at-requires-7
-operation-at-requires-7 c κs = search needs
-
-operation-at-requires-8 : tie.Need-operation-at-requires-8
-operation-at-requires-8 c κs = search needs
-
-operation-at-requires-9 : tie.Need-operation-at-requires-9
-operation-at-requires-9 c κs = search needs
-
-operation-at-requires-10 : tie.Need-operation-at-requires-10
-operation-at-requires-10 c κs = search needs
-
-operation-at-requires-11 : tie.Need-operation-at-requires-11
-operation-at-requires-11 c κs = search needs
-
-operation-at-requires-12 : tie.Need-operation-at-requires-12
-operation-at-requires-12 c κs = search needs
-
 returns : tie.Need-returns
 returns c =
     let c11 = c .before in
@@ -76,16 +40,16 @@ pub operations-spec : {M : Type 1} → statement M
 operations-spec =
     tie.close
     (tie.spec
-    operation-at-requires
-    operation-at-requires-2
-    operation-at-requires-3
-    operation-at-requires-4
-    operation-at-requires-5
-    operation-at-requires-6
-    operation-at-requires-7
-    operation-at-requires-8
-    operation-at-requires-9
-    operation-at-requires-10
-    operation-at-requires-11
-    operation-at-requires-12
+    (λ c κs. search needs)
+    (λ c κs. search needs)
+    (λ c κs. search needs)
+    (λ c κs. search needs)
+    (λ c κs. search needs)
+    (λ c κs. search needs)
+    (λ c κs. search needs)
+    (λ c κs. search needs)
+    (λ c κs. search needs)
+    (λ c κs. search needs)
+    (λ c κs. search needs)
+    (λ c κs. search needs)
     returns)

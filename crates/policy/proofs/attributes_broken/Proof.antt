@@ -13,15 +13,6 @@ use Rattle.policy.proofs.attributes_broken.Tie as tie
 returns : tie.Need-returns
 returns c = sym (rule4-exact (c .before .args .runtime) (c .before .args .attributes) (c .if1 .taken))
 
-without-append-requires : tie.Need-without-append-requires
-without-append-requires c κs = search needs
-
-is-known-requires : tie.Need-is-known-requires
-is-known-requires c κs = search needs
-
-runtime-access-requires : tie.Need-runtime-access-requires
-runtime-access-requires c κs = search needs
-
 returns-2 : tie.Need-returns-2
 returns-2 c =
     let a = c .before .before .before .before .before .before .before .args in
@@ -54,9 +45,9 @@ attributes-broken-spec =
     tie.close
     (tie.spec
     returns
-    without-append-requires
-    is-known-requires
-    runtime-access-requires
+    (λ c κs. search needs)
+    (λ c κs. search needs)
+    (λ c κs. search needs)
     returns-2
     returns-3
     returns-4

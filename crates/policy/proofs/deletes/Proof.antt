@@ -9,9 +9,6 @@ returns : tie.Need-returns
 unfolding deletes
 returns c = rw (c .if1 .taken)
 
-appends-requires : tie.Need-appends-requires
-appends-requires c κs = search needs
-
 returns-2 : tie.Need-returns-2
 unfolding deletes
 returns-2 c = rw (ne-eqb _ _ (c .before .before .if1 .left), c .before .if2 .taken, ← c .appends .ensures)
@@ -21,4 +18,4 @@ unfolding deletes
 returns-3 c = rw (ne-eqb _ _ (c .before .if1 .left), ne-eqb _ _ (c .if2 .left))
 
 pub deletes-spec : {M : Type 1} → statement M
-deletes-spec = tie.close (tie.spec returns appends-requires returns-2 returns-3)
+deletes-spec = tie.close (tie.spec returns (λ c κs. search needs) returns-2 returns-3)

@@ -5,12 +5,6 @@ use Rattle.model.specs.Rules.{rule8}
 use Rattle.policy.proofs.descriptor_broken.Statement.{statement}
 use Rattle.policy.proofs.descriptor_broken.Tie as tie
 
-time-based-requires : tie.Need-time-based-requires
-time-based-requires c κs = search needs
-
-descriptor-right-requires : tie.Need-descriptor-right-requires
-descriptor-right-requires c κs = search needs
-
 returns : tie.Need-returns
 unfolding rule8
 returns c = rw (sym (c .before .before .time-based .ensures) ∙ c .before .if1 .taken, ← c .descriptor-right .ensures)
@@ -21,4 +15,4 @@ returns-2 c = rw (sym (c .before .time-based .ensures) ∙ c .if1 .left)
 
 pub descriptor-broken-spec : {M : Type 1} → statement M
 descriptor-broken-spec =
-    tie.close (tie.spec time-based-requires descriptor-right-requires returns returns-2)
+    tie.close (tie.spec (λ c κs. search needs) (λ c κs. search needs) returns returns-2)

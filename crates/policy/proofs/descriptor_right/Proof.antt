@@ -10,21 +10,6 @@ use borrow.Author.Needs.{needs}
 use Rattle.policy.proofs.descriptor_right.Statement.{statement}
 use Rattle.policy.proofs.descriptor_right.Tie as tie
 
-size-right-requires : tie.Need-size-right-requires
-size-right-requires c κs = search needs
-
-kind-right-requires : tie.Need-kind-right-requires
-kind-right-requires c κs = search needs
-
-cut-requires : tie.Need-cut-requires
-cut-requires c κs = search needs
-
-slice-aggregate-equal : tie.Need-slice-aggregate-equal
-slice-aggregate-equal c = search needs
-
-equal-requires : tie.Need-equal-requires
-equal-requires c κs = search needs
-
 returns : tie.Need-returns
 returns c =
     let b = now (c .before .before .before .before .before .before .before .before .args .bytes) in
@@ -42,11 +27,11 @@ pub descriptor-right-spec : {M : Type 1} → statement M
 descriptor-right-spec =
     tie.close
     (tie.spec
-    size-right-requires
-    kind-right-requires
-    cut-requires
-    slice-aggregate-equal
-    equal-requires
+    (λ c κs. search needs)
+    (λ c κs. search needs)
+    (λ c κs. search needs)
+    (λ c. search needs)
+    (λ c κs. search needs)
     returns
     returns-2
     returns-3)

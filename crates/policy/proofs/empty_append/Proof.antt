@@ -5,9 +5,6 @@ use Rattle.model.specs.Change.{emptyAppend}
 use Rattle.policy.proofs.empty_append.Statement.{statement}
 use Rattle.policy.proofs.empty_append.Tie as tie
 
-appends-requires : tie.Need-appends-requires
-appends-requires c κs = search needs
-
 returns : tie.Need-returns
 unfolding emptyAppend
 returns c = rw (c .before .if1 .taken) (c .appends .ensures)
@@ -17,4 +14,4 @@ unfolding emptyAppend
 returns-2 c = rw (ne-eqb _ _ (c .if1 .left))
 
 pub empty-append-spec : {M : Type 1} → statement M
-empty-append-spec = tie.close (tie.spec appends-requires returns returns-2)
+empty-append-spec = tie.close (tie.spec (λ c κs. search needs) returns returns-2)

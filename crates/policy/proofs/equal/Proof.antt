@@ -11,22 +11,13 @@ returns : tie.Need-returns
 unfolding equalTo
 returns c = simp (ne-eqb _ _ (c .if1 .taken), and-false)
 
-time-based-requires : tie.Need-time-based-requires
-time-based-requires c κs = search needs
-
 returns-2 : tie.Need-returns-2
 unfolding equalTo
 returns-2 c = simp (sym (c .before .time-based .ensures) ∙ c .if2 .taken, and-false)
 
-appends-requires : tie.Need-appends-requires
-appends-requires c κs = search needs
-
 returns-3 : tie.Need-returns-3
 unfolding equalTo
 returns-3 c = simp (sym (c .before .appends .ensures) ∙ c .if3 .taken, and-false)
-
-equal-requires : tie.Need-equal-requires
-equal-requires c κs = search needs
 
 returns-4 : tie.Need-returns-4
 unfolding equalTo
@@ -37,9 +28,9 @@ equal-spec =
     tie.close
     (tie.spec
     returns
-    time-based-requires
+    (λ c κs. search needs)
     returns-2
-    appends-requires
+    (λ c κs. search needs)
     returns-3
-    equal-requires
+    (λ c κs. search needs)
     returns-4)

@@ -16,13 +16,10 @@ returns-2 c =
     let a = c .before .before .before .args in
     sym (rule5-suits (record { name = now (a .name); vendor = now (a .vendor) }) (a .attributes) (rw (c .if2 .taken)))
 
-is-key-name-requires : tie.Need-is-key-name-requires
-is-key-name-requires c κs = search needs
-
 returns-3 : tie.Need-returns-3
 returns-3 c =
     let a = c .before .before .before .before .args in
     c .is-key-name .ensures ∙ sym (rule5-other (record { name = now (a .name); vendor = now (a .vendor) }) (a .attributes) (c .before .before .if1 .left) (c .before .if2 .left))
 
 pub key-attributes-broken-spec : {M : Type 1} → statement M
-key-attributes-broken-spec = tie.close (tie.spec returns returns-2 is-key-name-requires returns-3)
+key-attributes-broken-spec = tie.close (tie.spec returns returns-2 (λ c κs. search needs) returns-3)

@@ -5,9 +5,6 @@ use borrow.Author.Needs.{needs}
 use Rattle.policy.proofs.key_verdicts.Statement.{statement}
 use Rattle.policy.proofs.key_verdicts.Tie as tie
 
-is-database-requires : tie.Need-is-database-requires
-is-database-requires c κs = search needs
-
 returns : tie.Need-returns
 unfolding keyVerdicts
 returns c = rw (c .before .before .if1 .taken, sym (c .before .is-database .ensures) ∙ c .if2 .taken)
@@ -15,9 +12,6 @@ returns c = rw (c .before .before .if1 .taken, sym (c .before .is-database .ensu
 returns-2 : tie.Need-returns-2
 unfolding keyVerdicts
 returns-2 c = rw (c .before .before .if1 .taken, sym (c .before .is-database .ensures) ∙ c .if2 .left)
-
-is-pk-requires : tie.Need-is-pk-requires
-is-pk-requires c κs = search needs
 
 returns-3 : tie.Need-returns-3
 unfolding keyVerdicts
@@ -29,4 +23,4 @@ returns-4 c = rw (c .before .before .if1 .left, sym (c .before .is-pk .ensures) 
 
 pub key-verdicts-spec : {M : Type 1} → statement M
 key-verdicts-spec =
-    tie.close (tie.spec is-database-requires returns returns-2 is-pk-requires returns-3 returns-4)
+    tie.close (tie.spec (λ c κs. search needs) returns returns-2 (λ c κs. search needs) returns-3 returns-4)

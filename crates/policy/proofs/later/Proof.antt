@@ -16,12 +16,6 @@ Inv-loop a b year other i₀ i = (i ≤ 7) × (request.later a b ≡ greaterFrom
 abbrev μ-loop : tie.MeasureT-loop
 μ-loop a b year other i₀ i = 7 - i
 
-u16-at-requires : tie.Need-u16-at-requires Inv-loop μ-loop
-u16-at-requires c κs = search needs
-
-u16-at-requires-2 : tie.Need-u16-at-requires-2 Inv-loop μ-loop
-u16-at-requires-2 c κs = search needs
-
 returns : tie.Need-returns Inv-loop μ-loop
 returns c =
     let a = c .before .before .before .before .before .args in
@@ -32,29 +26,11 @@ loop-holds c =
     let a = c .before .before .before .before .before .args in
     (omega arith, later-equal (now (a .a)) (now (a .b)) (sym (c .before .before .before .u16-at .ensures .0) ∙ c .if1 .left ∙ c .before .u16-at2 .ensures .0))
 
-element-copy-out-if2 : tie.Need-element-copy-out-if2 Inv-loop μ-loop
-element-copy-out-if2 c = search needs
-
-element-copy-out-if2-2 : tie.Need-element-copy-out-if2-2 Inv-loop μ-loop
-element-copy-out-if2-2 c = search needs
-
-element-copy-out-result : tie.Need-element-copy-out-result Inv-loop μ-loop
-element-copy-out-result c = search needs
-
-element-copy-out-result-2 : tie.Need-element-copy-out-result-2 Inv-loop μ-loop
-element-copy-out-result-2 c = search needs
-
 returns-2 : tie.Need-returns-2 Inv-loop μ-loop
 returns-2 c =
     let a = c .before .before .before .before .before .before .before .before .before .before .before .before .args in
     let i = c .before .before .before .before .before .before .loop .i in
     sym (c .before .before .before .before .before .before .loop .inv .1 ∙ from-other i (now (a .a)) (now (a .b)) (omega arith) (omega arith) (omega arith) (c .before .before .if2 .taken))
-
-add-i : tie.Need-add-i Inv-loop μ-loop
-add-i c = search needs
-
-loop-less : tie.Need-loop-less Inv-loop μ-loop
-loop-less c = search needs
 
 loop-again : tie.Need-loop-again Inv-loop μ-loop
 loop-again c =
@@ -74,16 +50,16 @@ later-spec =
     (tie.spec
     Inv-loop
     μ-loop
-    u16-at-requires
-    u16-at-requires-2
+    (λ c κs. search needs)
+    (λ c κs. search needs)
     returns
     loop-holds
-    element-copy-out-if2
-    element-copy-out-if2-2
-    element-copy-out-result
-    element-copy-out-result-2
+    (λ c. search needs)
+    (λ c. search needs)
+    (λ c. search needs)
+    (λ c. search needs)
     returns-2
-    add-i
-    loop-less
+    (λ c. search needs)
+    (λ c. search needs)
     loop-again
     returns-3)

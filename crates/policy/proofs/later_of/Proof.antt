@@ -5,9 +5,6 @@ use borrow.Author.Needs.{needs}
 use Rattle.policy.proofs.later_of.Statement.{statement}
 use Rattle.policy.proofs.later_of.Tie as tie
 
-later-requires : tie.Need-later-requires
-later-requires c κs = search needs
-
 returns : tie.Need-returns
 unfolding laterOf
 returns c = rw (sym (c .before .before .later .ensures) ∙ c .before .if1 .taken)
@@ -17,4 +14,4 @@ unfolding laterOf
 returns-2 c = rw (sym (c .before .before .later .ensures) ∙ c .before .if1 .left)
 
 pub later-of-spec : {M : Type 1} → statement M
-later-of-spec = tie.close (tie.spec later-requires returns returns-2)
+later-of-spec = tie.close (tie.spec (λ c κs. search needs) returns returns-2)

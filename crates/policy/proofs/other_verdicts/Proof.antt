@@ -5,9 +5,6 @@ use Rattle.model.specs.Request.{otherVerdicts}
 use Rattle.policy.proofs.other_verdicts.Statement.{statement}
 use Rattle.policy.proofs.other_verdicts.Tie as tie
 
-time-based-requires : tie.Need-time-based-requires
-time-based-requires c κs = search needs
-
 returns : tie.Need-returns
 unfolding otherVerdicts
 returns c = rw (sym (c .before .before .time-based .ensures) ∙ c .before .if1 .taken, c .if2 .taken)
@@ -21,4 +18,4 @@ unfolding otherVerdicts
 returns-3 c = rw (sym (c .before .time-based .ensures) ∙ c .if1 .left)
 
 pub other-verdicts-spec : {M : Type 1} → statement M
-other-verdicts-spec = tie.close (tie.spec time-based-requires returns returns-2 returns-3)
+other-verdicts-spec = tie.close (tie.spec (λ c κs. search needs) returns returns-2 returns-3)

@@ -8,16 +8,10 @@ use borrow.Author.Needs.{needs}
 use Rattle.policy.proofs.proper.Statement.{statement}
 use Rattle.policy.proofs.proper.Tie as tie
 
-proper-from-requires : tie.Need-proper-from-requires
-proper-from-requires c κs = search needs
-
-from-requires : tie.Need-from-requires
-from-requires c κs = search needs
-
 returns : tie.Need-returns
 returns c =
     let a = c .before .before .before .args in
     c .from .ensures ∙ ap (λ (n : ℕ). drop n (now (a .bytes))) (c .before .proper-from .ensures) ∙ proper-drop (a .attributes) (now (a .bytes))
 
 pub proper-spec : {M : Type 1} → statement M
-proper-spec = tie.close (tie.spec proper-from-requires from-requires returns)
+proper-spec = tie.close (tie.spec (λ c κs. search needs) (λ c κs. search needs) returns)

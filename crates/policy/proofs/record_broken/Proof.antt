@@ -9,12 +9,6 @@ use borrow.Author.Needs.{needs}
 use Rattle.policy.proofs.record_broken.Statement.{statement}
 use Rattle.policy.proofs.record_broken.Tie as tie
 
-is-record-name-requires : tie.Need-is-record-name-requires
-is-record-name-requires c κs = search needs
-
-is-error-record-requires : tie.Need-is-error-record-requires
-is-error-record-requires c κs = search needs
-
 returns : tie.Need-returns
 returns c =
     let a = c .before .before .before .before .before .args in
@@ -39,4 +33,4 @@ returns-3 c =
 pub record-broken-spec : {M : Type 1} → statement M
 record-broken-spec =
     tie.close
-    (tie.spec is-record-name-requires is-error-record-requires returns returns-2 returns-3)
+    (tie.spec (λ c κs. search needs) (λ c κs. search needs) returns returns-2 returns-3)

@@ -16,17 +16,8 @@ Inv-loop bytes stamp₀ front i₀ stamp i = (i ≤ length front) × (stamp ≡ 
 abbrev μ-loop : tie.MeasureT-loop
 μ-loop bytes stamp₀ front i₀ stamp i = length front - i
 
-no-stamp-requires : tie.Need-no-stamp-requires Inv-loop μ-loop
-no-stamp-requires c κs = search needs
-
-cut-requires : tie.Need-cut-requires Inv-loop μ-loop
-cut-requires c κs = search needs
-
 loop-holds : tie.Need-loop-holds Inv-loop μ-loop
 loop-holds c = (omega arith, c .before .no-stamp .ensures ∙ laid-none (now (c .cut .result)))
-
-shared-slice-read-stamp : tie.Need-shared-slice-read-stamp Inv-loop μ-loop
-shared-slice-read-stamp c = search needs
 
 array-write-stamp : tie.Need-array-write-stamp Inv-loop μ-loop
 array-write-stamp c =
@@ -34,12 +25,6 @@ array-write-stamp c =
     let short : length f ≤ 16 = rw (c .before .before .before .cut .ensures) (front-short (now (c .before .before .before .before .before .before .args .bytes))) in
     let long = ap length (c .before .before .loop .inv .1) ∙ laid-length f (c .before .before .loop .i) (c .before .before .loop .inv .0) short in
     omega arith
-
-add-i : tie.Need-add-i Inv-loop μ-loop
-add-i c = search needs
-
-loop-less : tie.Need-loop-less Inv-loop μ-loop
-loop-less c = search needs
 
 loop-again : tie.Need-loop-again Inv-loop μ-loop
 loop-again c =
@@ -63,12 +48,12 @@ stamp-in-spec =
     (tie.spec
     Inv-loop
     μ-loop
-    no-stamp-requires
-    cut-requires
+    (λ c κs. search needs)
+    (λ c κs. search needs)
     loop-holds
-    shared-slice-read-stamp
+    (λ c. search needs)
     array-write-stamp
-    add-i
-    loop-less
+    (λ c. search needs)
+    (λ c. search needs)
     loop-again
     returns)

@@ -6,21 +6,12 @@ use Rattle.model.specs.Rules.{unlikeStored, rule7}
 use Rattle.policy.proofs.standing_broken.Statement.{statement}
 use Rattle.policy.proofs.standing_broken.Tie as tie
 
-without-append-requires : tie.Need-without-append-requires
-without-append-requires c κs = search needs
-
-unlike-requires : tie.Need-unlike-requires
-unlike-requires c κs = search needs
-
 returns : tie.Need-returns
 unfolding rule7
 returns c =
     let a = c .before .before .before .args in
     let u = sym (c .before .unlike .ensures ∙ ap (λ (n : ℕ). unlikeStored n (a .stored)) (c .before .before .without-append .ensures)) ∙ c .if1 .taken in
     rw u
-
-runtime-access-requires : tie.Need-runtime-access-requires
-runtime-access-requires c κs = search needs
 
 returns-2 : tie.Need-returns-2
 unfolding rule7
@@ -40,9 +31,9 @@ pub standing-broken-spec : {M : Type 1} → statement M
 standing-broken-spec =
     tie.close
     (tie.spec
-    without-append-requires
-    unlike-requires
+    (λ c κs. search needs)
+    (λ c κs. search needs)
     returns
-    runtime-access-requires
+    (λ c κs. search needs)
     returns-2
     returns-3)

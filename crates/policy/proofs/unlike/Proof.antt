@@ -5,9 +5,6 @@ use borrow.Author.Needs.{needs}
 use Rattle.policy.proofs.unlike.Statement.{statement}
 use Rattle.policy.proofs.unlike.Tie as tie
 
-time-based-requires : tie.Need-time-based-requires
-time-based-requires c κs = search needs
-
 returns : tie.Need-returns
 returns c =
     let a = c .before .before .args in
@@ -19,4 +16,4 @@ returns-2 c =
     sym (unlike-other (a .asked) (a .stored) (c .if1 .left))
 
 pub unlike-spec : {M : Type 1} → statement M
-unlike-spec = tie.close (tie.spec time-based-requires returns returns-2)
+unlike-spec = tie.close (tie.spec (λ c κs. search needs) returns returns-2)

@@ -8,15 +8,6 @@ use Rattle.model.specs.Rules.{rule9}
 use Rattle.policy.proofs.verdict_broken.Statement.{statement}
 use Rattle.policy.proofs.verdict_broken.Tie as tie
 
-enum-told : tie.Need-enum-told
-enum-told c = search needs
-
-enum-known-wanted : tie.Need-enum-known-wanted
-enum-known-wanted c = search needs
-
-enum-told-2 : tie.Need-enum-told-2
-enum-told-2 c = search needs
-
 returns : tie.Need-returns
 returns c =
     let a = c .before .before .before .args in
@@ -40,4 +31,4 @@ returns-4 c =
 pub verdict-broken-spec : {M : Type 1} → statement M
 verdict-broken-spec =
     tie.close
-    (tie.spec enum-told enum-known-wanted enum-told-2 returns returns-2 returns-3 returns-4)
+    (tie.spec (λ c. search needs) (λ c. search needs) (λ c. search needs) returns returns-2 returns-3 returns-4)

@@ -5,15 +5,9 @@ use borrow.Author.Needs.{needs}
 use Rattle.query.proofs.is_empty_name.Statement.{statement}
 use Rattle.query.proofs.is_empty_name.Tie as tie
 
-slice-aggregate-equal : tie.Need-slice-aggregate-equal
-slice-aggregate-equal c = search needs
-
-equal-requires : tie.Need-equal-requires
-equal-requires c κs = search needs
-
 returns : tie.Need-returns
 unfolding emptyName
 returns c = c .equal .ensures
 
 pub is-empty-name-spec : {M : Type 1} → statement M
-is-empty-name-spec = tie.close (tie.spec slice-aggregate-equal equal-requires returns)
+is-empty-name-spec = tie.close (tie.spec (λ c. search needs) (λ c κs. search needs) returns)

@@ -7,12 +7,6 @@ use borrow.Author.Needs.{needs}
 use Rattle.query.proofs.is_seen.Statement.{statement}
 use Rattle.query.proofs.is_seen.Tie as tie
 
-is-visible-requires : tie.Need-is-visible-requires
-is-visible-requires c κs = search needs
-
-is-value-requires : tie.Need-is-value-requires
-is-value-requires c κs = search needs
-
 returns : tie.Need-returns
 returns c =
     let a = c .before .before .before .before .args in
@@ -24,4 +18,4 @@ returns-2 c =
     sym (not-visible (a .runtime) (now (a .region)) (a .at) (a .e) (sym (c .before .is-visible .ensures) ∙ c .if1 .left))
 
 pub is-seen-spec : {M : Type 1} → statement M
-is-seen-spec = tie.close (tie.spec is-visible-requires is-value-requires returns returns-2)
+is-seen-spec = tie.close (tie.spec (λ c κs. search needs) (λ c κs. search needs) returns returns-2)

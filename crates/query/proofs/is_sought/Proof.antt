@@ -8,15 +8,6 @@ use borrow.Author.Needs.{needs}
 use Rattle.query.proofs.is_sought.Statement.{statement}
 use Rattle.query.proofs.is_sought.Tie as tie
 
-is-live-requires : tie.Need-is-live-requires
-is-live-requires c κs = search needs
-
-is-entry-requires : tie.Need-is-entry-requires
-is-entry-requires c κs = search needs
-
-is-seen-requires : tie.Need-is-seen-requires
-is-seen-requires c κs = search needs
-
 returns : tie.Need-returns
 returns c =
     let a = c .before .before .before .before .before .before .before .before .args in
@@ -34,4 +25,4 @@ returns-3 c =
     sym (sought-dead (a .runtime) (now (a .region)) (a .at) (a .e) (keyed (now (a .name)) (now (a .vendor))) (sym (c .before .is-live .ensures) ∙ c .if1 .left))
 
 pub is-sought-spec : {M : Type 1} → statement M
-is-sought-spec = tie.close (tie.spec is-live-requires is-entry-requires is-seen-requires returns returns-2 returns-3)
+is-sought-spec = tie.close (tie.spec (λ c κs. search needs) (λ c κs. search needs) (λ c κs. search needs) returns returns-2 returns-3)

@@ -29,15 +29,6 @@ loop-holds c =
     let a = c .before .before .args in
     get-from (a .runtime) (keyed (now (a .name)) (now (a .vendor))) (now (a .region))
 
-turn-requires : tie.Need-turn-requires Inv-loop μ-loop
-turn-requires c κs = search needs
-
-enum-known-t : tie.Need-enum-known-t Inv-loop μ-loop
-enum-known-t c = search needs
-
-enum-told : tie.Need-enum-told Inv-loop μ-loop
-enum-told c = search needs
-
 returns : tie.Need-returns Inv-loop μ-loop
 returns c =
     let b = c .before .before in
@@ -51,12 +42,6 @@ part-may-be-start c = let b = c .before in let w = at-entry (b .before .before .
 
 part-may-be-end : tie.Need-part-may-be-end Inv-loop μ-loop
 part-may-be-end c = let b = c .before in let w = at-entry (b .before .before .turn .ensures) (b .t .given .1) in omega arith
-
-may-be-requires : tie.Need-may-be-requires Inv-loop μ-loop
-may-be-requires c κs = search needs
-
-is-sought-requires : tie.Need-is-sought-requires Inv-loop μ-loop
-is-sought-requires c κs = search needs
 
 returns-2 : tie.Need-returns-2 Inv-loop μ-loop
 returns-2 c =
@@ -89,15 +74,15 @@ to-get-spec =
     Inv-loop
     μ-loop
     loop-holds
-    turn-requires
-    enum-known-t
-    enum-told
+    (λ c κs. search needs)
+    (λ c. search needs)
+    (λ c. search needs)
     returns
     sub-may-be
     part-may-be-start
     part-may-be-end
-    may-be-requires
-    is-sought-requires
+    (λ c κs. search needs)
+    (λ c κs. search needs)
     returns-2
     loop-less
     loop-again

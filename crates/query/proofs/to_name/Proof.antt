@@ -23,31 +23,16 @@ Inv-loop region runtime name vendor passed₀ here₀ passed here =
 abbrev μ-loop : tie.MeasureT-loop
 μ-loop region runtime name vendor passed₀ here₀ passed here = length region - here
 
-is-empty-name-requires : tie.Need-is-empty-name-requires Inv-loop μ-loop
-is-empty-name-requires c κs = search needs
-
 loop-holds : tie.Need-loop-holds Inv-loop μ-loop
 loop-holds c =
     let a = c .before .before .before .args in
     let k = keyed (now (a .name)) (now (a .vendor)) in
     name-from (a .runtime) k (now (a .region)) ∙ ap (λ (p : Bool). goingOn p k (seenFrom (a .runtime) (now (a .region)) 28)) (sym (c .is-empty-name .ensures))
 
-turn-requires : tie.Need-turn-requires Inv-loop μ-loop
-turn-requires c κs = search needs
-
-enum-known-t : tie.Need-enum-known-t Inv-loop μ-loop
-enum-known-t c = search needs
-
-enum-told : tie.Need-enum-told Inv-loop μ-loop
-enum-told c = search needs
-
 returns : tie.Need-returns Inv-loop μ-loop
 returns c =
     let b = c .before .before in
     sym (b .before .loop .inv ∙ going-none (b .before .loop .passed) _ (seen-none _ (at-end (b .turn .ensures) (c .enum-told .given .1))))
-
-is-seen-requires : tie.Need-is-seen-requires Inv-loop μ-loop
-is-seen-requires c κs = search needs
 
 returns-2 : tie.Need-returns-2 Inv-loop μ-loop
 returns-2 c =
@@ -63,12 +48,6 @@ part-may-be-start c = let b = c .before .before in let w = at-entry (b .before .
 
 part-may-be-end : tie.Need-part-may-be-end Inv-loop μ-loop
 part-may-be-end c = let b = c .before .before in let w = at-entry (b .before .before .turn .ensures) (b .t .given .1) in omega arith
-
-may-be-requires : tie.Need-may-be-requires Inv-loop μ-loop
-may-be-requires c κs = search needs
-
-is-sought-requires : tie.Need-is-sought-requires Inv-loop μ-loop
-is-sought-requires c κs = search needs
 
 loop-less : tie.Need-loop-less Inv-loop μ-loop
 loop-less c = let b = c .before .before .before .before in at-entry (b .before .before .turn .ensures) (b .t .given .1) .less
@@ -105,19 +84,19 @@ to-name-spec =
     (tie.spec
     Inv-loop
     μ-loop
-    is-empty-name-requires
+    (λ c κs. search needs)
     loop-holds
-    turn-requires
-    enum-known-t
-    enum-told
+    (λ c κs. search needs)
+    (λ c. search needs)
+    (λ c. search needs)
     returns
-    is-seen-requires
+    (λ c κs. search needs)
     returns-2
     sub-may-be
     part-may-be-start
     part-may-be-end
-    may-be-requires
-    is-sought-requires
+    (λ c κs. search needs)
+    (λ c κs. search needs)
     loop-less
     loop-again
     loop-less-2

@@ -8,12 +8,6 @@ use Rattle.records.proofs.after_record.Tie as tie
 returns : tie.Need-returns
 returns c = let a = c .before .args in onward-unused (a .l) (a .i) (a .r) (c .if1 .taken)
 
-is-state-requires : tie.Need-is-state-requires
-is-state-requires c κs = search needs
-
-add-t10 : tie.Need-add-t10
-add-t10 c = search needs
-
 returns-2 : tie.Need-returns-2
 returns-2 c =
     let s = c .before .before .before .before .before in
@@ -21,4 +15,4 @@ returns-2 c =
     rw (c .before .is-state .ensures) (onward-used (a .l) (a .i) (a .r) (ne-eqb (a .r) 0xFF (s .if1 .left)))
 
 pub after-record-spec : {M : Type 1} → statement M
-after-record-spec = tie.close (tie.spec returns is-state-requires add-t10 returns-2)
+after-record-spec = tie.close (tie.spec returns (λ c κs. search needs) (λ c. search needs) returns-2)

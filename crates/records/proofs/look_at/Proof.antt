@@ -12,9 +12,6 @@ use Rattle.records.proofs.Block.{look-short, look-in-order, look-disord
 use Rattle.records.proofs.look_at.Statement.{statement}
 use Rattle.records.proofs.look_at.Tie as tie
 
-look-through-requires : tie.Need-look-through-requires
-look-through-requires c κs = search needs
-
 returns : tie.Need-returns
 returns c =
     let w = now (c .before .before .before .args .w) in
@@ -25,21 +22,6 @@ slice-aggregate-look-through c =
     let w = now (c .before .before .before .args .w) in
     let h : 64 ≤ length w = omega arith in
     sym (length-take-le 64 w h)
-
-look-through-requires-2 : tie.Need-look-through-requires-2
-look-through-requires-2 c κs = search needs
-
-sub-is-blank : tie.Need-sub-is-blank
-sub-is-blank c = search needs
-
-part-is-blank-start : tie.Need-part-is-blank-start
-part-is-blank-start c = search needs
-
-part-is-blank-end : tie.Need-part-is-blank-end
-part-is-blank-end c = search needs
-
-is-blank-requires : tie.Need-is-blank-requires
-is-blank-requires c κs = search needs
 
 returns-2 : tie.Need-returns-2
 returns-2 c =
@@ -58,13 +40,13 @@ pub look-at-spec : {M : Type 1} → statement M
 look-at-spec =
     tie.close
     (tie.spec
-    look-through-requires
+    (λ c κs. search needs)
     returns
     slice-aggregate-look-through
-    look-through-requires-2
-    sub-is-blank
-    part-is-blank-start
-    part-is-blank-end
-    is-blank-requires
+    (λ c κs. search needs)
+    (λ c. search needs)
+    (λ c. search needs)
+    (λ c. search needs)
+    (λ c κs. search needs)
     returns-2
     returns-3)

@@ -20,18 +20,6 @@ abbrev μ-loop : tie.MeasureT-loop
 loop-holds : tie.Need-loop-holds Inv-loop μ-loop
 loop-holds c = (omega arith, omega arith, refl)
 
-shared-slice-read-after-record : tie.Need-shared-slice-read-after-record Inv-loop μ-loop
-shared-slice-read-after-record c = search needs
-
-after-record-requires : tie.Need-after-record-requires Inv-loop μ-loop
-after-record-requires c κs = search needs
-
-add-i : tie.Need-add-i Inv-loop μ-loop
-add-i c = search needs
-
-loop-less : tie.Need-loop-less Inv-loop μ-loop
-loop-less c = search needs
-
 loop-again : tie.Need-loop-again Inv-loop μ-loop
 loop-again c =
     let k = c .before .before .before in
@@ -56,9 +44,9 @@ look-through-spec =
     Inv-loop
     μ-loop
     loop-holds
-    shared-slice-read-after-record
-    after-record-requires
-    add-i
-    loop-less
+    (λ c. search needs)
+    (λ c κs. search needs)
+    (λ c. search needs)
+    (λ c. search needs)
     loop-again
     returns)

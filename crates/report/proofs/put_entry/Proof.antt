@@ -8,15 +8,6 @@ use borrow.Author.Needs.{needs}
 use Rattle.report.proofs.put_entry.Statement.{statement}
 use Rattle.report.proofs.put_entry.Tie as tie
 
-vendor-of-in-requires : tie.Need-vendor-of-in-requires
-vendor-of-in-requires c κs = search needs
-
-name-of-in-requires : tie.Need-name-of-in-requires
-name-of-in-requires c κs = search needs
-
-data-of-in-requires : tie.Need-data-of-in-requires
-data-of-in-requires c κs = search needs
-
 cast-put-value : tie.Need-cast-put-value
 cast-put-value c =
     let a = c .before .before .before .before .before .before .args in
@@ -30,9 +21,6 @@ put-value-requires c κs =
     let s = short (a .y) (now (a .region)) (a .place) (a .e) (c .before .before .before .vendor-of-in .ensures) (c .before .before .name-of-in .ensures)
     (c .before .data-of-in .ensures) in
     omega (arith, s .vendor-short, s .name-short)
-
-same-length : tie.Need-same-length
-same-length c = search needs
 
 returns : tie.Need-returns
 returns c =
@@ -48,10 +36,10 @@ pub put-entry-spec : {M : Type 1} → statement M
 put-entry-spec =
     tie.close
     (tie.spec
-    vendor-of-in-requires
-    name-of-in-requires
-    data-of-in-requires
+    (λ c κs. search needs)
+    (λ c κs. search needs)
+    (λ c κs. search needs)
     cast-put-value
     put-value-requires
-    same-length
+    (λ c. search needs)
     returns)

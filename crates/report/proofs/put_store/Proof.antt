@@ -12,29 +12,11 @@ use borrow.Author.Needs.{needs}
 use Rattle.report.proofs.put_store.Statement.{statement}
 use Rattle.report.proofs.put_store.Tie as tie
 
-count-in-requires : tie.Need-count-in-requires
-count-in-requires c κs = search needs
-
-cast-put-summary : tie.Need-cast-put-summary
-cast-put-summary c = search needs
-
-cast-put-summary-2 : tie.Need-cast-put-summary-2
-cast-put-summary-2 c = search needs
-
 cast-put-summary-3 : tie.Need-cast-put-summary-3
 cast-put-summary-3 c =
     let a = c .before .before .before .before .args in
     let few = few-values (a .y) (now (a .region)) in
     record { fits = omega (arith, c .before .count-in .ensures) }
-
-put-summary-requires : tie.Need-put-summary-requires
-put-summary-requires c κs = search needs
-
-put-lines-requires : tie.Need-put-lines-requires
-put-lines-requires c κs = search needs
-
-same-length : tie.Need-same-length
-same-length c = search needs
 
 returns : tie.Need-returns
 returns c =
@@ -47,11 +29,11 @@ pub put-store-spec : {M : Type 1} → statement M
 put-store-spec =
     tie.close
     (tie.spec
-    count-in-requires
-    cast-put-summary
-    cast-put-summary-2
+    (λ c κs. search needs)
+    (λ c. search needs)
+    (λ c. search needs)
     cast-put-summary-3
-    put-summary-requires
-    put-lines-requires
-    same-length
+    (λ c κs. search needs)
+    (λ c κs. search needs)
+    (λ c. search needs)
     returns)

@@ -11,27 +11,6 @@ use borrow.Author.Needs.{needs}
 use Rattle.report.proofs.put_value.Statement.{statement}
 use Rattle.report.proofs.put_value.Tie as tie
 
-put-key-requires : tie.Need-put-key-requires
-put-key-requires c κs = search needs
-
-low-byte-requires : tie.Need-low-byte-requires
-low-byte-requires c κs = search needs
-
-put-hex-byte-requires : tie.Need-put-hex-byte-requires
-put-hex-byte-requires c κs = search needs
-
-slice-aggregate-put-field : tie.Need-slice-aggregate-put-field
-slice-aggregate-put-field c = search needs
-
-put-field-requires : tie.Need-put-field-requires
-put-field-requires c κs = search needs
-
-put-byte-requires : tie.Need-put-byte-requires
-put-byte-requires c κs = search needs
-
-same-length : tie.Need-same-length
-same-length c = search needs
-
 returns : tie.Need-returns
 unfolding entryLine ascii
 returns c =
@@ -48,11 +27,11 @@ pub put-value-spec : {M : Type 1} → statement M
 put-value-spec =
     tie.close
     (tie.spec
-    put-key-requires
-    low-byte-requires
-    put-hex-byte-requires
-    slice-aggregate-put-field
-    put-field-requires
-    put-byte-requires
-    same-length
+    (λ c κs. search needs)
+    (λ c κs. search needs)
+    (λ c κs. search needs)
+    (λ c. search needs)
+    (λ c κs. search needs)
+    (λ c κs. search needs)
+    (λ c. search needs)
     returns)

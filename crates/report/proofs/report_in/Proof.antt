@@ -14,12 +14,6 @@ use borrow.Author.Needs.{needs}
 use Rattle.report.proofs.report_in.Statement.{statement}
 use Rattle.report.proofs.report_in.Tie as tie
 
-check-in-requires : tie.Need-check-in-requires
-check-in-requires c κs = search needs
-
-enum-known-c : tie.Need-enum-known-c
-enum-known-c c = search needs
-
 mul-cut : tie.Need-mul-cut
 mul-cut c =
     let a = c .before .before .before .before .before .before .args in
@@ -27,9 +21,6 @@ mul-cut c =
     let t = c .before .c .given in
     let x = accepted (a .y) img (sym (c .before .before .before .check-in .ensures) ∙ t .1) in
     record { fits = omega (arith, x .few) }
-
-cut-requires : tie.Need-cut-requires
-cut-requires c κs = search needs
 
 put-store-requires : tie.Need-put-store-requires
 put-store-requires c κs =
@@ -40,18 +31,6 @@ put-store-requires c κs =
     let n = ap length (c .before .cut .ensures ∙ x .cut) in
     (x .tail-low, omega (arith, x .few, x .long, n))
 
-enum-known-c-2 : tie.Need-enum-known-c-2
-enum-known-c-2 c = search needs
-
-number-requires : tie.Need-number-requires
-number-requires c κs = search needs
-
-put-refused-requires : tie.Need-put-refused-requires
-put-refused-requires c κs = search needs
-
-same-length : tie.Need-same-length
-same-length c = search needs
-
 returns : tie.Need-returns
 returns c =
     let a = c .before .before .before .before .before .before .before .before .before .before .before .args in
@@ -61,9 +40,6 @@ returns c =
     let same = ap (λ (s : List ℕ). summaryLine (length s) (t .0 .1 .0) (length (values (entriesIn (a .y) s))) ++ valueLines (values (entriesIn (a .y) s)))
     (c .before .before .before .before .cut .ensures ∙ x .cut) in
     wrote-as (same ∙ x .text) (c .before .before .put-store .ensures)
-
-same-length-2 : tie.Need-same-length-2
-same-length-2 c = search needs
 
 returns-2 : tie.Need-returns-2
 returns-2 c =
@@ -77,15 +53,15 @@ pub report-in-spec : {M : Type 1} → statement M
 report-in-spec =
     tie.close
     (tie.spec
-    check-in-requires
-    enum-known-c
+    (λ c κs. search needs)
+    (λ c. search needs)
     mul-cut
-    cut-requires
+    (λ c κs. search needs)
     put-store-requires
-    enum-known-c-2
-    number-requires
-    put-refused-requires
-    same-length
+    (λ c. search needs)
+    (λ c κs. search needs)
+    (λ c κs. search needs)
+    (λ c. search needs)
     returns
-    same-length-2
+    (λ c. search needs)
     returns-2)

@@ -11,17 +11,11 @@ use borrow.Author.Needs.{needs}
 use Rattle.session.proofs.is_barred.Statement.{statement}
 use Rattle.session.proofs.is_barred.Tie as tie
 
-in-boot-requires : tie.Need-in-boot-requires
-in-boot-requires c κs = search needs
-
 returns : tie.Need-returns
 unfolding rule6
 returns c =
     let a = c .before .before .before .args in
     rw (boot-phase (a .s) ∙ sym (c .before .in-boot .ensures) ∙ c .if1 .taken) (sym (and-false (locked (a .s) (keyed (now (a .name)) (now (a .vendor))))))
-
-is-locked-requires : tie.Need-is-locked-requires
-is-locked-requires c κs = search needs
 
 returns-2 : tie.Need-returns-2
 unfolding rule6
@@ -30,4 +24,4 @@ returns-2 c =
     rw (boot-phase (a .s) ∙ sym (c .before .before .before .before .in-boot .ensures) ∙ c .before .before .before .if1 .left) (c .is-locked .ensures ∙ sym (locked-held (a .s) (keyed (now (a .name)) (now (a .vendor)))) ∙ sym (and-true (locked (a .s) (keyed (now (a .name)) (now (a .vendor))))))
 
 pub is-barred-spec : {M : Type 1} → statement M
-is-barred-spec = tie.close (tie.spec in-boot-requires returns is-locked-requires returns-2)
+is-barred-spec = tie.close (tie.spec (λ c κs. search needs) returns (λ c κs. search needs) returns-2)

@@ -28,33 +28,12 @@ returns c =
     let k : Key = record { name = now (a .name); vendor = now (a .vendor) } in
     sym (l .loop .inv .1 ∙ held-end (a .t2) (a .t3) (a .used) k (l .loop .i) (omega arith))
 
-slice-aggregate-is-place : tie.Need-slice-aggregate-is-place Inv-loop μ-loop
-slice-aggregate-is-place c = search needs
-
-mul-is-place : tie.Need-mul-is-place Inv-loop μ-loop
-mul-is-place c = search needs
-
-array-read-is-place : tie.Need-array-read-is-place Inv-loop μ-loop
-array-read-is-place c = search needs
-
-cast-is-place : tie.Need-cast-is-place Inv-loop μ-loop
-cast-is-place c = search needs
-
-is-place-requires : tie.Need-is-place-requires Inv-loop μ-loop
-is-place-requires c κs = search needs
-
 returns-2 : tie.Need-returns-2 Inv-loop μ-loop
 returns-2 c =
     let l = c .before .before .before .before .before .before in
     let a = l .before .before .args in
     let k : Key = record { name = now (a .name); vendor = now (a .vendor) } in
     sym (l .loop .inv .1 ∙ held-here (a .t2) (a .t3) (a .used) k (l .loop .i) (omega arith) (sym (c .before .is-place .ensures) ∙ c .if2 .taken))
-
-add-i : tie.Need-add-i Inv-loop μ-loop
-add-i c = search needs
-
-loop-less : tie.Need-loop-less Inv-loop μ-loop
-loop-less c = search needs
 
 loop-again : tie.Need-loop-again Inv-loop μ-loop
 loop-again c =
@@ -78,13 +57,13 @@ is-locked-spec =
     μ-loop
     loop-holds
     returns
-    slice-aggregate-is-place
-    mul-is-place
-    array-read-is-place
-    cast-is-place
-    is-place-requires
+    (λ c. search needs)
+    (λ c. search needs)
+    (λ c. search needs)
+    (λ c. search needs)
+    (λ c κs. search needs)
     returns-2
-    add-i
-    loop-less
+    (λ c. search needs)
+    (λ c. search needs)
     loop-again
     returns-3)

@@ -8,38 +8,17 @@ use Rattle.session.proofs.Places.{unnamed, differs, by-vendor}
 use Rattle.session.proofs.is_place.Statement.{statement}
 use Rattle.session.proofs.is_place.Tie as tie
 
-mul-at : tie.Need-mul-at
-mul-at c = search needs
-
-cut-requires : tie.Need-cut-requires
-cut-requires c κs = search needs
-
-is-named-requires : tie.Need-is-named-requires
-is-named-requires c κs = search needs
-
 returns : tie.Need-returns
 returns c =
     let a = c .before .before .before .before .before .before .args in
     let k : Key = record { name = now (a .name); vendor = now (a .vendor) } in
     sym (unnamed (now (a .locks)) (a .place) (a .size) k (c .before .before .cut .ensures) (sym (c .before .is-named .ensures) ∙ not-true (c .before .is-named .result) (c .if1 .taken)))
 
-equal-requires : tie.Need-equal-requires
-equal-requires c κs = search needs
-
 returns-2 : tie.Need-returns-2
 returns-2 c =
     let a = c .before .before .before .before .before .before .before .before .args in
     let k : Key = record { name = now (a .name); vendor = now (a .vendor) } in
     sym (differs (now (a .locks)) (a .place) (a .size) k (c .before .before .before .before .cut .ensures) (sym (c .before .equal .ensures) ∙ not-true (c .before .equal .result) (c .if2 .taken)))
-
-add-cut : tie.Need-add-cut
-add-cut c = search needs
-
-cut-requires-2 : tie.Need-cut-requires-2
-cut-requires-2 c κs = search needs
-
-equal-requires-2 : tie.Need-equal-requires-2
-equal-requires-2 c κs = search needs
 
 returns-3 : tie.Need-returns-3
 returns-3 c =
@@ -55,13 +34,13 @@ pub is-place-spec : {M : Type 1} → statement M
 is-place-spec =
     tie.close
     (tie.spec
-    mul-at
-    cut-requires
-    is-named-requires
+    (λ c. search needs)
+    (λ c κs. search needs)
+    (λ c κs. search needs)
     returns
-    equal-requires
+    (λ c κs. search needs)
     returns-2
-    add-cut
-    cut-requires-2
-    equal-requires-2
+    (λ c. search needs)
+    (λ c κs. search needs)
+    (λ c κs. search needs)
     returns-3)

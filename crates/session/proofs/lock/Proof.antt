@@ -12,12 +12,6 @@ use Rattle.session.proofs.Locking.{wrong-name, wrong-phase, already, no
 use Rattle.session.proofs.lock.Statement.{statement}
 use Rattle.session.proofs.lock.Tie as tie
 
-is-named-requires : tie.Need-is-named-requires
-is-named-requires c κs = search needs
-
-in-boot-requires : tie.Need-in-boot-requires
-in-boot-requires c κs = search needs
-
 returns : tie.Need-returns
 returns c =
     let a = c .before .before .before .before .args in
@@ -30,9 +24,6 @@ returns-2 c =
     let k : Key = record { name = now (a .name); vendor = now (a .vendor) } in
     let n : wellNamed (k .name) ≡ true = sym (c .before .before .before .is-named .ensures) ∙ not-false (c .before .before .before .is-named .result) (c .before .if1 .left) in
     wrong-phase (a .s) k n (sym (c .before .before .in-boot .ensures) ∙ not-true (c .before .before .in-boot .result) (c .if2 .taken))
-
-is-locked-requires : tie.Need-is-locked-requires
-is-locked-requires c κs = search needs
 
 returns-3 : tie.Need-returns-3
 returns-3 c =
@@ -51,9 +42,6 @@ returns-4 c =
     let l : locked (a .s) k ≡ false = locked-held (a .s) k ∙ sym (c .before .before .before .is-locked .ensures) ∙ c .before .before .if3 .left in
     no-space (a .s) k n b l (c .if4 .taken)
 
-with-lock-requires : tie.Need-with-lock-requires
-with-lock-requires c κs = search needs
-
 returns-5 : tie.Need-returns-5
 returns-5 c =
     let a = c .before .before .before .before .before .before .before .before .before .before .before .before .args in
@@ -68,12 +56,12 @@ pub lock-spec : {M : Type 1} → statement M
 lock-spec =
     tie.close
     (tie.spec
-    is-named-requires
-    in-boot-requires
+    (λ c κs. search needs)
+    (λ c κs. search needs)
     returns
     returns-2
-    is-locked-requires
+    (λ c κs. search needs)
     returns-3
     returns-4
-    with-lock-requires
+    (λ c κs. search needs)
     returns-5)

@@ -7,15 +7,6 @@ use borrow.Author.Needs.{needs}
 use Rattle.session.proofs.terms.Statement.{statement}
 use Rattle.session.proofs.terms.Tie as tie
 
-at-runtime-requires : tie.Need-at-runtime-requires
-at-runtime-requires c κs = search needs
-
-is-barred-requires : tie.Need-is-barred-requires
-is-barred-requires c κs = search needs
-
-reserved-requires : tie.Need-reserved-requires
-reserved-requires c κs = search needs
-
 returns : tie.Need-returns
 unfolding termsOf customMode
 returns c =
@@ -23,4 +14,4 @@ returns c =
     rw (runtime-phase (a .s) ∙ sym (c .before .before .before .at-runtime .ensures), sym (c .before .before .is-barred .ensures), reserved-numbers (a .s) ∙ sym (c .reserved .ensures .0))
 
 pub terms-spec : {M : Type 1} → statement M
-terms-spec = tie.close (tie.spec at-runtime-requires is-barred-requires reserved-requires returns)
+terms-spec = tie.close (tie.spec (λ c κs. search needs) (λ c κs. search needs) (λ c κs. search needs) returns)

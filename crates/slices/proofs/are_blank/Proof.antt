@@ -25,24 +25,6 @@ abbrev μ-loop : tie.MeasureT-loop
 loop-holds : tie.Need-loop-holds Inv-loop μ-loop
 loop-holds c = (omega arith, omega arith, refl)
 
-shared-slice-read-both : tie.Need-shared-slice-read-both Inv-loop μ-loop
-shared-slice-read-both c = search needs
-
-shared-slice-read-both-2 : tie.Need-shared-slice-read-both-2 Inv-loop μ-loop
-shared-slice-read-both-2 c = search needs
-
-shared-slice-read-both-3 : tie.Need-shared-slice-read-both-3 Inv-loop μ-loop
-shared-slice-read-both-3 c = search needs
-
-shared-slice-read-both-4 : tie.Need-shared-slice-read-both-4 Inv-loop μ-loop
-shared-slice-read-both-4 c = search needs
-
-add-i : tie.Need-add-i Inv-loop μ-loop
-add-i c = search needs
-
-loop-less : tie.Need-loop-less Inv-loop μ-loop
-loop-less c = search needs
-
 loop-again : tie.Need-loop-again Inv-loop μ-loop
 loop-again c =
     let k = c .before .before .before .before .before in
@@ -73,11 +55,11 @@ are-blank-spec =
     Inv-loop
     μ-loop
     loop-holds
-    shared-slice-read-both
-    shared-slice-read-both-2
-    shared-slice-read-both-3
-    shared-slice-read-both-4
-    add-i
-    loop-less
+    (λ c. search needs)
+    (λ c. search needs)
+    (λ c. search needs)
+    (λ c. search needs)
+    (λ c. search needs)
+    (λ c. search needs)
     loop-again
     returns)

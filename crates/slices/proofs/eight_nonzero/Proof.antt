@@ -4,12 +4,6 @@ use borrow.Author.Needs.{needs}
 use Rattle.slices.proofs.eight_nonzero.Statement.{statement}
 use Rattle.slices.proofs.eight_nonzero.Tie as tie
 
-four-nonzero-requires : tie.Need-four-nonzero-requires
-four-nonzero-requires c κs = search needs
-
-four-nonzero-requires-2 : tie.Need-four-nonzero-requires-2
-four-nonzero-requires-2 c κs = search needs
-
 returns : tie.Need-returns
 returns c =
     λ t.
@@ -17,4 +11,4 @@ returns c =
     (c .before .four-nonzero .ensures (p .0), c .four-nonzero2 .ensures (p .1))
 
 pub eight-nonzero-spec : {M : Type 1} → statement M
-eight-nonzero-spec = tie.close (tie.spec four-nonzero-requires four-nonzero-requires-2 returns)
+eight-nonzero-spec = tie.close (tie.spec (λ c κs. search needs) (λ c κs. search needs) returns)

@@ -26,9 +26,6 @@ loop-holds c =
     let a = c .before .before .before .args in
     (omega arith, agree-end (now (a .a)) (now (a .b)) (c .if1 .left))
 
-standing-eight-requires : tie.Need-standing-eight-requires Inv-loop μ-loop
-standing-eight-requires c κs = search needs
-
 standing-eight-requires-2 : tie.Need-standing-eight-requires-2 Inv-loop μ-loop
 standing-eight-requires-2 c κs =
     let l = c .before .before in
@@ -43,9 +40,6 @@ returns-2 c =
     sym (differ (now (a .a)) (now (a .b)) (λ s. u64At s i)
     (λ e. c .if2 .taken (c .before .before .standing-eight .ensures ∙ e ∙ sym (c .before .standing-eight2 .ensures))))
 
-loop-less : tie.Need-loop-less Inv-loop μ-loop
-loop-less c = search needs
-
 loop-again : tie.Need-loop-again Inv-loop μ-loop
 loop-again c =
     let l = c .before .before .before .before in
@@ -56,12 +50,6 @@ loop-again c =
     let e = sym (c .before .before .standing-eight .ensures) ∙ c .if2 .left ∙ c .before .standing-eight2 .ensures in
     (omega arith, agree-eight (now (a .a)) (now (a .b)) hx hy (l .loop .i - 8) (l .loop .i) (omega arith) (l .loop .inv .1) e)
 
-equal-front-requires : tie.Need-equal-front-requires Inv-loop μ-loop
-equal-front-requires c κs = search needs
-
-returns-3 : tie.Need-returns-3 Inv-loop μ-loop
-returns-3 c = search needs
-
 pub equal-spec : {M : Type 1} → statement M
 equal-spec =
     tie.close
@@ -70,10 +58,10 @@ equal-spec =
     μ-loop
     returns
     loop-holds
-    standing-eight-requires
+    (λ c κs. search needs)
     standing-eight-requires-2
     returns-2
-    loop-less
+    (λ c. search needs)
     loop-again
-    equal-front-requires
-    returns-3)
+    (λ c κs. search needs)
+    (λ c. search needs))

@@ -15,17 +15,11 @@ returns c =
     let a = c .before .before .args in
     rw (lt-leb (a .i + 4) (length (now (a .s))) (omega arith))
 
-sub-if2 : tie.Need-sub-if2
-sub-if2 c = search needs
-
 returns-2 : tie.Need-returns-2
 unfolding fourAt
 returns-2 c =
     let a = c .before .before .before .args in
     rw (lt-leb (a .i + 4) (length (now (a .s))) (omega arith))
-
-word-requires : tie.Need-word-requires
-word-requires c κs = search needs
 
 returns-3 : tie.Need-returns-3
 unfolding fourAt
@@ -34,4 +28,4 @@ returns-3 c =
     rw (le-leb (a .i + 4) (length (now (a .s))) (omega arith)) (c .word .ensures .0)
 
 pub four-spec : {M : Type 1} → statement M
-four-spec = tie.close (tie.spec returns sub-if2 returns-2 word-requires returns-3)
+four-spec = tie.close (tie.spec returns (λ c. search needs) returns-2 (λ c κs. search needs) returns-3)

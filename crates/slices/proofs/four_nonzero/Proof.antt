@@ -5,27 +5,6 @@ use Rattle.slices.proofs.Windows.{window}
 use Rattle.slices.proofs.four_nonzero.Statement.{statement}
 use Rattle.slices.proofs.four_nonzero.Tie as tie
 
-character-requires : tie.Need-character-requires
-character-requires c κs = search needs
-
-add-character : tie.Need-add-character
-add-character c = search needs
-
-character-requires-2 : tie.Need-character-requires-2
-character-requires-2 c κs = search needs
-
-add-character-2 : tie.Need-add-character-2
-add-character-2 c = search needs
-
-character-requires-3 : tie.Need-character-requires-3
-character-requires-3 c κs = search needs
-
-add-character-3 : tie.Need-add-character-3
-add-character-3 c = search needs
-
-character-requires-4 : tie.Need-character-requires-4
-character-requires-4 c κs = search needs
-
 returns : tie.Need-returns
 returns c =
     let k = c .before .before .before in
@@ -38,11 +17,11 @@ pub four-nonzero-spec : {M : Type 1} → statement M
 four-nonzero-spec =
     tie.close
     (tie.spec
-    character-requires
-    add-character
-    character-requires-2
-    add-character-2
-    character-requires-3
-    add-character-3
-    character-requires-4
+    (λ c κs. search needs)
+    (λ c. search needs)
+    (λ c κs. search needs)
+    (λ c. search needs)
+    (λ c κs. search needs)
+    (λ c. search needs)
+    (λ c κs. search needs)
     returns)

@@ -10,23 +10,11 @@ use borrow.Author.Needs.{needs}
 use Rattle.slices.proofs.from.Statement.{statement}
 use Rattle.slices.proofs.from.Tie as tie
 
-slice-aggregate-result : tie.Need-slice-aggregate-result
-slice-aggregate-result c = search needs
-
 returns : tie.Need-returns
 returns c =
     let a = c .before .before .args in
     let past : length (now (a .s)) ≤ a .start = omega arith in
     sym (drop-of-length-le (now (a .s)) past)
-
-sub-result : tie.Need-sub-result
-sub-result c = search needs
-
-part-result-start : tie.Need-part-result-start
-part-result-start c = search needs
-
-part-result-end : tie.Need-part-result-end
-part-result-end c = search needs
 
 returns-2 : tie.Need-returns-2
 returns-2 c =
@@ -34,4 +22,4 @@ returns-2 c =
     take-all (length (now (a .s)) - a .start) (drop (a .start) (now (a .s))) (le-of-eq (length-drop (a .start) (now (a .s))))
 
 pub from-spec : {M : Type 1} → statement M
-from-spec = tie.close (tie.spec slice-aggregate-result returns sub-result part-result-start part-result-end returns-2)
+from-spec = tie.close (tie.spec (λ c. search needs) returns (λ c. search needs) (λ c. search needs) (λ c. search needs) returns-2)

@@ -13,24 +13,6 @@ use Rattle.slices.proofs.Blank.{blank-cuts}
 use Rattle.slices.proofs.is_blank.Statement.{statement}
 use Rattle.slices.proofs.is_blank.Tie as tie
 
-cut-requires : tie.Need-cut-requires
-cut-requires c κs = search needs
-
-cut-requires-2 : tie.Need-cut-requires-2
-cut-requires-2 c κs = search needs
-
-mul-cut : tie.Need-mul-cut
-mul-cut c = search needs
-
-cut-requires-3 : tie.Need-cut-requires-3
-cut-requires-3 c κs = search needs
-
-mul-cut-2 : tie.Need-mul-cut-2
-mul-cut-2 c = search needs
-
-cut-requires-4 : tie.Need-cut-requires-4
-cut-requires-4 c κs = search needs
-
 are-blank-requires : tie.Need-are-blank-requires
 are-blank-requires c κs =
     let s = now (c .before .before .before .before .before .args .s) in
@@ -40,15 +22,6 @@ are-blank-requires c κs =
       ap length (c .before .cut3 .ensures) ∙ length-part (2 * q) q s (omega arith) ∙ sym first,
       ap length (c .cut4 .ensures) ∙ length-part (3 * q) q s (omega arith) ∙ sym first,
     )
-
-mul-from : tie.Need-mul-from
-mul-from c = search needs
-
-from-requires : tie.Need-from-requires
-from-requires c κs = search needs
-
-is-blank-rest-requires : tie.Need-is-blank-rest-requires
-is-blank-rest-requires c κs = search needs
 
 returns : tie.Need-returns
 returns c =
@@ -71,15 +44,15 @@ pub is-blank-spec : {M : Type 1} → statement M
 is-blank-spec =
     tie.close
     (tie.spec
-    cut-requires
-    cut-requires-2
-    mul-cut
-    cut-requires-3
-    mul-cut-2
-    cut-requires-4
+    (λ c κs. search needs)
+    (λ c κs. search needs)
+    (λ c. search needs)
+    (λ c κs. search needs)
+    (λ c. search needs)
+    (λ c κs. search needs)
     are-blank-requires
-    mul-from
-    from-requires
-    is-blank-rest-requires
+    (λ c. search needs)
+    (λ c κs. search needs)
+    (λ c κs. search needs)
     returns
     returns-2)

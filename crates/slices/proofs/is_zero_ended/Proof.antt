@@ -11,17 +11,8 @@ use Rattle.slices.proofs.Windows.{number-zero, nonzero-join, nonzero-le
 use Rattle.slices.proofs.is_zero_ended.Statement.{statement}
 use Rattle.slices.proofs.is_zero_ended.Tie as tie
 
-sub-character : tie.Need-sub-character
-sub-character c = search needs
-
-character-requires : tie.Need-character-requires
-character-requires c κs = search needs
-
 returns : tie.Need-returns
 returns c = λ e. absurd (true≢false (sym e))
-
-short-nonzero-requires : tie.Need-short-nonzero-requires
-short-nonzero-requires c κs = search needs
 
 returns-2 : tie.Need-returns-2
 returns-2 c =
@@ -32,9 +23,6 @@ returns-2 c =
     let z = number-zero (getD s (n - 2) 0) (getD s (n - 2 + 1) 0) (sym (k .before .character .ensures .0) ∙ k .if1 .left) in
     λ t. well-named s n refl (c .short-nonzero .ensures t) z (p .0) (p .1) (p .2)
 
-eight-nonzero-requires : tie.Need-eight-nonzero-requires
-eight-nonzero-requires c κs = search needs
-
 returns-3 : tie.Need-returns-3
 returns-3 c =
     let k = c .before .before .before .before in
@@ -44,9 +32,6 @@ returns-3 c =
     let z = number-zero (getD s (n - 2) 0) (getD s (n - 2 + 1) 0) (sym (k .before .character .ensures .0) ∙ k .if1 .left) in
     let w = c .before .before .eight-nonzero .ensures (c .before .if3 .taken) in
     λ t. well-named s n refl (nonzero-less s 0 (n - 10 + 8) (n - 2) (nonzero-join s 0 8 (n - 10) (n - 10 + 8) (w .0) (w .1) (omega arith)) (omega arith)) z (p .0) (p .1) (p .2)
-
-inner-nonzero-requires : tie.Need-inner-nonzero-requires
-inner-nonzero-requires c κs = search needs
 
 returns-4 : tie.Need-returns-4
 returns-4 c =
@@ -66,13 +51,13 @@ pub is-zero-ended-spec : {M : Type 1} → statement M
 is-zero-ended-spec =
     tie.close
     (tie.spec
-    sub-character
-    character-requires
+    (λ c. search needs)
+    (λ c κs. search needs)
     returns
-    short-nonzero-requires
+    (λ c κs. search needs)
     returns-2
-    eight-nonzero-requires
+    (λ c κs. search needs)
     returns-3
-    inner-nonzero-requires
+    (λ c κs. search needs)
     returns-4
     returns-5)

@@ -10,12 +10,6 @@ use borrow.Author.Needs.{needs}
 use Rattle.startup.proofs.compose_all.Statement.{statement}
 use Rattle.startup.proofs.compose_all.Tie as tie
 
-mul-cut : tie.Need-mul-cut
-mul-cut c = search needs
-
-cut-requires : tie.Need-cut-requires
-cut-requires c κs = search needs
-
 put-values-requires : tie.Need-put-values-requires
 unfolding block
 put-values-requires c κs =
@@ -23,9 +17,6 @@ put-values-requires c κs =
     let i = now (s .args .image) in
     let n = ap length (c .before .cut .ensures ∙ its-region i (s .args .b) (s .pre .0 .0) (s .pre .0 .1) (s .pre .0 .2)) ∙ region-long i (s .args .b) (s .pre .0 .0) (s .pre .0 .1) (s .pre .0 .2) in
     omega (arith, s .pre .0 .1)
-
-mul-put-blank : tie.Need-mul-put-blank
-mul-put-blank c = search needs
 
 sub-put-blank : tie.Need-sub-put-blank
 unfolding block
@@ -39,9 +30,6 @@ put-blank-requires c κs =
     let s = c .before .before .before .before .before .before .before .before in
     pad-asked (now (s .args .image)) (s .args .b) (s .pre .0 .0) (s .pre .0 .1) (s .pre .0 .2) (s .pre .1) (c .before .before .before .before .before .cut .ensures) (c .before .before .before .put-values .ensures) (s .pre .2) .1
 
-same-length : tie.Need-same-length
-same-length c = search needs
-
 returns : tie.Need-returns
 unfolding block
 returns c =
@@ -52,11 +40,11 @@ pub compose-all-spec : {M : Type 1} → statement M
 compose-all-spec =
     tie.close
     (tie.spec
-    mul-cut
-    cut-requires
+    (λ c. search needs)
+    (λ c κs. search needs)
     put-values-requires
-    mul-put-blank
+    (λ c. search needs)
     sub-put-blank
     put-blank-requires
-    same-length
+    (λ c. search needs)
     returns)

@@ -29,12 +29,6 @@ mul-cut-2 c =
     let h = sized (now (s .args .image)) (s .args .b) true (accepts (now (s .args .image)) (s .args .b) (s .args .looked) false true (s .pre .0)) .1 in
     omega arith
 
-cut-requires : tie.Need-cut-requires
-cut-requires c κs = search needs
-
-put-bytes-requires : tie.Need-put-bytes-requires
-put-bytes-requires c κs = search needs
-
 sub-resume : tie.Need-sub-resume
 sub-resume c =
     let s = c .before .before .before .before .before .before .before .before in
@@ -50,12 +44,6 @@ resume-requires c κs =
     let f = accepts i (s .args .b) (s .args .looked) false true (s .pre .0) in
     let z = sized i (s .args .b) true f in
     (z .1, last-within i (s .args .b) (z .0) (z .1) (z .2) (looks i (s .args .b) (s .args .looked) false true (s .pre .0)) (f .waits))
-
-accept-requires : tie.Need-accept-requires
-accept-requires c κs = search needs
-
-same-length : tie.Need-same-length
-same-length c = search needs
 
 returns : tie.Need-returns
 returns c =
@@ -73,10 +61,10 @@ resume-spec =
     mul-cut
     add-cut
     mul-cut-2
-    cut-requires
-    put-bytes-requires
+    (λ c κs. search needs)
+    (λ c κs. search needs)
     sub-resume
     resume-requires
-    accept-requires
-    same-length
+    (λ c κs. search needs)
+    (λ c. search needs)
     returns)

@@ -8,26 +8,11 @@ use borrow.Author.Needs.{needs}
 use Rattle.startup.proofs.spare_step.Statement.{statement}
 use Rattle.startup.proofs.spare_step.Tie as tie
 
-mul-size : tie.Need-mul-size
-mul-size c = search needs
-
-add-cut : tie.Need-add-cut
-add-cut c = search needs
-
-cut-requires : tie.Need-cut-requires
-cut-requires c κs = search needs
-
-is-blank-requires : tie.Need-is-blank-requires
-is-blank-requires c κs = search needs
-
 returns : tie.Need-returns
 unfolding spareStep block
 returns c =
     let s = c .before .before .before .before in
     rw (blank-told (now (s .args .image)) (s .args .b) (s .pre .0) (s .pre .1) (s .pre .2) (c .before .before .cut .ensures) (c .before .is-blank .ensures) ∙ c .if1 .taken)
-
-add-t6 : tie.Need-add-t6
-add-t6 c = search needs
 
 returns-2 : tie.Need-returns-2
 unfolding spareStep block
@@ -37,4 +22,4 @@ returns-2 c =
 
 pub spare-step-spec : {M : Type 1} → statement M
 spare-step-spec =
-    tie.close (tie.spec mul-size add-cut cut-requires is-blank-requires returns add-t6 returns-2)
+    tie.close (tie.spec (λ c. search needs) (λ c. search needs) (λ c κs. search needs) (λ c κs. search needs) returns (λ c. search needs) returns-2)

@@ -17,15 +17,6 @@ spare-step-requires c κs =
     let s = c .before .before in
     sized (now (s .args .image)) (s .args .b) false (accepts (now (s .args .image)) (s .args .b) (s .args .looked) (s .args .clean) false (s .pre .0))
 
-work-left-requires : tie.Need-work-left-requires
-work-left-requires c κs = search needs
-
-rest-requires : tie.Need-rest-requires
-rest-requires c κs = search needs
-
-accept-requires : tie.Need-accept-requires
-accept-requires c κs = search needs
-
 returns : tie.Need-returns
 returns c =
     let s = c .before .before .before .before .before .before .before in
@@ -47,12 +38,6 @@ compact-requires c κs =
     let s = c .before .before .before .before .before .before .before .before .before in
     sized (now (s .args .image)) (s .args .b) false (accepts (now (s .args .image)) (s .args .b) (s .args .looked) (s .args .clean) false (s .pre .0)) .1
 
-accept-requires-2 : tie.Need-accept-requires-2
-accept-requires-2 c κs = search needs
-
-same-length : tie.Need-same-length
-same-length c = search needs
-
 returns-2 : tie.Need-returns-2
 returns-2 c =
     let s = c .before .before .before .before .before .before .before .before .before .before .before in
@@ -71,12 +56,12 @@ tidy-spec =
     tie.close
     (tie.spec
     spare-step-requires
-    work-left-requires
-    rest-requires
-    accept-requires
+    (λ c κs. search needs)
+    (λ c κs. search needs)
+    (λ c κs. search needs)
     returns
     compose-all-requires
     compact-requires
-    accept-requires-2
-    same-length
+    (λ c κs. search needs)
+    (λ c. search needs)
     returns-2)

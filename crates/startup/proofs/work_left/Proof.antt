@@ -5,9 +5,6 @@ use borrow.Author.Needs.{needs}
 use Rattle.startup.proofs.work_left.Statement.{statement}
 use Rattle.startup.proofs.work_left.Tie as tie
 
-is-idle-requires : tie.Need-is-idle-requires
-is-idle-requires c κs = search needs
-
 returns : tie.Need-returns
 unfolding workStep
 returns c = let h = sym (c .before .is-idle .ensures) ∙ c .if1 .taken in (rw h, rw h)
@@ -17,4 +14,4 @@ unfolding workStep
 returns-2 c = let h = sym (c .before .is-idle .ensures) ∙ c .if1 .left in (rw h, rw h)
 
 pub work-left-spec : {M : Type 1} → statement M
-work-left-spec = tie.close (tie.spec is-idle-requires returns returns-2)
+work-left-spec = tie.close (tie.spec (λ c κs. search needs) returns returns-2)

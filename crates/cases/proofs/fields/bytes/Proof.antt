@@ -6,13 +6,10 @@ use borrow.Author.Needs.{needs}
 use Rattle.cases.proofs.fields.bytes.Statement.{statement}
 use Rattle.cases.proofs.fields.bytes.Tie as tie
 
-cut-requires : tie.Need-cut-requires
-cut-requires c κs = search needs
-
 returns : tie.Need-returns
 returns c =
     let s = drop (c .before .before .args .at) (now (c .before .before .args .s)) in
     rw (c .cut .ensures, length-take (c .before .before .args .size) s) (min-le-left (c .before .before .args .size) (length s))
 
 pub bytes-spec : {M : Type 1} → statement M
-bytes-spec = tie.close (tie.spec cut-requires returns)
+bytes-spec = tie.close (tie.spec (λ c κs. search needs) returns)

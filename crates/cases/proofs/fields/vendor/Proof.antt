@@ -12,41 +12,17 @@ Inv-loop s at field guid₀ i₀ guid i = (i ≤ 16) × (length guid ≡ 16)
 abbrev μ-loop : tie.MeasureT-loop
 μ-loop s at field guid₀ i₀ guid i = 16 - i
 
-cut-requires : tie.Need-cut-requires Inv-loop μ-loop
-cut-requires c κs = search needs
-
-loop-holds : tie.Need-loop-holds Inv-loop μ-loop
-loop-holds c = search needs
-
-byte-requires : tie.Need-byte-requires Inv-loop μ-loop
-byte-requires c κs = search needs
-
-array-write-guid : tie.Need-array-write-guid Inv-loop μ-loop
-array-write-guid c = search needs
-
-add-i : tie.Need-add-i Inv-loop μ-loop
-add-i c = search needs
-
-loop-less : tie.Need-loop-less Inv-loop μ-loop
-loop-less c = search needs
-
-loop-again : tie.Need-loop-again Inv-loop μ-loop
-loop-again c = search needs
-
-returns : tie.Need-returns Inv-loop μ-loop
-returns c = search needs
-
 pub vendor-spec : {M : Type 1} → statement M
 vendor-spec =
     tie.close
     (tie.spec
     Inv-loop
     μ-loop
-    cut-requires
-    loop-holds
-    byte-requires
-    array-write-guid
-    add-i
-    loop-less
-    loop-again
-    returns)
+    (λ c κs. search needs)
+    (λ c. search needs)
+    (λ c κs. search needs)
+    (λ c. search needs)
+    (λ c. search needs)
+    (λ c. search needs)
+    (λ c. search needs)
+    (λ c. search needs))

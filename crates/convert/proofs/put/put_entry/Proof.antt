@@ -11,30 +11,6 @@ use borrow.Author.Needs.{needs}
 use Rattle.convert.proofs.put.put_entry.Statement.{statement}
 use Rattle.convert.proofs.put.put_entry.Tie as tie
 
-put-header-requires : tie.Need-put-header-requires
-put-header-requires c κs = search needs
-
-put-bytes-requires : tie.Need-put-bytes-requires
-put-bytes-requires c κs = search needs
-
-put-bytes-requires-2 : tie.Need-put-bytes-requires-2
-put-bytes-requires-2 c κs = search needs
-
-header-requires : tie.Need-header-requires
-header-requires c κs = search needs
-
-add-put-padding : tie.Need-add-put-padding
-add-put-padding c = search needs
-
-add-put-padding-2 : tie.Need-add-put-padding-2
-add-put-padding-2 c = search needs
-
-put-padding-requires : tie.Need-put-padding-requires
-put-padding-requires c κs = search needs
-
-same-length : tie.Need-same-length
-same-length c = search needs
-
 returns : tie.Need-returns
 returns c =
     let b = c .before .before .before .before .before .before .before .before .before .before .before in
@@ -50,12 +26,12 @@ pub put-entry-spec : {M : Type 1} → statement M
 put-entry-spec =
     tie.close
     (tie.spec
-    put-header-requires
-    put-bytes-requires
-    put-bytes-requires-2
-    header-requires
-    add-put-padding
-    add-put-padding-2
-    put-padding-requires
-    same-length
+    (λ c κs. search needs)
+    (λ c κs. search needs)
+    (λ c κs. search needs)
+    (λ c κs. search needs)
+    (λ c. search needs)
+    (λ c. search needs)
+    (λ c κs. search needs)
+    (λ c. search needs)
     returns)

@@ -10,30 +10,6 @@ use borrow.Author.Needs.{needs}
 use Rattle.convert.proofs.put.put_header.Statement.{statement}
 use Rattle.convert.proofs.put.put_header.Tie as tie
 
-front-requires : tie.Need-front-requires
-front-requires c κs = search needs
-
-slice-aggregate-put-bytes : tie.Need-slice-aggregate-put-bytes
-slice-aggregate-put-bytes c = search needs
-
-put-bytes-requires : tie.Need-put-bytes-requires
-put-bytes-requires c κs = search needs
-
-cast-put-fill : tie.Need-cast-put-fill
-cast-put-fill c = search needs
-
-mul-put-fill : tie.Need-mul-put-fill
-mul-put-fill c = search needs
-
-put-fill-requires : tie.Need-put-fill-requires
-put-fill-requires c κs = search needs
-
-sizes-requires : tie.Need-sizes-requires
-sizes-requires c κs = search needs
-
-slice-aggregate-put-bytes-2 : tie.Need-slice-aggregate-put-bytes-2
-slice-aggregate-put-bytes-2 c = search needs
-
 put-bytes-requires-2 : tie.Need-put-bytes-requires-2
 put-bytes-requires-2 c κs =
     let b = c .before .before .before .before .before .before .before .before .before .before in
@@ -53,9 +29,6 @@ put-bytes-requires-3 c κs =
     let j = ap length (c .before .before .before .before .before .before .sizes .ensures) ∙ length-sizes (a .name) (a .size) in
     omega (arith, i, j, k, c .before .before .before .put-bytes2 .ensures .place, d .put-fill .ensures .place, b .put-bytes .ensures .place)
 
-same-length : tie.Need-same-length
-same-length c = search needs
-
 returns : tie.Need-returns
 returns c =
     let d = c .before .before .before .before .before .before .before .before .before .before .before .before in
@@ -70,15 +43,15 @@ pub put-header-spec : {M : Type 1} → statement M
 put-header-spec =
     tie.close
     (tie.spec
-    front-requires
-    slice-aggregate-put-bytes
-    put-bytes-requires
-    cast-put-fill
-    mul-put-fill
-    put-fill-requires
-    sizes-requires
-    slice-aggregate-put-bytes-2
+    (λ c κs. search needs)
+    (λ c. search needs)
+    (λ c κs. search needs)
+    (λ c. search needs)
+    (λ c. search needs)
+    (λ c κs. search needs)
+    (λ c κs. search needs)
+    (λ c. search needs)
     put-bytes-requires-2
     put-bytes-requires-3
-    same-length
+    (λ c. search needs)
     returns)

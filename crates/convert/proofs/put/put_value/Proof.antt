@@ -8,23 +8,11 @@ use borrow.Author.Needs.{needs}
 use Rattle.convert.proofs.put.put_value.Statement.{statement}
 use Rattle.convert.proofs.put.put_value.Tie as tie
 
-name-of-in-requires : tie.Need-name-of-in-requires
-name-of-in-requires c κs = search needs
-
-vendor-of-in-requires : tie.Need-vendor-of-in-requires
-vendor-of-in-requires c κs = search needs
-
-data-of-in-requires : tie.Need-data-of-in-requires
-data-of-in-requires c κs = search needs
-
 put-entry-requires : tie.Need-put-entry-requires
 put-entry-requires c κs = let a = c .before .before .before .before .before .before .args in
     let s = short (a .from) (a .to) (now (a .region)) (a .place) (a .e) (c .before .before .before .name-of-in .ensures)
     (c .before .before .vendor-of-in .ensures) (c .before .data-of-in .ensures) in
     (omega arith, omega (arith, s .name-short), omega (arith, s .vendor-short), omega (arith, s .bytes-short))
-
-same-length : tie.Need-same-length
-same-length c = search needs
 
 returns : tie.Need-returns
 returns c = let a = c .before .before .before .before .before .before .before .before .before .args in
@@ -41,9 +29,9 @@ pub put-value-spec : {M : Type 1} → statement M
 put-value-spec =
     tie.close
     (tie.spec
-    name-of-in-requires
-    vendor-of-in-requires
-    data-of-in-requires
+    (λ c κs. search needs)
+    (λ c κs. search needs)
+    (λ c κs. search needs)
     put-entry-requires
-    same-length
+    (λ c. search needs)
     returns)

@@ -23,22 +23,10 @@ loop-holds : tie.Need-loop-holds Inv-loop μ-loop
 loop-holds c = let a = c .before .args in
     ap stamped (listed-all (a .y) (now (a .region)))
 
-next-value-in-requires : tie.Need-next-value-in-requires Inv-loop μ-loop
-next-value-in-requires c κs = search needs
-
-enum-known-v : tie.Need-enum-known-v Inv-loop μ-loop
-enum-known-v c = search needs
-
-enum-told : tie.Need-enum-told Inv-loop μ-loop
-enum-told c = search needs
-
 returns : tie.Need-returns Inv-loop μ-loop
 returns c =
     let b = c .before .before in
     sym (b .before .loop .inv ∙ ap stamped (listed-nothing (b .next-value-in .ensures) (c .enum-told .given .1) .list))
-
-time-based-requires : tie.Need-time-based-requires Inv-loop μ-loop
-time-based-requires c κs = search needs
 
 returns-2 : tie.Need-returns-2 Inv-loop μ-loop
 returns-2 c =
@@ -64,11 +52,11 @@ holds-stamped-spec =
     Inv-loop
     μ-loop
     loop-holds
-    next-value-in-requires
-    enum-known-v
-    enum-told
+    (λ c κs. search needs)
+    (λ c. search needs)
+    (λ c. search needs)
     returns
-    time-based-requires
+    (λ c κs. search needs)
     returns-2
     loop-less
     loop-again)

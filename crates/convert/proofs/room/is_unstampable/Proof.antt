@@ -6,15 +6,9 @@ use borrow.Author.Needs.{needs}
 use Rattle.convert.proofs.room.is_unstampable.Statement.{statement}
 use Rattle.convert.proofs.room.is_unstampable.Tie as tie
 
-is-stamped-requires : tie.Need-is-stamped-requires
-is-stamped-requires c κs = search needs
-
 returns : tie.Need-returns
 unfolding rule20
 returns c = rw (sym (c .before .is-stamped .ensures) ∙ c .if1 .taken)
-
-holds-stamped-requires : tie.Need-holds-stamped-requires
-holds-stamped-requires c κs = search needs
 
 returns-2 : tie.Need-returns-2
 unfolding rule20
@@ -22,4 +16,4 @@ returns-2 c = c .holds-stamped .ensures ∙ rw (sym (c .before .before .is-stamp
 
 pub is-unstampable-spec : {M : Type 1} → statement M
 is-unstampable-spec =
-    tie.close (tie.spec is-stamped-requires returns holds-stamped-requires returns-2)
+    tie.close (tie.spec (λ c κs. search needs) returns (λ c κs. search needs) returns-2)

@@ -6,12 +6,6 @@ use borrow.Author.Needs.{needs}
 use Rattle.decision.proofs.change.after.Statement.{statement}
 use Rattle.decision.proofs.change.after.Tie as tie
 
-sums-requires : tie.Need-sums-requires
-sums-requires c κs = search needs
-
-freed-requires : tie.Need-freed-requires
-freed-requires c κs = search needs
-
 sub-t8 : tie.Need-sub-t8
 sub-t8 c =
     let p = c .before .before .before .before .before .before .pre in
@@ -75,8 +69,8 @@ pub after-spec : {M : Type 1} → statement M
 after-spec =
     tie.close
     (tie.spec
-    sums-requires
-    freed-requires
+    (λ c κs. search needs)
+    (λ c κs. search needs)
     sub-t8
     add-t9
     sub-t10

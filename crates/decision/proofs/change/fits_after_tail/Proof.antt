@@ -10,35 +10,11 @@ use borrow.Author.Needs.{needs}
 use Rattle.decision.proofs.change.fits_after_tail.Statement.{statement}
 use Rattle.decision.proofs.change.fits_after_tail.Tie as tie
 
-is-error-record-requires : tie.Need-is-error-record-requires
-is-error-record-requires c κs = search needs
-
 returns : tie.Need-returns
 returns c = λ e. absurd (true≢false (sym e))
 
-cast-if2 : tie.Need-cast-if2
-cast-if2 c = search needs
-
 returns-2 : tie.Need-returns-2
 returns-2 c = λ e. absurd (true≢false (sym e))
-
-entry-size-requires : tie.Need-entry-size-requires
-entry-size-requires c κs = search needs
-
-add-taken : tie.Need-add-taken
-add-taken c = search needs
-
-cast-result : tie.Need-cast-result
-cast-result c = search needs
-
-add-result : tie.Need-add-result
-add-result c = search needs
-
-cast-result-2 : tie.Need-cast-result-2
-cast-result-2 c = search needs
-
-add-result-2 : tie.Need-add-result-2
-add-result-2 c = search needs
 
 returns-3 : tie.Need-returns-3
 returns-3 c =
@@ -53,14 +29,14 @@ pub fits-after-tail-spec : {M : Type 1} → statement M
 fits-after-tail-spec =
     tie.close
     (tie.spec
-    is-error-record-requires
+    (λ c κs. search needs)
     returns
-    cast-if2
+    (λ c. search needs)
     returns-2
-    entry-size-requires
-    add-taken
-    cast-result
-    add-result
-    cast-result-2
-    add-result-2
+    (λ c κs. search needs)
+    (λ c. search needs)
+    (λ c. search needs)
+    (λ c. search needs)
+    (λ c. search needs)
+    (λ c. search needs)
     returns-3)

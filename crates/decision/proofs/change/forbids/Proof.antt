@@ -14,12 +14,6 @@ use Rattle.decision.proofs.change.forbids.Tie as tie
 returns : tie.Need-returns
 returns c = sym (none-used _ _ _ _ (c .if1 .taken))
 
-leaves-requires : tie.Need-leaves-requires
-leaves-requires c κs = search needs
-
-breaks-requires : tie.Need-breaks-requires
-breaks-requires c κs = search needs
-
 returns-2 : tie.Need-returns-2
 returns-2 c =
     let a = c .before .before .before .before .before .before .before .args in
@@ -28,4 +22,4 @@ returns-2 c =
 
 pub forbids-spec : {M : Type 1} → statement M
 forbids-spec =
-    tie.close (tie.spec returns leaves-requires breaks-requires returns-2)
+    tie.close (tie.spec returns (λ c κs. search needs) (λ c κs. search needs) returns-2)

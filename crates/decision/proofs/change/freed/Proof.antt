@@ -5,21 +5,9 @@ use borrow.Author.Needs.{needs}
 use Rattle.decision.proofs.change.freed.Statement.{statement}
 use Rattle.decision.proofs.change.freed.Tie as tie
 
-enum-known-old : tie.Need-enum-known-old
-enum-known-old c = search needs
-
-size-of-requires : tie.Need-size-of-requires
-size-of-requires c κs = search needs
-
-is-error-record-requires : tie.Need-is-error-record-requires
-is-error-record-requires c κs = search needs
-
 returns : tie.Need-returns
 unfolding oldRecords oldOthers
 returns c = rw (c .before .before .before .before .old .given .1, sym (c .before .is-error-record .ensures) ∙ c .if1 .taken) (c .before .before .size-of .ensures, refl)
-
-enum-told : tie.Need-enum-told
-enum-told c = search needs
 
 returns-2 : tie.Need-returns-2
 unfolding oldRecords oldOthers
@@ -33,10 +21,10 @@ pub freed-spec : {M : Type 1} → statement M
 freed-spec =
     tie.close
     (tie.spec
-    enum-known-old
-    size-of-requires
-    is-error-record-requires
+    (λ c. search needs)
+    (λ c κs. search needs)
+    (λ c κs. search needs)
     returns
-    enum-told
+    (λ c. search needs)
     returns-2
     returns-3)

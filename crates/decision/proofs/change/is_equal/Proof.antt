@@ -8,18 +8,6 @@ use Rattle.model.specs.Change.{equalTo}
 use Rattle.decision.proofs.change.is_equal.Statement.{statement}
 use Rattle.decision.proofs.change.is_equal.Tie as tie
 
-enum-known-old : tie.Need-enum-known-old
-enum-known-old c = search needs
-
-data-of-requires : tie.Need-data-of-requires
-data-of-requires c κs = search needs
-
-equal-requires : tie.Need-equal-requires
-equal-requires c κs = search needs
-
-enum-told : tie.Need-enum-told
-enum-told c = search needs
-
 returns : tie.Need-returns
 unfolding equalBy
 returns c =
@@ -35,4 +23,4 @@ returns-2 c = rw (c .enum-told .given .1)
 
 pub is-equal-spec : {M : Type 1} → statement M
 is-equal-spec =
-    tie.close (tie.spec enum-known-old data-of-requires equal-requires enum-told returns returns-2)
+    tie.close (tie.spec (λ c. search needs) (λ c κs. search needs) (λ c κs. search needs) (λ c. search needs) returns returns-2)

@@ -3,17 +3,11 @@ use borrow.Author.Needs.{needs}
 use Rattle.decision.proofs.change.kept_data.Statement.{statement}
 use Rattle.decision.proofs.change.kept_data.Tie as tie
 
-old-data-requires : tie.Need-old-data-requires
-old-data-requires c κs = search needs
-
 returns : tie.Need-returns
 returns c = rw (c .before .if1 .taken) (c .old-data .ensures)
-
-slice-aggregate-result : tie.Need-slice-aggregate-result
-slice-aggregate-result c = search needs
 
 returns-2 : tie.Need-returns-2
 returns-2 c = rw (c .before .if1 .left)
 
 pub kept-data-spec : {M : Type 1} → statement M
-kept-data-spec = tie.close (tie.spec old-data-requires returns slice-aggregate-result returns-2)
+kept-data-spec = tie.close (tie.spec (λ c κs. search needs) returns (λ c. search needs) returns-2)

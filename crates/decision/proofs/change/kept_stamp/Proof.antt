@@ -6,15 +6,6 @@ use borrow.Author.Needs.{needs}
 use Rattle.decision.proofs.change.kept_stamp.Statement.{statement}
 use Rattle.decision.proofs.change.kept_stamp.Tie as tie
 
-appends-requires : tie.Need-appends-requires
-appends-requires c κs = search needs
-
-time-based-requires : tie.Need-time-based-requires
-time-based-requires c κs = search needs
-
-stamp-over-requires : tie.Need-stamp-over-requires
-stamp-over-requires c κs = search needs
-
 returns : tie.Need-returns
 unfolding stampKept
 returns c =
@@ -35,4 +26,4 @@ returns-2 c =
 
 pub kept-stamp-spec : {M : Type 1} → statement M
 kept-stamp-spec =
-    tie.close (tie.spec appends-requires time-based-requires stamp-over-requires returns returns-2)
+    tie.close (tie.spec (λ c κs. search needs) (λ c κs. search needs) (λ c κs. search needs) returns returns-2)

@@ -5,22 +5,13 @@ use borrow.Author.Needs.{needs}
 use Rattle.decision.proofs.change.kind.Statement.{statement}
 use Rattle.decision.proofs.change.kind.Tie as tie
 
-deletes-requires : tie.Need-deletes-requires
-deletes-requires c κs = search needs
-
 returns : tie.Need-returns
 unfolding kindBy
 returns c = rw (sym (c .before .deletes .ensures) ∙ c .if1 .taken)
 
-empty-append-requires : tie.Need-empty-append-requires
-empty-append-requires c κs = search needs
-
 returns-2 : tie.Need-returns-2
 unfolding kindBy
 returns-2 c = rw (sym (c .before .before .before .deletes .ensures) ∙ c .before .before .if1 .left, sym (c .before .empty-append .ensures) ∙ c .if2 .taken)
-
-is-equal-requires : tie.Need-is-equal-requires
-is-equal-requires c κs = search needs
 
 returns-3 : tie.Need-returns-3
 unfolding kindBy
@@ -34,10 +25,10 @@ pub kind-spec : {M : Type 1} → statement M
 kind-spec =
     tie.close
     (tie.spec
-    deletes-requires
+    (λ c κs. search needs)
     returns
-    empty-append-requires
+    (λ c κs. search needs)
     returns-2
-    is-equal-requires
+    (λ c κs. search needs)
     returns-3
     returns-4)

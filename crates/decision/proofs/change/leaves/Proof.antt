@@ -5,18 +5,9 @@ use borrow.Author.Needs.{needs}
 use Rattle.decision.proofs.change.leaves.Statement.{statement}
 use Rattle.decision.proofs.change.leaves.Tie as tie
 
-deletes-requires : tie.Need-deletes-requires
-deletes-requires c κs = search needs
-
 returns : tie.Need-returns
 unfolding leavesBy
 returns c = rw (sym (c .before .deletes .ensures) ∙ c .if1 .taken)
-
-empty-append-requires : tie.Need-empty-append-requires
-empty-append-requires c κs = search needs
-
-stands-requires : tie.Need-stands-requires
-stands-requires c κs = search needs
 
 returns-2 : tie.Need-returns-2
 unfolding leavesBy
@@ -31,4 +22,4 @@ returns-3 c =
 pub leaves-spec : {M : Type 1} → statement M
 leaves-spec =
     tie.close
-    (tie.spec deletes-requires returns empty-append-requires stands-requires returns-2 returns-3)
+    (tie.spec (λ c κs. search needs) returns (λ c κs. search needs) (λ c κs. search needs) returns-2 returns-3)

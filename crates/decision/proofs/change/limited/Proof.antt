@@ -19,18 +19,6 @@ kept Put = refl
 returns : tie.Need-returns
 returns c = rw (not-true (c .before .args .forbidden) (c .if1 .taken)) (kept (c .before .args .item))
 
-enum-told : tie.Need-enum-told
-enum-told c = search needs
-
-enum-told-2 : tie.Need-enum-told-2
-enum-told-2 c = search needs
-
-enum-told-3 : tie.Need-enum-told-3
-enum-told-3 c = search needs
-
-enum-told-4 : tie.Need-enum-told-4
-enum-told-4 c = search needs
-
 returns-2 : tie.Need-returns-2
 unfolding limitedBy
 returns-2 c = rw (c .enum-told .given .1)
@@ -52,10 +40,10 @@ limited-spec =
     tie.close
     (tie.spec
     returns
-    enum-told
-    enum-told-2
-    enum-told-3
-    enum-told-4
+    (λ c. search needs)
+    (λ c. search needs)
+    (λ c. search needs)
+    (λ c. search needs)
     returns-2
     returns-3
     returns-4

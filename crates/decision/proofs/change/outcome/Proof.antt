@@ -5,27 +5,6 @@ use borrow.Author.Needs.{needs}
 use Rattle.decision.proofs.change.outcome.Statement.{statement}
 use Rattle.decision.proofs.change.outcome.Tie as tie
 
-kind-requires : tie.Need-kind-requires
-kind-requires c κs = search needs
-
-enum-told : tie.Need-enum-told
-enum-told c = search needs
-
-remove-requires : tie.Need-remove-requires
-remove-requires c κs = search needs
-
-enum-told-2 : tie.Need-enum-told-2
-enum-told-2 c = search needs
-
-put-requires : tie.Need-put-requires
-put-requires c κs = search needs
-
-enum-told-3 : tie.Need-enum-told-3
-enum-told-3 c = search needs
-
-enum-told-4 : tie.Need-enum-told-4
-enum-told-4 c = search needs
-
 returns : tie.Need-returns
 unfolding outcomeBy resultBy
 returns c = rw (sym (c .before .before .before .kind .ensures) ∙ c .before .enum-told .given .1) (c .remove .ensures)
@@ -47,13 +26,13 @@ pub outcome-spec : {M : Type 1} → statement M
 outcome-spec =
     tie.close
     (tie.spec
-    kind-requires
-    enum-told
-    remove-requires
-    enum-told-2
-    put-requires
-    enum-told-3
-    enum-told-4
+    (λ c κs. search needs)
+    (λ c. search needs)
+    (λ c κs. search needs)
+    (λ c. search needs)
+    (λ c κs. search needs)
+    (λ c. search needs)
+    (λ c. search needs)
     returns
     returns-2
     returns-3

@@ -5,9 +5,6 @@ use borrow.Author.Needs.{needs}
 use Rattle.decision.proofs.change.put.Statement.{statement}
 use Rattle.decision.proofs.change.put.Tie as tie
 
-cast-if1 : tie.Need-cast-if1
-cast-if1 c = search needs
-
 returns : tie.Need-returns
 unfolding resultBy
 returns c = rw (lt-ltb _ _ (c .if1 .taken))
@@ -17,4 +14,4 @@ unfolding resultBy
 returns-2 c = rw (le-ltb _ _ (c .if1 .left))
 
 pub put-spec : {M : Type 1} → statement M
-put-spec = tie.close (tie.spec cast-if1 returns returns-2)
+put-spec = tie.close (tie.spec (λ c. search needs) returns returns-2)

@@ -5,9 +5,6 @@ use borrow.Author.Needs.{needs}
 use Rattle.decision.proofs.change.remove.Statement.{statement}
 use Rattle.decision.proofs.change.remove.Tie as tie
 
-stands-requires : tie.Need-stands-requires
-stands-requires c κs = search needs
-
 returns : tie.Need-returns
 unfolding resultBy
 returns c = rw (sym (c .before .stands .ensures) ∙ c .if1 .taken)
@@ -17,4 +14,4 @@ unfolding resultBy
 returns-2 c = rw (sym (c .before .stands .ensures) ∙ c .if1 .left)
 
 pub remove-spec : {M : Type 1} → statement M
-remove-spec = tie.close (tie.spec stands-requires returns returns-2)
+remove-spec = tie.close (tie.spec (λ c κs. search needs) returns returns-2)

@@ -8,18 +8,9 @@ use borrow.Author.Needs.{needs}
 use Rattle.decision.proofs.change.room.Statement.{statement}
 use Rattle.decision.proofs.change.room.Tie as tie
 
-cast-if2 : tie.Need-cast-if2
-cast-if2 c = search needs
-
 returns : tie.Need-returns
 unfolding roomBy
 returns c = ap judgedOf (sym (broken-here _ _ _ (rw (c .before .before .if1 .taken) (lt-ltb _ _ (c .if2 .taken)))))
-
-add-if3 : tie.Need-add-if3
-add-if3 c = search needs
-
-add-if3-2 : tie.Need-add-if3-2
-add-if3-2 c = search needs
 
 returns-2 : tie.Need-returns-2
 unfolding roomBy
@@ -38,21 +29,6 @@ returns-3 c =
     ∙ kept-here _ _ _ (rw (c .before .before .before .if1 .taken) (le-ltb _ _ (c .if3 .left)))
     ∙ none-here))
 
-add-if4 : tie.Need-add-if4
-add-if4 c = search needs
-
-cast-if4 : tie.Need-cast-if4
-cast-if4 c = search needs
-
-add-if4-2 : tie.Need-add-if4-2
-add-if4-2 c = search needs
-
-cast-if4-2 : tie.Need-cast-if4-2
-cast-if4-2 c = search needs
-
-add-if4-3 : tie.Need-add-if4-3
-add-if4-3 c = search needs
-
 returns-4 : tie.Need-returns-4
 unfolding roomBy
 returns-4 c =
@@ -60,12 +36,6 @@ returns-4 c =
     (sym
     (kept-here _ _ _ (rw (c .before .before .before .if1 .left))
     ∙ broken-here _ _ _ (rw (c .before .before .before .if1 .left, lt-ltb _ _ (c .if4 .taken)))))
-
-add-if5 : tie.Need-add-if5
-add-if5 c = search needs
-
-add-if5-2 : tie.Need-add-if5-2
-add-if5-2 c = search needs
 
 returns-5 : tie.Need-returns-5
 unfolding roomBy
@@ -88,19 +58,19 @@ pub room-spec : {M : Type 1} → statement M
 room-spec =
     tie.close
     (tie.spec
-    cast-if2
+    (λ c. search needs)
     returns
-    add-if3
-    add-if3-2
+    (λ c. search needs)
+    (λ c. search needs)
     returns-2
     returns-3
-    add-if4
-    cast-if4
-    add-if4-2
-    cast-if4-2
-    add-if4-3
+    (λ c. search needs)
+    (λ c. search needs)
+    (λ c. search needs)
+    (λ c. search needs)
+    (λ c. search needs)
     returns-4
-    add-if5
-    add-if5-2
+    (λ c. search needs)
+    (λ c. search needs)
     returns-5
     returns-6)

@@ -26,11 +26,8 @@ returns c =
     ∙ ap (roomedBy (a .item)) room
     ∙ roomed-none (a .item))
 
-roomed-by-sums-requires : tie.Need-roomed-by-sums-requires
-roomed-by-sums-requires c κs = search needs
-
 returns-2 : tie.Need-returns-2
 returns-2 c = c .roomed-by-sums .ensures
 
 pub roomed-spec : {M : Type 1} → statement M
-roomed-spec = tie.close (tie.spec fits-after-tail-requires returns roomed-by-sums-requires returns-2)
+roomed-spec = tie.close (tie.spec fits-after-tail-requires returns (λ c κs. search needs) returns-2)

@@ -12,12 +12,6 @@ use borrow.Author.Needs.{needs}
 use Rattle.decision.proofs.change.roomed_by_sums.Statement.{statement}
 use Rattle.decision.proofs.change.roomed_by_sums.Tie as tie
 
-enum-told : tie.Need-enum-told
-enum-told c = search needs
-
-is-error-record-requires : tie.Need-is-error-record-requires
-is-error-record-requires c κs = search needs
-
 entry-size-requires : tie.Need-entry-size-requires
 entry-size-requires c κs =
     let p = c .before .before .before .before .pre in
@@ -32,21 +26,6 @@ after-requires c κs =
 
 room-requires : tie.Need-room-requires
 room-requires c κs = c .after .ensures .2
-
-enum-known-j : tie.Need-enum-known-j
-enum-known-j c = search needs
-
-enum-told-2 : tie.Need-enum-told-2
-enum-told-2 c = search needs
-
-enum-told-3 : tie.Need-enum-told-3
-enum-told-3 c = search needs
-
-enum-told-4 : tie.Need-enum-told-4
-enum-told-4 c = search needs
-
-enum-told-5 : tie.Need-enum-told-5
-enum-told-5 c = search needs
 
 returns : tie.Need-returns
 unfolding roomedBy roomAfter
@@ -93,16 +72,16 @@ pub roomed-by-sums-spec : {M : Type 1} → statement M
 roomed-by-sums-spec =
     tie.close
     (tie.spec
-    enum-told
-    is-error-record-requires
+    (λ c. search needs)
+    (λ c κs. search needs)
     entry-size-requires
     after-requires
     room-requires
-    enum-known-j
-    enum-told-2
-    enum-told-3
-    enum-told-4
-    enum-told-5
+    (λ c. search needs)
+    (λ c. search needs)
+    (λ c. search needs)
+    (λ c. search needs)
+    (λ c. search needs)
     returns
     returns-2
     returns-3

@@ -9,21 +9,6 @@ use borrow.Author.Needs.{needs}
 use Rattle.decision.proofs.change.stamp_over.Statement.{statement}
 use Rattle.decision.proofs.change.stamp_over.Tie as tie
 
-enum-known-old : tie.Need-enum-known-old
-enum-known-old c = search needs
-
-stamp-of-requires : tie.Need-stamp-of-requires
-stamp-of-requires c κs = search needs
-
-stamp-in-requires : tie.Need-stamp-in-requires
-stamp-in-requires c κs = search needs
-
-later-of-requires : tie.Need-later-of-requires
-later-of-requires c κs = search needs
-
-enum-told : tie.Need-enum-told
-enum-told c = search needs
-
 returns : tie.Need-returns
 unfolding stampOver
 returns c =
@@ -41,10 +26,10 @@ pub stamp-over-spec : {M : Type 1} → statement M
 stamp-over-spec =
     tie.close
     (tie.spec
-    enum-known-old
-    stamp-of-requires
-    stamp-in-requires
-    later-of-requires
-    enum-told
+    (λ c. search needs)
+    (λ c κs. search needs)
+    (λ c κs. search needs)
+    (λ c κs. search needs)
+    (λ c. search needs)
     returns
     returns-2)

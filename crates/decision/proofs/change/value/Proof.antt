@@ -8,21 +8,6 @@ use borrow.Author.Needs.{needs}
 use Rattle.decision.proofs.change.value.Statement.{statement}
 use Rattle.decision.proofs.change.value.Tie as tie
 
-stamp-requires : tie.Need-stamp-requires
-stamp-requires c κs = search needs
-
-kept-stamp-requires : tie.Need-kept-stamp-requires
-kept-stamp-requires c κs = search needs
-
-without-append-requires : tie.Need-without-append-requires
-without-append-requires c κs = search needs
-
-appends-requires : tie.Need-appends-requires
-appends-requires c κs = search needs
-
-proper-from-requires : tie.Need-proper-from-requires
-proper-from-requires c κs = search needs
-
 returns : tie.Need-returns
 returns c =
     let a = c .before .before .before .before .before .before .before .before .args in (
@@ -37,9 +22,9 @@ pub value-spec : {M : Type 1} → statement M
 value-spec =
     tie.close
     (tie.spec
-    stamp-requires
-    kept-stamp-requires
-    without-append-requires
-    appends-requires
-    proper-from-requires
+    (λ c κs. search needs)
+    (λ c κs. search needs)
+    (λ c κs. search needs)
+    (λ c κs. search needs)
+    (λ c κs. search needs)
     returns)

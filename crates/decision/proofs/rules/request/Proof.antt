@@ -8,15 +8,9 @@ use borrow.Author.Needs.{needs}
 use Rattle.decision.proofs.rules.request.Statement.{statement}
 use Rattle.decision.proofs.rules.request.Tie as tie
 
-is-named-requires : tie.Need-is-named-requires
-is-named-requires c κs = search needs
-
 returns : tie.Need-returns
 unfolding requestRules rule3
 returns c = ap judgedOf (sym (broken-here _ _ _ (rw (sym (c .before .is-named .ensures)) (c .if1 .taken))))
-
-attributes-broken-requires : tie.Need-attributes-broken-requires
-attributes-broken-requires c κs = search needs
 
 returns-2 : tie.Need-returns-2
 unfolding requestRules rule3
@@ -26,9 +20,6 @@ returns-2 c =
     (kept-here _ _ _ (rw (sym (c .before .before .before .is-named .ensures)) (c .before .before .if1 .left))
     ∙ broken-here _ _ _ (sym (c .before .attributes-broken .ensures) ∙ c .if2 .taken)))
 
-key-attributes-broken-requires : tie.Need-key-attributes-broken-requires
-key-attributes-broken-requires c κs = search needs
-
 returns-3 : tie.Need-returns-3
 unfolding requestRules rule3
 returns-3 c =
@@ -37,9 +28,6 @@ returns-3 c =
     (kept-here _ _ _ (rw (sym (c .before .before .before .before .before .is-named .ensures)) (c .before .before .before .before .if1 .left))
     ∙ kept-here _ _ _ (sym (c .before .before .before .attributes-broken .ensures) ∙ c .before .before .if2 .left)
     ∙ broken-here _ _ _ (sym (c .before .key-attributes-broken .ensures) ∙ c .if3 .taken)))
-
-record-broken-requires : tie.Need-record-broken-requires
-record-broken-requires c κs = search needs
 
 returns-4 : tie.Need-returns-4
 unfolding requestRules rule3
@@ -78,13 +66,13 @@ pub request-spec : {M : Type 1} → statement M
 request-spec =
     tie.close
     (tie.spec
-    is-named-requires
+    (λ c κs. search needs)
     returns
-    attributes-broken-requires
+    (λ c κs. search needs)
     returns-2
-    key-attributes-broken-requires
+    (λ c κs. search needs)
     returns-3
-    record-broken-requires
+    (λ c κs. search needs)
     returns-4
     returns-5
     returns-6)

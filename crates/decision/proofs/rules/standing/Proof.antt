@@ -6,15 +6,9 @@ use borrow.Author.Needs.{needs}
 use Rattle.decision.proofs.rules.standing.Statement.{statement}
 use Rattle.decision.proofs.rules.standing.Tie as tie
 
-attributes-differ-requires : tie.Need-attributes-differ-requires
-attributes-differ-requires c κs = search needs
-
 returns : tie.Need-returns
 unfolding standingBy firstBroken
 returns c = rw (sym (c .before .attributes-differ .ensures) ∙ c .if1 .taken)
-
-descriptor-broken-requires : tie.Need-descriptor-broken-requires
-descriptor-broken-requires c κs = search needs
 
 returns-2 : tie.Need-returns-2
 unfolding standingBy firstBroken
@@ -27,4 +21,4 @@ returns-3 c = rw (sym (c .before .before .before .attributes-differ .ensures) �
 pub standing-spec : {M : Type 1} → statement M
 standing-spec =
     tie.close
-    (tie.spec attributes-differ-requires returns descriptor-broken-requires returns-2 returns-3)
+    (tie.spec (λ c κs. search needs) returns (λ c κs. search needs) returns-2 returns-3)

@@ -11,27 +11,6 @@ use borrow.Author.Needs.{needs}
 use Rattle.decision.proofs.rules.user_mode.Statement.{statement}
 use Rattle.decision.proofs.rules.user_mode.Tie as tie
 
-pk-name-requires : tie.Need-pk-name-requires
-pk-name-requires c κs = search needs
-
-global-vendor-requires : tie.Need-global-vendor-requires
-global-vendor-requires c κs = search needs
-
-slice-aggregate-find : tie.Need-slice-aggregate-find
-slice-aggregate-find c = search needs
-
-slice-aggregate-find-2 : tie.Need-slice-aggregate-find-2
-slice-aggregate-find-2 c = search needs
-
-find-requires : tie.Need-find-requires
-find-requires c κs = search needs
-
-enum-told : tie.Need-enum-told
-enum-told c = search needs
-
-enum-told-2 : tie.Need-enum-told-2
-enum-told-2 c = search needs
-
 returns : tie.Need-returns
 unfolding keyPK
 returns c =
@@ -50,12 +29,12 @@ pub user-mode-spec : {M : Type 1} → statement M
 user-mode-spec =
     tie.close
     (tie.spec
-    pk-name-requires
-    global-vendor-requires
-    slice-aggregate-find
-    slice-aggregate-find-2
-    find-requires
-    enum-told
-    enum-told-2
+    (λ c κs. search needs)
+    (λ c κs. search needs)
+    (λ c. search needs)
+    (λ c. search needs)
+    (λ c κs. search needs)
+    (λ c. search needs)
+    (λ c. search needs)
     returns
     returns-2)

@@ -6,25 +6,13 @@ use borrow.Author.Needs.{needs}
 use Rattle.decision.proofs.rules.verdict.Statement.{statement}
 use Rattle.decision.proofs.rules.verdict.Tie as tie
 
-verdict-broken-requires : tie.Need-verdict-broken-requires
-verdict-broken-requires c κs = search needs
-
 returns : tie.Need-returns
 unfolding verdictBy firstBroken
 returns c = rw (sym (c .before .verdict-broken .ensures) ∙ c .if1 .taken)
 
-appends-requires : tie.Need-appends-requires
-appends-requires c κs = search needs
-
 returns-2 : tie.Need-returns-2
 unfolding verdictBy firstBroken
 returns-2 c = rw (sym (c .before .before .before .verdict-broken .ensures) ∙ c .before .before .if1 .left, sym (c .before .appends .ensures) ∙ c .if2 .taken)
-
-verdict-wanted-requires : tie.Need-verdict-wanted-requires
-verdict-wanted-requires c κs = search needs
-
-not-later-requires : tie.Need-not-later-requires
-not-later-requires c κs = search needs
 
 returns-3 : tie.Need-returns-3
 unfolding verdictBy firstBroken
@@ -42,12 +30,12 @@ pub verdict-spec : {M : Type 1} → statement M
 verdict-spec =
     tie.close
     (tie.spec
-    verdict-broken-requires
+    (λ c κs. search needs)
     returns
-    appends-requires
+    (λ c κs. search needs)
     returns-2
-    verdict-wanted-requires
-    not-later-requires
+    (λ c κs. search needs)
+    (λ c κs. search needs)
     returns-3
     returns-4
     returns-5)

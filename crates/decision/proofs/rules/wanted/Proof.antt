@@ -8,21 +8,9 @@ use borrow.Author.Needs.{needs}
 use Rattle.decision.proofs.rules.wanted.Statement.{statement}
 use Rattle.decision.proofs.rules.wanted.Tie as tie
 
-is-key-name-requires : tie.Need-is-key-name-requires
-is-key-name-requires c κs = search needs
-
-in-person-requires : tie.Need-in-person-requires
-in-person-requires c κs = search needs
-
 returns : tie.Need-returns
 unfolding wantedVerdicts
 returns c = rw (sym (c .before .before .before .is-key-name .ensures) ∙ c .before .before .if1 .taken, sym (c .before .in-person .ensures) ∙ c .if2 .taken)
-
-user-mode-requires : tie.Need-user-mode-requires
-user-mode-requires c κs = search needs
-
-key-verdicts-requires : tie.Need-key-verdicts-requires
-key-verdicts-requires c κs = search needs
 
 returns-2 : tie.Need-returns-2
 unfolding wantedVerdicts
@@ -30,9 +18,6 @@ returns-2 c =
     let a = c .before .before .before .before .before .before .before .before .args in
     rw (sym (c .before .before .before .before .before .is-key-name .ensures) ∙ c .before .before .before .before .if1 .taken, sym (c .before .before .before .in-person .ensures) ∙ c .before .before .if2 .left)
     (c .key-verdicts .ensures ∙ ap (λ (u : Bool). keyVerdicts u (keyed (now (a .name)) (now (a .vendor)))) (c .before .user-mode .ensures))
-
-other-verdicts-requires : tie.Need-other-verdicts-requires
-other-verdicts-requires c κs = search needs
 
 returns-3 : tie.Need-returns-3
 unfolding wantedVerdicts
@@ -42,11 +27,11 @@ pub wanted-spec : {M : Type 1} → statement M
 wanted-spec =
     tie.close
     (tie.spec
-    is-key-name-requires
-    in-person-requires
+    (λ c κs. search needs)
+    (λ c κs. search needs)
     returns
-    user-mode-requires
-    key-verdicts-requires
+    (λ c κs. search needs)
+    (λ c κs. search needs)
     returns-2
-    other-verdicts-requires
+    (λ c κs. search needs)
     returns-3)

@@ -14,27 +14,12 @@ use borrow.Author.Needs.{needs}
 use Rattle.engine.proofs.read.get.Statement.{statement}
 use Rattle.engine.proofs.read.get.Tie as tie
 
-is-named-requires : tie.Need-is-named-requires
-is-named-requires c κs = search needs
-
-open-requires : tie.Need-open-requires
-open-requires c κs = search needs
-
-enum-known-opened : tie.Need-enum-known-opened
-enum-known-opened c = search needs
-
 mul-cut : tie.Need-mul-cut
 mul-cut c =
     let img = now (c .before .before .before .before .before .before .before .before .args .image) in
     let t = c .before .opened .given in
     let o = opens img (c .before .before .before .before .is-named .result) (sym (c .before .before .before .«open» .ensures) ∙ t .1) in
     record { fits = omega (arith, o .ready .few) }
-
-cut-requires : tie.Need-cut-requires
-cut-requires c κs = search needs
-
-at-runtime-requires : tie.Need-at-runtime-requires
-at-runtime-requires c κs = search needs
 
 get-from-requires : tie.Need-get-from-requires
 get-from-requires c κs =
@@ -43,15 +28,6 @@ get-from-requires c κs =
     let o = opens img (c .before .before .before .before .before .before .before .is-named .result) (sym (c .before .before .before .before .before .before .«open» .ensures) ∙ t .1) in
     let n = ap length (c .before .before .cut .ensures ∙ o .ready .cut) in
     omega (arith, o .ready .few, o .ready .long)
-
-enum-known-opened-2 : tie.Need-enum-known-opened-2
-enum-known-opened-2 c = search needs
-
-refused-requires : tie.Need-refused-requires
-refused-requires c κs = search needs
-
-same-length : tie.Need-same-length
-same-length c = search needs
 
 returns : tie.Need-returns
 returns c =
@@ -82,15 +58,15 @@ pub get-spec : {M : Type 1} → statement M
 get-spec =
     tie.close
     (tie.spec
-    is-named-requires
-    open-requires
-    enum-known-opened
+    (λ c κs. search needs)
+    (λ c κs. search needs)
+    (λ c. search needs)
     mul-cut
-    cut-requires
-    at-runtime-requires
+    (λ c κs. search needs)
+    (λ c κs. search needs)
     get-from-requires
-    enum-known-opened-2
-    refused-requires
-    same-length
+    (λ c. search needs)
+    (λ c κs. search needs)
+    (λ c. search needs)
     returns
     returns-2)

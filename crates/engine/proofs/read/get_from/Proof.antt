@@ -16,18 +16,6 @@ use borrow.Author.Needs.{needs}
 use Rattle.engine.proofs.read.get_from.Statement.{statement}
 use Rattle.engine.proofs.read.get_from.Tie as tie
 
-to-get-requires : tie.Need-to-get-requires
-to-get-requires c κs = search needs
-
-enum-known-found : tie.Need-enum-known-found
-enum-known-found c = search needs
-
-enum-told : tie.Need-enum-told
-enum-told c = search needs
-
-refused-requires : tie.Need-refused-requires
-refused-requires c κs = search needs
-
 returns : tie.Need-returns
 returns c =
     let a = c .before .before .before .before .before .before .before .args in
@@ -37,9 +25,6 @@ returns c =
     let v = value-none r (f .result) (entryToGet (a .runtime) k (entries r)) (f .ensures) (valueToGet (a .runtime) k (values (entries r))) (get-value (a .runtime) k (entries r)) (c .before .enum-told .given .1) in
     rw (c .refused .ensures) (answered-absent (valueToGet (a .runtime) k (values (entries r))) v gotBytes (λ v. v .attributes) (now (a .buffer)))
 
-data-of-requires : tie.Need-data-of-requires
-data-of-requires c κs = search needs
-
 give-requires : tie.Need-give-requires
 give-requires c κs =
     let a = c .before .before .before .before .before .before .before .before .before .args in
@@ -47,9 +32,6 @@ give-requires c κs =
     let n = ap length (c .before .data-of .ensures) in
     let s = short-data (now (a .region)) (t .0 .0) (t .0 .1 .0) in
     omega arith
-
-same-length : tie.Need-same-length
-same-length c = search needs
 
 returns-2 : tie.Need-returns-2
 returns-2 c =
@@ -66,12 +48,12 @@ pub get-from-spec : {M : Type 1} → statement M
 get-from-spec =
     tie.close
     (tie.spec
-    to-get-requires
-    enum-known-found
-    enum-told
-    refused-requires
+    (λ c κs. search needs)
+    (λ c. search needs)
+    (λ c. search needs)
+    (λ c κs. search needs)
     returns
-    data-of-requires
+    (λ c κs. search needs)
     give-requires
-    same-length
+    (λ c. search needs)
     returns-2)

@@ -9,23 +9,11 @@ use borrow.Author.Needs.{needs}
 use Rattle.engine.proofs.read.give.Statement.{statement}
 use Rattle.engine.proofs.read.give.Tie as tie
 
-cast-size : tie.Need-cast-size
-cast-size c = search needs
-
-refused-requires : tie.Need-refused-requires
-refused-requires c κs = search needs
-
 returns : tie.Need-returns
 returns c =
     let a = c .before .before .before .before .args in
     rw (c .refused .ensures)
     (short-buffer (now (a .bytes)) (a .attributes) (now (a .buffer)) (length (now (a .bytes))) refl (lt-ltb _ _ (c .before .if1 .taken)))
-
-deliver-requires : tie.Need-deliver-requires
-deliver-requires c κs = search needs
-
-same-length : tie.Need-same-length
-same-length c = search needs
 
 returns-2 : tie.Need-returns-2
 returns-2 c =
@@ -36,9 +24,9 @@ pub give-spec : {M : Type 1} → statement M
 give-spec =
     tie.close
     (tie.spec
-    cast-size
-    refused-requires
+    (λ c. search needs)
+    (λ c κs. search needs)
     returns
-    deliver-requires
-    same-length
+    (λ c κs. search needs)
+    (λ c. search needs)
     returns-2)

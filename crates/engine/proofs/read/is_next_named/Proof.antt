@@ -5,14 +5,8 @@ use borrow.Author.Needs.{needs}
 use Rattle.engine.proofs.read.is_next_named.Statement.{statement}
 use Rattle.engine.proofs.read.is_next_named.Tie as tie
 
-is-named-requires : tie.Need-is-named-requires
-is-named-requires c κs = search needs
-
 returns : tie.Need-returns
 returns c = rw (sym (c .before .is-named .ensures) ∙ c .if1 .taken)
-
-is-empty-name-requires : tie.Need-is-empty-name-requires
-is-empty-name-requires c κs = search needs
 
 returns-2 : tie.Need-returns-2
 returns-2 c = rw (sym (c .before .before .is-named .ensures) ∙ c .before .if1 .left) (c .is-empty-name .ensures)
@@ -21,7 +15,7 @@ pub is-next-named-spec : {M : Type 1} → statement M
 is-next-named-spec =
     tie.close
     (tie.spec
-    is-named-requires
+    (λ c κs. search needs)
     returns
-    is-empty-name-requires
+    (λ c κs. search needs)
     returns-2)

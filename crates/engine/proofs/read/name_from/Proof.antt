@@ -17,18 +17,6 @@ use borrow.Author.Needs.{needs}
 use Rattle.engine.proofs.read.name_from.Statement.{statement}
 use Rattle.engine.proofs.read.name_from.Tie as tie
 
-to-name-requires : tie.Need-to-name-requires
-to-name-requires c κs = search needs
-
-enum-known-found : tie.Need-enum-known-found
-enum-known-found c = search needs
-
-enum-told : tie.Need-enum-told
-enum-told c = search needs
-
-refused-requires : tie.Need-refused-requires
-refused-requires c κs = search needs
-
 returns : tie.Need-returns
 returns c =
     let a = c .before .before .before .before .before .before .before .args in
@@ -37,12 +25,6 @@ returns c =
     let f = c .before .before .before .to-name in
     let v = value-none r (f .result) (entryToName (a .runtime) k (entries r)) (f .ensures) (valueToName (a .runtime) k (values (entries r))) (name-value (a .runtime) k (entries r)) (c .before .enum-told .given .1) in
     rw (c .refused .ensures) (answered-absent (valueToName (a .runtime) k (values (entries r))) v namedBytes (λ v. 0) (now (a .buffer)))
-
-vendor-of-requires : tie.Need-vendor-of-requires
-vendor-of-requires c κs = search needs
-
-name-of-requires : tie.Need-name-of-requires
-name-of-requires c κs = search needs
 
 give-name-requires : tie.Need-give-name-requires
 give-name-requires c κs =
@@ -53,9 +35,6 @@ give-name-requires c κs =
     let s = short-name (now (a .region)) (t .0 .0) (t .0 .1 .0) in
     let u = short-vendor (now (a .region)) (t .0 .0) in
     (omega arith, omega arith)
-
-same-length : tie.Need-same-length
-same-length c = search needs
 
 returns-2 : tie.Need-returns-2
 returns-2 c =
@@ -73,13 +52,13 @@ pub name-from-spec : {M : Type 1} → statement M
 name-from-spec =
     tie.close
     (tie.spec
-    to-name-requires
-    enum-known-found
-    enum-told
-    refused-requires
+    (λ c κs. search needs)
+    (λ c. search needs)
+    (λ c. search needs)
+    (λ c κs. search needs)
     returns
-    vendor-of-requires
-    name-of-requires
+    (λ c κs. search needs)
+    (λ c κs. search needs)
     give-name-requires
-    same-length
+    (λ c. search needs)
     returns-2)

@@ -7,12 +7,6 @@ use borrow.Author.Needs.{needs}
 use Rattle.engine.proofs.read.next_name.Statement.{statement}
 use Rattle.engine.proofs.read.next_name.Tie as tie
 
-name-behind-requires : tie.Need-name-behind-requires
-name-behind-requires c κs = search needs
-
-same-length : tie.Need-same-length
-same-length c = search needs
-
 returns : tie.Need-returns
 returns c =
     let a = c .before .before .before .before .before .before .before .args in
@@ -22,6 +16,6 @@ pub next-name-spec : {M : Type 1} → statement M
 next-name-spec =
     tie.close
     (tie.spec
-    name-behind-requires
-    same-length
+    (λ c κs. search needs)
+    (λ c. search needs)
     returns)

@@ -8,20 +8,11 @@ use borrow.Author.Needs.{needs}
 use Rattle.engine.proofs.read.open.Statement.{statement}
 use Rattle.engine.proofs.read.open.Tie as tie
 
-check-call-requires : tie.Need-check-call-requires
-check-call-requires c κs = search needs
-
-enum-told : tie.Need-enum-told
-enum-told c = search needs
-
 returns : tie.Need-returns
 returns c =
     let img = now (c .before .before .before .before .before .args .image) in
     let t = c .before .enum-told .given in
     t .1 ∙ sym (ap (openOf img) (c .if1 .taken) ∙ open-named img (sym (c .before .before .before .check-call .ensures) ∙ t .1))
-
-enum-told-2 : tie.Need-enum-told-2
-enum-told-2 c = search needs
 
 returns-2 : tie.Need-returns-2
 returns-2 c =
@@ -39,9 +30,9 @@ pub open-spec : {M : Type 1} → statement M
 open-spec =
     tie.close
     (tie.spec
-    check-call-requires
-    enum-told
+    (λ c κs. search needs)
+    (λ c. search needs)
     returns
-    enum-told-2
+    (λ c. search needs)
     returns-2
     returns-3)

@@ -8,34 +8,13 @@ use borrow.Author.Needs.{needs}
 use Rattle.engine.proofs.start.plan_start_up.Statement.{statement}
 use Rattle.engine.proofs.start.plan_start_up.Tie as tie
 
-check-start-requires : tie.Need-check-start-requires
-check-start-requires c κs = search needs
-
-enum-known-found : tie.Need-enum-known-found
-enum-known-found c = search needs
-
 resume-requires : tie.Need-resume-requires
 resume-requires c κs =
     (sym (c .before .before .before .before .check-start .ensures) ∙ c .before .before .found .given .1, search needs)
 
-enum-known-found-2 : tie.Need-enum-known-found-2
-enum-known-found-2 c = search needs
-
 tidy-requires : tie.Need-tidy-requires
 tidy-requires c κs =
     (sym (c .before .before .before .before .check-start .ensures) ∙ c .before .before .found2 .given .1, search needs)
-
-enum-known-found-3 : tie.Need-enum-known-found-3
-enum-known-found-3 c = search needs
-
-refuse-requires : tie.Need-refuse-requires
-refuse-requires c κs = search needs
-
-returns : tie.Need-returns
-returns c = search needs
-
-returns-2 : tie.Need-returns-2
-returns-2 c = search needs
 
 returns-3 : tie.Need-returns-3
 returns-3 c =
@@ -47,13 +26,13 @@ pub plan-start-up-spec : {M : Type 1} → statement M
 plan-start-up-spec =
     tie.close
     (tie.spec
-    check-start-requires
-    enum-known-found
+    (λ c κs. search needs)
+    (λ c. search needs)
     resume-requires
-    enum-known-found-2
+    (λ c. search needs)
     tidy-requires
-    enum-known-found-3
-    refuse-requires
-    returns
-    returns-2
+    (λ c. search needs)
+    (λ c κs. search needs)
+    (λ c. search needs)
+    (λ c. search needs)
     returns-3)

@@ -7,18 +7,6 @@ use borrow.Author.Needs.{needs}
 use Rattle.engine.proofs.start.start_up.Statement.{statement}
 use Rattle.engine.proofs.start.start_up.Tie as tie
 
-fresh-requires : tie.Need-fresh-requires
-fresh-requires c κs = search needs
-
-plan-start-up-requires : tie.Need-plan-start-up-requires
-plan-start-up-requires c κs = search needs
-
-carry-out-requires : tie.Need-carry-out-requires
-carry-out-requires c κs = search needs
-
-same-length : tie.Need-same-length
-same-length c = search needs
-
 returns : tie.Need-returns
 unfolding planOf startUpPlan
 returns c =
@@ -27,4 +15,4 @@ returns c =
 
 pub start-up-spec : {M : Type 1} → statement M
 start-up-spec =
-    tie.close (tie.spec fresh-requires plan-start-up-requires carry-out-requires same-length returns)
+    tie.close (tie.spec (λ c κs. search needs) (λ c κs. search needs) (λ c κs. search needs) (λ c. search needs) returns)

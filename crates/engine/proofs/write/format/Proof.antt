@@ -5,15 +5,6 @@ use borrow.Author.Needs.{needs}
 use Rattle.engine.proofs.write.format.Statement.{statement}
 use Rattle.engine.proofs.write.format.Tie as tie
 
-plan-format-requires : tie.Need-plan-format-requires
-plan-format-requires c κs = search needs
-
-carry-out-requires : tie.Need-carry-out-requires
-carry-out-requires c κs = search needs
-
-same-length : tie.Need-same-length
-same-length c = search needs
-
 returns : tie.Need-returns
 returns c =
     let a = c .before .before .before .before .before .before .before .before .before .before .args in
@@ -21,4 +12,4 @@ returns c =
     (e .0, e .1, c .before .before .before .before .before .before .plan-format .ensures .kept)
 
 pub format-spec : {M : Type 1} → statement M
-format-spec = tie.close (tie.spec plan-format-requires carry-out-requires same-length returns)
+format-spec = tie.close (tie.spec (λ c κs. search needs) (λ c κs. search needs) (λ c. search needs) returns)

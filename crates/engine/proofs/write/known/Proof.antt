@@ -8,9 +8,6 @@ use borrow.Author.Needs.{needs}
 use Rattle.engine.proofs.write.known.Statement.{statement}
 use Rattle.engine.proofs.write.known.Tie as tie
 
-cut-requires : tie.Need-cut-requires
-cut-requires c κs = search needs
-
 returns : tie.Need-returns
 returns c =
     let l = now (c .before .before .args .s) in
@@ -18,4 +15,4 @@ returns c =
     (bytes-of l (λ j. let x : getD l j 0 ≤ 0xFF = omega (arith, k j) in x), search needs)
 
 pub known-spec : {M : Type 1} → statement M
-known-spec = tie.close (tie.spec cut-requires returns)
+known-spec = tie.close (tie.spec (λ c κs. search needs) returns)

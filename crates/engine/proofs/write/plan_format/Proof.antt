@@ -12,34 +12,10 @@ use borrow.Author.Needs.{needs}
 use Rattle.engine.proofs.write.plan_format.Statement.{statement}
 use Rattle.engine.proofs.write.plan_format.Tie as tie
 
-blocks-requires : tie.Need-blocks-requires
-blocks-requires c κs = search needs
-
-refuse-requires : tie.Need-refuse-requires
-refuse-requires c κs = search needs
-
 returns : tie.Need-returns
 returns c =
     let a = c .before .before .before .before .args in
     refused-plans _ (now (a .image)) (formatPlan (now (a .image))) Length (c .refuse .ensures) (format-refused (now (a .image)) _ (c .before .before .blocks2 .ensures .0) (c .before .if1 .taken))
-
-mul-region-header : tie.Need-mul-region-header
-mul-region-header c = search needs
-
-region-header-requires : tie.Need-region-header-requires
-region-header-requires c κs = search needs
-
-slice-aggregate-put-bytes : tie.Need-slice-aggregate-put-bytes
-slice-aggregate-put-bytes c = search needs
-
-put-bytes-requires : tie.Need-put-bytes-requires
-put-bytes-requires c κs = search needs
-
-wipe-requires : tie.Need-wipe-requires
-wipe-requires c κs = search needs
-
-accept-requires : tie.Need-accept-requires
-accept-requires c κs = search needs
 
 returns-2 : tie.Need-returns-2
 returns-2 c =
@@ -52,13 +28,13 @@ pub plan-format-spec : {M : Type 1} → statement M
 plan-format-spec =
     tie.close
     (tie.spec
-    blocks-requires
-    refuse-requires
+    (λ c κs. search needs)
+    (λ c κs. search needs)
     returns
-    mul-region-header
-    region-header-requires
-    slice-aggregate-put-bytes
-    put-bytes-requires
-    wipe-requires
-    accept-requires
+    (λ c. search needs)
+    (λ c κs. search needs)
+    (λ c. search needs)
+    (λ c κs. search needs)
+    (λ c κs. search needs)
+    (λ c κs. search needs)
     returns-2)

@@ -10,12 +10,6 @@ use borrow.Author.Needs.{needs}
 use Rattle.engine.proofs.write.plan_put.Statement.{statement}
 use Rattle.engine.proofs.write.plan_put.Tie as tie
 
-kept-requires : tie.Need-kept-requires
-kept-requires c κs = search needs
-
-from-requires : tie.Need-from-requires
-from-requires c κs = search needs
-
 put-value-requires : tie.Need-put-value-requires
 unfolding valueBy
 put-value-requires c κs =
@@ -23,9 +17,6 @@ put-value-requires c κs =
     let a = m .args in
     let same = ap₂ (λ (x y : List ℕ). valued (now (a .name)) (now (a .vendor)) (a .value .attributes) (a .value .stamp) (x ++ y)) (c .before .before .before .kept .ensures) (c .before .before .from .ensures) in
     (asked-as same (m .pre .0), m .pre .1)
-
-same-length : tie.Need-same-length
-same-length c = search needs
 
 returns : tie.Need-returns
 unfolding valueBy
@@ -36,4 +27,4 @@ returns c =
     planned-as same (c .before .before .put-value .ensures)
 
 pub plan-put-spec : {M : Type 1} → statement M
-plan-put-spec = tie.close (tie.spec kept-requires from-requires put-value-requires same-length returns)
+plan-put-spec = tie.close (tie.spec (λ c κs. search needs) (λ c κs. search needs) put-value-requires (λ c. search needs) returns)

@@ -5,46 +5,13 @@ use borrow.Author.Needs.{needs}
 use Rattle.engine.proofs.write.plan_ready.Statement.{statement}
 use Rattle.engine.proofs.write.plan_ready.Tie as tie
 
-terms-requires : tie.Need-terms-requires
-terms-requires c κs = search needs
-
-mul-cut : tie.Need-mul-cut
-mul-cut c = search needs
-
-cut-requires : tie.Need-cut-requires
-cut-requires c κs = search needs
-
 decide-requires : tie.Need-decide-requires
 decide-requires c κs =
     region-asked (c .before .before .before .before .before .before .pre .0) (c .cut .ensures)
 
-enum-known-what : tie.Need-enum-known-what
-enum-known-what c = search needs
-
-refuse-requires : tie.Need-refuse-requires
-refuse-requires c κs = search needs
-
-enum-told : tie.Need-enum-told
-enum-told c = search needs
-
-nothing-requires : tie.Need-nothing-requires
-nothing-requires c κs = search needs
-
-accept-requires : tie.Need-accept-requires
-accept-requires c κs = search needs
-
-enum-told-2 : tie.Need-enum-told-2
-enum-told-2 c = search needs
-
 delete-requires : tie.Need-delete-requires
 delete-requires c κs =
     remove-asked _ _ _ _ _ _ _ _ (c .before .before .before .before .before .before .before .before .before .before .before .pre .0) (c .before .before .before .before .before .cut .ensures) (c .before .before .before .before .before .before .terms .ensures) (c .before .before .before .before .decide .ensures)
-
-accept-requires-2 : tie.Need-accept-requires-2
-accept-requires-2 c κs = search needs
-
-enum-told-3 : tie.Need-enum-told-3
-enum-told-3 c = search needs
 
 plan-put-requires : tie.Need-plan-put-requires
 plan-put-requires c κs =
@@ -63,9 +30,6 @@ returns-3 : tie.Need-returns-3
 returns-3 c =
     remove-plans _ _ _ _ _ _ _ _ (c .before .before .before .before .before .before .before .before .before .before .before .before .before .pre .0) (c .before .before .before .before .before .before .before .cut .ensures) (c .before .before .before .before .before .before .before .before .terms .ensures) (c .before .before .before .before .before .before .decide .ensures) (c .before .before .enum-told2 .given .1) (c .before .before .before .before .before .before .before .before .before .before .before .before .before .pre .1) (c .before .before .before .before .before .before .before .before .before .before .before .before .before .pre .2) _ _ (c .before .delete .ensures) (c .accept2 .ensures)
 
-same-length : tie.Need-same-length
-same-length c = search needs
-
 returns-4 : tie.Need-returns-4
 returns-4 c =
     put-plans _ _ _ _ _ _ _ _ (c .before .before .before .before .before .before .before .before .before .before .before .before .before .before .before .pre .0) (c .before .before .before .before .before .before .before .before .before .cut .ensures) (c .before .before .before .before .before .before .before .before .before .before .terms .ensures) (c .before .before .before .before .before .before .before .before .decide .ensures) (c .before .before .before .before .enum-told3 .given .1) (c .before .before .before .before .before .before .before .before .before .before .before .before .before .before .before .pre .1) (c .before .before .before .before .before .before .before .before .before .before .before .before .before .before .before .pre .2) _ (c .before .before .plan-put .ensures)
@@ -74,22 +38,22 @@ pub plan-ready-spec : {M : Type 1} → statement M
 plan-ready-spec =
     tie.close
     (tie.spec
-    terms-requires
-    mul-cut
-    cut-requires
+    (λ c κs. search needs)
+    (λ c. search needs)
+    (λ c κs. search needs)
     decide-requires
-    enum-known-what
-    refuse-requires
-    enum-told
-    nothing-requires
-    accept-requires
-    enum-told-2
+    (λ c. search needs)
+    (λ c κs. search needs)
+    (λ c. search needs)
+    (λ c κs. search needs)
+    (λ c κs. search needs)
+    (λ c. search needs)
     delete-requires
-    accept-requires-2
-    enum-told-3
+    (λ c κs. search needs)
+    (λ c. search needs)
     plan-put-requires
     returns
     returns-2
     returns-3
-    same-length
+    (λ c. search needs)
     returns-4)

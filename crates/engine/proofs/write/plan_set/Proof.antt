@@ -13,15 +13,6 @@ use borrow.Author.Needs.{needs}
 use Rattle.engine.proofs.write.plan_set.Statement.{statement}
 use Rattle.engine.proofs.write.plan_set.Tie as tie
 
-guid-requires : tie.Need-guid-requires
-guid-requires c κs = search needs
-
-check-call-requires : tie.Need-check-call-requires
-check-call-requires c κs = search needs
-
-enum-known-check : tie.Need-enum-known-check
-enum-known-check c = search needs
-
 plan-ready-requires : tie.Need-plan-ready-requires
 plan-ready-requires c κs =
     let a = c .before .before .before .before .before .before .before .before .before .args in
@@ -38,15 +29,6 @@ plan-ready-requires c κs =
       search needs,
     )
 
-enum-known-check-2 : tie.Need-enum-known-check-2
-enum-known-check-2 c = search needs
-
-refuse-requires : tie.Need-refuse-requires
-refuse-requires c κs = search needs
-
-returns : tie.Need-returns
-returns c = search needs
-
 returns-2 : tie.Need-returns-2
 returns-2 c =
     refused-plans _ _ _ _ (c .refuse .ensures) (image-refused _ _ _ _ (sym (c .before .before .before .before .check-call .ensures) ∙ c .before .before .check2 .given .1))
@@ -55,11 +37,11 @@ pub plan-set-spec : {M : Type 1} → statement M
 plan-set-spec =
     tie.close
     (tie.spec
-    guid-requires
-    check-call-requires
-    enum-known-check
+    (λ c κs. search needs)
+    (λ c κs. search needs)
+    (λ c. search needs)
     plan-ready-requires
-    enum-known-check-2
-    refuse-requires
-    returns
+    (λ c. search needs)
+    (λ c κs. search needs)
+    (λ c. search needs)
     returns-2)

@@ -8,18 +8,6 @@ use borrow.Author.Needs.{needs}
 use Rattle.layout.proofs.fixed.is_database.Statement.{statement}
 use Rattle.layout.proofs.fixed.is_database.Tie as tie
 
-database-vendor-requires : tie.Need-database-vendor-requires
-database-vendor-requires c κs = search needs
-
-slice-aggregate-equal : tie.Need-slice-aggregate-equal
-slice-aggregate-equal c = search needs
-
-equal-requires : tie.Need-equal-requires
-equal-requires c κs = search needs
-
-is-database-name-requires : tie.Need-is-database-name-requires
-is-database-name-requires c κs = search needs
-
 returns : tie.Need-returns
 unfolding isDatabase keydb keydbx keydbt
 returns c =
@@ -41,9 +29,9 @@ pub is-database-spec : {M : Type 1} → statement M
 is-database-spec =
     tie.close
     (tie.spec
-    database-vendor-requires
-    slice-aggregate-equal
-    equal-requires
-    is-database-name-requires
+    (λ c κs. search needs)
+    (λ c. search needs)
+    (λ c κs. search needs)
+    (λ c κs. search needs)
     returns
     returns-2)

@@ -6,18 +6,6 @@ use borrow.Author.Needs.{needs}
 use Rattle.layout.proofs.fixed.is_digit_at.Statement.{statement}
 use Rattle.layout.proofs.fixed.is_digit_at.Tie as tie
 
-add-if1 : tie.Need-add-if1
-add-if1 c = search needs
-
-shared-slice-read-if1 : tie.Need-shared-slice-read-if1
-shared-slice-read-if1 c = search needs
-
-shared-slice-read-is-digit : tie.Need-shared-slice-read-is-digit
-shared-slice-read-is-digit c = search needs
-
-is-digit-requires : tie.Need-is-digit-requires
-is-digit-requires c κs = search needs
-
 returns : tie.Need-returns
 returns c =
     let a = c .before .before .before .before .before .args in
@@ -32,9 +20,9 @@ pub is-digit-at-spec : {M : Type 1} → statement M
 is-digit-at-spec =
     tie.close
     (tie.spec
-    add-if1
-    shared-slice-read-if1
-    shared-slice-read-is-digit
-    is-digit-requires
+    (λ c. search needs)
+    (λ c. search needs)
+    (λ c. search needs)
+    (λ c κs. search needs)
     returns
     returns-2)

@@ -3,12 +3,6 @@ use borrow.Author.Needs.{needs}
 use Rattle.layout.proofs.fixed.is_key.Statement.{statement}
 use Rattle.layout.proofs.fixed.is_key.Tie as tie
 
-equal-requires : tie.Need-equal-requires
-equal-requires c κs = search needs
-
-equal-requires-2 : tie.Need-equal-requires-2
-equal-requires-2 c κs = search needs
-
 returns : tie.Need-returns
 returns c = rw (← c .before .before .before .before .equal .ensures, c .before .before .before .if1 .taken) (c .equal2 .ensures)
 
@@ -16,4 +10,4 @@ returns-2 : tie.Need-returns-2
 returns-2 c = rw (← c .before .equal .ensures, c .if1 .left)
 
 pub is-key-spec : {M : Type 1} → statement M
-is-key-spec = tie.close (tie.spec equal-requires equal-requires-2 returns returns-2)
+is-key-spec = tie.close (tie.spec (λ c κs. search needs) (λ c κs. search needs) returns returns-2)

@@ -5,22 +5,13 @@ use borrow.Author.Needs.{needs}
 use Rattle.layout.proofs.fixed.is_key_name.Statement.{statement}
 use Rattle.layout.proofs.fixed.is_key_name.Tie as tie
 
-is-pk-requires : tie.Need-is-pk-requires
-is-pk-requires c κs = search needs
-
 returns : tie.Need-returns
 unfolding isKeyName
 returns c = rw (sym (c .before .is-pk .ensures) ∙ c .if1 .taken)
 
-is-kek-requires : tie.Need-is-kek-requires
-is-kek-requires c κs = search needs
-
 returns-2 : tie.Need-returns-2
 unfolding isKeyName
 returns-2 c = rw (sym (c .before .before .before .is-pk .ensures) ∙ c .before .before .if1 .left, sym (c .before .is-kek .ensures) ∙ c .if2 .taken)
-
-is-database-requires : tie.Need-is-database-requires
-is-database-requires c κs = search needs
 
 returns-3 : tie.Need-returns-3
 unfolding isKeyName
@@ -29,4 +20,4 @@ returns-3 c = rw (sym (c .before .before .before .before .is-pk .ensures) ∙ c 
 pub is-key-name-spec : {M : Type 1} → statement M
 is-key-name-spec =
     tie.close
-    (tie.spec is-pk-requires returns is-kek-requires returns-2 is-database-requires returns-3)
+    (tie.spec (λ c κs. search needs) returns (λ c κs. search needs) returns-2 (λ c κs. search needs) returns-3)

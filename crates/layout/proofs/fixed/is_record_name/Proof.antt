@@ -14,18 +14,6 @@ returns c =
     let a = c .before .before .before .args in
     sym (record-length (keyed (now (a .name)) (now (a .vendor))) (c .if1 .taken))
 
-is-record-form-requires : tie.Need-is-record-form-requires
-is-record-form-requires c κs = search needs
-
-record-vendor-requires : tie.Need-record-vendor-requires
-record-vendor-requires c κs = search needs
-
-slice-aggregate-equal : tie.Need-slice-aggregate-equal
-slice-aggregate-equal c = search needs
-
-equal-requires : tie.Need-equal-requires
-equal-requires c κs = search needs
-
 returns-2 : tie.Need-returns-2
 returns-2 c =
     let a = c .before .before .before .before .before .before .before .before .args in
@@ -44,9 +32,9 @@ is-record-name-spec =
     tie.close
     (tie.spec
     returns
-    is-record-form-requires
-    record-vendor-requires
-    slice-aggregate-equal
-    equal-requires
+    (λ c κs. search needs)
+    (λ c κs. search needs)
+    (λ c. search needs)
+    (λ c κs. search needs)
     returns-2
     returns-3)

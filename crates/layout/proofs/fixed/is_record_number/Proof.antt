@@ -8,24 +8,6 @@ use borrow.Author.Needs.{needs}
 use Rattle.layout.proofs.fixed.is_record_number.Statement.{statement}
 use Rattle.layout.proofs.fixed.is_record_number.Tie as tie
 
-is-digit-at-requires : tie.Need-is-digit-at-requires
-is-digit-at-requires c κs = search needs
-
-is-digit-at-requires-2 : tie.Need-is-digit-at-requires-2
-is-digit-at-requires-2 c κs = search needs
-
-is-digit-at-requires-3 : tie.Need-is-digit-at-requires-3
-is-digit-at-requires-3 c κs = search needs
-
-is-digit-at-requires-4 : tie.Need-is-digit-at-requires-4
-is-digit-at-requires-4 c κs = search needs
-
-shared-slice-read-if5 : tie.Need-shared-slice-read-if5
-shared-slice-read-if5 c = search needs
-
-shared-slice-read-result : tie.Need-shared-slice-read-result
-shared-slice-read-result c = search needs
-
 returns : tie.Need-returns
 returns c =
     let n = c .before .before .before .before .before .before .before .before .before .before .before .before in
@@ -98,12 +80,12 @@ pub is-record-number-spec : {M : Type 1} → statement M
 is-record-number-spec =
     tie.close
     (tie.spec
-    is-digit-at-requires
-    is-digit-at-requires-2
-    is-digit-at-requires-3
-    is-digit-at-requires-4
-    shared-slice-read-if5
-    shared-slice-read-result
+    (λ c κs. search needs)
+    (λ c κs. search needs)
+    (λ c κs. search needs)
+    (λ c κs. search needs)
+    (λ c. search needs)
+    (λ c. search needs)
     returns
     returns-2
     returns-3

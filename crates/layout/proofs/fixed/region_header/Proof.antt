@@ -6,16 +6,10 @@ use borrow.Author.Needs.{needs}
 use Rattle.layout.proofs.fixed.region_header.Statement.{statement}
 use Rattle.layout.proofs.fixed.region_header.Tie as tie
 
-authenticated-requires : tie.Need-authenticated-requires
-authenticated-requires c κs = search needs
-
-region-header-in-requires : tie.Need-region-header-in-requires
-region-header-in-requires c κs = search needs
-
 returns : tie.Need-returns
 returns c =
     let a = c .before .before .args in
     c .region-header-in .ensures ∙ ap (λ (y : Layout). regionHeaderIn y (a .size)) (c .before .authenticated .ensures)
 
 pub region-header-spec : {M : Type 1} → statement M
-region-header-spec = tie.close (tie.spec authenticated-requires region-header-in-requires returns)
+region-header-spec = tie.close (tie.spec (λ c κs. search needs) (λ c κs. search needs) returns)

@@ -5,9 +5,6 @@ use Rattle.model.specs.Layout.{signature, plainSignature}
 use Rattle.model.proofs.Layout.signature.Statement.{statement}
 use Rattle.model.proofs.Layout.signature.Tie as tie
 
-is-stamped-requires : tie.Need-is-stamped-requires
-is-stamped-requires c κs = search needs
-
 returns : tie.Need-returns
 unfolding signature plainSignature
 returns c = simp (sym (c .before .is-stamped .ensures) ∙ c .if1 .taken)
@@ -17,4 +14,4 @@ unfolding signature plainSignature
 returns-2 c = simp (sym (c .before .is-stamped .ensures) ∙ c .if1 .left)
 
 pub signature-spec : {M : Type 1} → statement M
-signature-spec = tie.close (tie.spec is-stamped-requires returns returns-2)
+signature-spec = tie.close (tie.spec (λ c κs. search needs) returns returns-2)

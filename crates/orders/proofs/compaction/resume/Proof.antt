@@ -6,18 +6,9 @@ use borrow.Author.Needs.{needs}
 use Rattle.orders.proofs.compaction.resume.Statement.{statement}
 use Rattle.orders.proofs.compaction.resume.Tie as tie
 
-mul-size : tie.Need-mul-size
-mul-size c = search needs
-
-add-t9 : tie.Need-add-t9
-add-t9 c = search needs
-
-add-t12 : tie.Need-add-t12
-add-t12 c = search needs
-
 returns : tie.Need-returns
 unfolding resumePlan block
 returns c = refl
 
 pub resume-spec : {M : Type 1} → statement M
-resume-spec = tie.close (tie.spec mul-size add-t9 add-t12 returns)
+resume-spec = tie.close (tie.spec (λ c. search needs) (λ c. search needs) (λ c. search needs) returns)

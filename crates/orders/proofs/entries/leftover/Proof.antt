@@ -4,15 +4,6 @@ use borrow.Author.Needs.{needs}
 use Rattle.orders.proofs.entries.leftover.Statement.{statement}
 use Rattle.orders.proofs.entries.leftover.Tie as tie
 
-enum-told : tie.Need-enum-told
-enum-told c = search needs
-
-mark-found-requires : tie.Need-mark-found-requires
-mark-found-requires c κs = search needs
-
-enum-told-2 : tie.Need-enum-told-2
-enum-told-2 c = search needs
-
 returns : tie.Need-returns
 unfolding leftoverStep
 returns c = rw (c .before .enum-told .given .1) (c .mark-found .ensures)
@@ -22,4 +13,4 @@ unfolding leftoverStep
 returns-2 c = rw (c .enum-told2 .given .1)
 
 pub leftover-spec : {M : Type 1} → statement M
-leftover-spec = tie.close (tie.spec enum-told mark-found-requires enum-told-2 returns returns-2)
+leftover-spec = tie.close (tie.spec (λ c. search needs) (λ c κs. search needs) (λ c. search needs) returns returns-2)

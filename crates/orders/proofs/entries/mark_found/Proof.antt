@@ -8,17 +8,11 @@ use borrow.Author.Needs.{needs}
 use Rattle.orders.proofs.entries.mark_found.Statement.{statement}
 use Rattle.orders.proofs.entries.mark_found.Tie as tie
 
-enum-known-found : tie.Need-enum-known-found
-enum-known-found c = search needs
-
 add-t5 : tie.Need-add-t5
 add-t5 c =
     let s = c .before .before .before in
     let h = subst (λ (f : Found). Below (2 ^ 62) f) (c .before .found .given .1) (s .pre) in
     omega arith
-
-enum-told : tie.Need-enum-told
-enum-told c = search needs
 
 returns : tie.Need-returns
 unfolding markFound
@@ -29,4 +23,4 @@ unfolding markFound
 returns-2 c = rw (c .enum-told .given .1)
 
 pub mark-found-spec : {M : Type 1} → statement M
-mark-found-spec = tie.close (tie.spec enum-known-found add-t5 enum-told returns returns-2)
+mark-found-spec = tie.close (tie.spec (λ c. search needs) add-t5 (λ c. search needs) returns returns-2)

@@ -8,9 +8,6 @@ use borrow.Author.Needs.{needs}
 use Rattle.orders.proofs.entries.retire.Statement.{statement}
 use Rattle.orders.proofs.entries.retire.Tie as tie
 
-standing-requires : tie.Need-standing-requires
-standing-requires c κs = search needs
-
 mark-found-requires : tie.Need-mark-found-requires
 mark-found-requires c κs =
     let s = c .before in
@@ -21,4 +18,4 @@ unfolding retireStep
 returns c = c .mark-found .ensures ∙ ap (λ (f : Found). markFound f 0x3C) (c .before .standing .ensures)
 
 pub retire-spec : {M : Type 1} → statement M
-retire-spec = tie.close (tie.spec standing-requires mark-found-requires returns)
+retire-spec = tie.close (tie.spec (λ c κs. search needs) mark-found-requires returns)

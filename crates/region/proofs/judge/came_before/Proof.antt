@@ -30,22 +30,10 @@ loop-holds c =
     let a = c .before .before .before .args in
     ap (λ l. any (isEntry (a .state) (keyed (now (a .name)) (now (a .vendor)))) (upTo (a .end) l)) (entries-from (a .y) (now (a .region)))
 
-turn-in-requires : tie.Need-turn-in-requires Inv-loop μ-loop
-turn-in-requires c κs = search needs
-
-enum-known-t : tie.Need-enum-known-t Inv-loop μ-loop
-enum-known-t c = search needs
-
-enum-told : tie.Need-enum-told Inv-loop μ-loop
-enum-told c = search needs
-
 returns : tie.Need-returns Inv-loop μ-loop
 returns c =
     let b = c .before .before in
     sym (b .before .before .loop .inv ∙ ap (any _) (up-none (at-end (b .turn-in .ensures) (c .enum-told .given .1)) _))
-
-is-entry-in-requires : tie.Need-is-entry-in-requires Inv-loop μ-loop
-is-entry-in-requires c κs = search needs
 
 returns-2 : tie.Need-returns-2 Inv-loop μ-loop
 returns-2 c =
@@ -75,11 +63,11 @@ came-before-spec =
     Inv-loop
     μ-loop
     loop-holds
-    turn-in-requires
-    enum-known-t
-    enum-told
+    (λ c κs. search needs)
+    (λ c. search needs)
+    (λ c. search needs)
     returns
-    is-entry-in-requires
+    (λ c κs. search needs)
     returns-2
     loop-less
     loop-again

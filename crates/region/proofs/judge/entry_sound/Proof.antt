@@ -15,33 +15,12 @@ returns c =
     let s = now (a .s) in
     sym (sound-unfinished (a .y) s 0 (a .e) (length s) (c .if1 .taken))
 
-known-state-requires : tie.Need-known-state-requires
-known-state-requires c κs = search needs
-
-header-requires : tie.Need-header-requires
-header-requires c κs = search needs
-
-cast-if3 : tie.Need-cast-if3
-cast-if3 c = search needs
-
-add-if3 : tie.Need-add-if3
-add-if3 c = search needs
-
-cast-if3-2 : tie.Need-cast-if3-2
-cast-if3-2 c = search needs
-
-add-if3-2 : tie.Need-add-if3-2
-add-if3-2 c = search needs
-
 returns-2 : tie.Need-returns-2
 returns-2 c =
     let a = c .before .before .before .before .before .before .before .before .before .args in
     let s = now (a .s) in
     sym (sound-over (a .y) s 0 (a .e) (length s) (c .before .before .before .before .before .before .if1 .left)
     (omega (arith, c .before .before .before .header .ensures .0)))
-
-right-live-requires : tie.Need-right-live-requires
-right-live-requires c κs = search needs
 
 returns-3 : tie.Need-returns-3
 returns-3 c =
@@ -63,13 +42,13 @@ entry-sound-spec =
     tie.close
     (tie.spec
     returns
-    known-state-requires
-    header-requires
-    cast-if3
-    add-if3
-    cast-if3-2
-    add-if3-2
+    (λ c κs. search needs)
+    (λ c κs. search needs)
+    (λ c. search needs)
+    (λ c. search needs)
+    (λ c. search needs)
+    (λ c. search needs)
     returns-2
-    right-live-requires
+    (λ c κs. search needs)
     returns-3
     returns-4)

@@ -13,21 +13,6 @@ use Rattle.region.proofs.Scanning.{doubled-live, doubled-dead}
 use Rattle.region.proofs.judge.is_doubled.Statement.{statement}
 use Rattle.region.proofs.judge.is_doubled.Tie as tie
 
-is-noted-requires : tie.Need-is-noted-requires
-is-noted-requires c κs = search needs
-
-is-live-requires : tie.Need-is-live-requires
-is-live-requires c κs = search needs
-
-name-of-in-requires : tie.Need-name-of-in-requires
-name-of-in-requires c κs = search needs
-
-vendor-of-in-requires : tie.Need-vendor-of-in-requires
-vendor-of-in-requires c κs = search needs
-
-came-before-requires : tie.Need-came-before-requires
-came-before-requires c κs = search needs
-
 returns : tie.Need-returns
 returns c =
     let b = c .before .before .before .before .before in
@@ -55,11 +40,11 @@ pub is-doubled-spec : {M : Type 1} → statement M
 is-doubled-spec =
     tie.close
     (tie.spec
-    is-noted-requires
-    is-live-requires
-    name-of-in-requires
-    vendor-of-in-requires
-    came-before-requires
+    (λ c κs. search needs)
+    (λ c κs. search needs)
+    (λ c κs. search needs)
+    (λ c κs. search needs)
+    (λ c κs. search needs)
     returns
     returns-2
     returns-3)

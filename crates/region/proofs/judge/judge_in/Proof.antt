@@ -7,18 +7,6 @@ use Rattle.region.proofs.Whole.{wrong-header, wrong-entry, all-right, u
 use Rattle.region.proofs.judge.judge_in.Statement.{statement}
 use Rattle.region.proofs.judge.judge_in.Tie as tie
 
-right-header-requires : tie.Need-right-header-requires
-right-header-requires c κs = search needs
-
-scan-requires : tie.Need-scan-requires
-scan-requires c κs = search needs
-
-cut-requires : tie.Need-cut-requires
-cut-requires c κs = search needs
-
-is-blank-requires : tie.Need-is-blank-requires
-is-blank-requires c κs = search needs
-
 returns : tie.Need-returns
 returns c =
     let y = c .before .before .before .before .before .before .before .args .y in
@@ -44,4 +32,4 @@ returns-3 c =
 
 pub judge-in-spec : {M : Type 1} → statement M
 judge-in-spec =
-    tie.close (tie.spec right-header-requires scan-requires cut-requires is-blank-requires returns returns-2 returns-3)
+    tie.close (tie.spec (λ c κs. search needs) (λ c κs. search needs) (λ c κs. search needs) (λ c κs. search needs) returns returns-2 returns-3)

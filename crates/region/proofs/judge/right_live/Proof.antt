@@ -9,9 +9,6 @@ use Rattle.region.proofs.Judging.{right-dead, right-empty, right-large,
 use Rattle.region.proofs.judge.right_live.Statement.{statement}
 use Rattle.region.proofs.judge.right_live.Tie as tie
 
-is-live-requires : tie.Need-is-live-requires
-is-live-requires c κs = search needs
-
 returns : tie.Need-returns
 returns c =
     let a = c .before .before .before .before .before .args in
@@ -23,18 +20,6 @@ returns-2 c =
     let a = c .before .before .before .before .before .before .before .args in
     let live = sym (c .before .before .before .before .before .is-live .ensures) ∙ c .before .before .before .before .if1 .taken in
     sym (right-large (a .y) (now (a .s)) 0 (a .e) live (c .if3 .taken))
-
-plain-attributes-requires : tie.Need-plain-attributes-requires
-plain-attributes-requires c κs = search needs
-
-name-of-requires : tie.Need-name-of-requires
-name-of-requires c κs = search needs
-
-is-named-requires : tie.Need-is-named-requires
-is-named-requires c κs = search needs
-
-right-record-requires : tie.Need-right-record-requires
-right-record-requires c κs = search needs
 
 returns-3 : tie.Need-returns-3
 returns-3 c =
@@ -61,13 +46,13 @@ pub right-live-spec : {M : Type 1} → statement M
 right-live-spec =
     tie.close
     (tie.spec
-    is-live-requires
+    (λ c κs. search needs)
     returns
     returns-2
-    plain-attributes-requires
-    name-of-requires
-    is-named-requires
-    right-record-requires
+    (λ c κs. search needs)
+    (λ c κs. search needs)
+    (λ c κs. search needs)
+    (λ c κs. search needs)
     returns-3
     returns-4
     returns-5)

@@ -18,18 +18,6 @@ use Rattle.region.proofs.judge.right_record.Tie as tie
 returns : tie.Need-returns
 returns c = simp (ne-eqb _ _ (c .if1 .taken), and-false)
 
-name-of-requires : tie.Need-name-of-requires
-name-of-requires c κs = search needs
-
-is-named-requires : tie.Need-is-named-requires
-is-named-requires c κs = search needs
-
-vendor-of-requires : tie.Need-vendor-of-requires
-vendor-of-requires c κs = search needs
-
-is-record-name-requires : tie.Need-is-record-name-requires
-is-record-name-requires c κs = search needs
-
 returns-2 : tie.Need-returns-2
 returns-2 c =
     let a = c .before .before .before .before .before .before .before .before .args in
@@ -50,4 +38,4 @@ returns-3 c =
 pub right-record-spec : {M : Type 1} → statement M
 right-record-spec =
     tie.close
-    (tie.spec returns name-of-requires is-named-requires vendor-of-requires is-record-name-requires returns-2 returns-3)
+    (tie.spec returns (λ c κs. search needs) (λ c κs. search needs) (λ c κs. search needs) (λ c κs. search needs) returns-2 returns-3)

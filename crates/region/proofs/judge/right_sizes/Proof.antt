@@ -14,9 +14,6 @@ returns c = λ e. absurd (true≢false (sym e))
 returns-2 : tie.Need-returns-2
 returns-2 c = λ e. absurd (true≢false (sym e))
 
-characters-requires : tie.Need-characters-requires
-characters-requires c κs = search needs
-
 returns-3 : tie.Need-returns-3
 returns-3 c = λ e. absurd (true≢false (sym e))
 
@@ -28,4 +25,4 @@ returns-4 c =
     record { some-data = omega arith; few-data = omega arith; long = omega arith; short = omega arith; even = omega arith }
 
 pub right-sizes-spec : {M : Type 1} → statement M
-right-sizes-spec = tie.close (tie.spec returns returns-2 characters-requires returns-3 returns-4)
+right-sizes-spec = tie.close (tie.spec returns returns-2 (λ c κs. search needs) returns-3 returns-4)

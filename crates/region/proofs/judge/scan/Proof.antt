@@ -32,12 +32,6 @@ Inv-loop y region last noted₀ at₀ noted at = (singly y region ≡ scanned (l
 abbrev μ-loop : tie.MeasureT-loop
 μ-loop y region last noted₀ at₀ noted at = length region - at
 
-last-header-requires : tie.Need-last-header-requires Inv-loop2 μ-loop2 Inv-loop μ-loop
-last-header-requires c κs = search needs
-
-no-marks-requires : tie.Need-no-marks-requires Inv-loop2 μ-loop2 Inv-loop μ-loop
-no-marks-requires c κs = search needs
-
 loop-holds : tie.Need-loop-holds Inv-loop2 μ-loop2 Inv-loop μ-loop
 loop-holds c =
     let a = c .before .before .before .args in
@@ -45,12 +39,6 @@ loop-holds c =
 
 loop2-holds : tie.Need-loop2-holds Inv-loop2 μ-loop2 Inv-loop μ-loop
 loop2-holds c = (c .loop .inv .0, c .loop .inv .1, omega arith)
-
-usual-at-requires : tie.Need-usual-at-requires Inv-loop2 μ-loop2 Inv-loop μ-loop
-usual-at-requires c κs = search needs
-
-vendor-requires : tie.Need-vendor-requires Inv-loop2 μ-loop2 Inv-loop μ-loop
-vendor-requires c κs = search needs
 
 add-v : tie.Need-add-v Inv-loop2 μ-loop2 Inv-loop μ-loop
 add-v c =
@@ -100,15 +88,6 @@ part-mark-of-key-end c =
     let m = room-usual (a .y) r (l .loop2 .at) (t .result .name) (t .result .end) (t .ensures) (c .before .if1 .left) in
     omega (arith, m .0, c .vendor .ensures .0)
 
-mark-of-key-requires : tie.Need-mark-of-key-requires Inv-loop2 μ-loop2 Inv-loop μ-loop
-mark-of-key-requires c κs = search needs
-
-array-read-old : tie.Need-array-read-old Inv-loop2 μ-loop2 Inv-loop μ-loop
-array-read-old c = search needs
-
-array-write-noted : tie.Need-array-write-noted Inv-loop2 μ-loop2 Inv-loop μ-loop
-array-write-noted c = search needs
-
 rounded-requires : tie.Need-rounded-requires Inv-loop2 μ-loop2 Inv-loop μ-loop
 rounded-requires c κs =
     let l = c .before .before .before .before .before .before in
@@ -149,15 +128,6 @@ loop2-again c =
     let less = w .less in
     let here = l .loop2 .inv .2 in
     rw (c .rounded .ensures) (l .loop2 .inv .0 ∙ scan-next (w .walk) _ _ _ own (w .next), next-first (l .loop2 .inv .1) w _ q (e .1) (c .before .if2 .taken), omega arith)
-
-is-noted-requires : tie.Need-is-noted-requires Inv-loop2 μ-loop2 Inv-loop μ-loop
-is-noted-requires c κs = search needs
-
-note-requires : tie.Need-note-requires Inv-loop2 μ-loop2 Inv-loop μ-loop
-note-requires c κs = search needs
-
-array-write-noted-2 : tie.Need-array-write-noted-2 Inv-loop2 μ-loop2 Inv-loop μ-loop
-array-write-noted-2 c = search needs
 
 rounded-requires-2 : tie.Need-rounded-requires-2 Inv-loop2 μ-loop2 Inv-loop μ-loop
 rounded-requires-2 c κs =
@@ -201,15 +171,6 @@ loop2-again-2 c =
     let new = sym (c .before .before .before .is-noted .ensures) ∙ c .before .before .if3 .left in
     rw (c .rounded2 .ensures, c .before .note .ensures) (l .loop2 .inv .0 ∙ scan-next (w .walk) _ _ _ own (w .next), next (l .loop2 .inv .1) w _ q (e .1) (rw new), omega arith)
 
-turn-in-requires : tie.Need-turn-in-requires Inv-loop2 μ-loop2 Inv-loop μ-loop
-turn-in-requires c κs = search needs
-
-enum-known-t : tie.Need-enum-known-t Inv-loop2 μ-loop2 Inv-loop μ-loop
-enum-known-t c = search needs
-
-enum-told : tie.Need-enum-told Inv-loop2 μ-loop2 Inv-loop μ-loop
-enum-told c = search needs
-
 returns : tie.Need-returns Inv-loop2 μ-loop2 Inv-loop μ-loop
 unfolding walkEnd
 returns c =
@@ -229,12 +190,6 @@ part-entry-sound-start c = let w = at-entry (c .before .before .before .turn-in 
 part-entry-sound-end : tie.Need-part-entry-sound-end Inv-loop2 μ-loop2 Inv-loop μ-loop
 part-entry-sound-end c = let w = at-entry (c .before .before .before .turn-in .ensures) (c .before .t .given .1) in omega arith
 
-entry-sound-requires : tie.Need-entry-sound-requires Inv-loop2 μ-loop2 Inv-loop μ-loop
-entry-sound-requires c κs = search needs
-
-unsound-requires : tie.Need-unsound-requires Inv-loop2 μ-loop2 Inv-loop μ-loop
-unsound-requires c κs = search needs
-
 returns-2 : tie.Need-returns-2 Inv-loop2 μ-loop2 Inv-loop μ-loop
 returns-2 c =
     let d = c .before in
@@ -253,18 +208,6 @@ part-mark-of-start c = let w = at-entry (c .before .before .before .before .befo
 part-mark-of-end : tie.Need-part-mark-of-end Inv-loop2 μ-loop2 Inv-loop μ-loop
 part-mark-of-end c = let w = at-entry (c .before .before .before .before .before .before .turn-in .ensures) (c .before .before .before .before .t .given .1) in omega arith
 
-mark-of-requires : tie.Need-mark-of-requires Inv-loop2 μ-loop2 Inv-loop μ-loop
-mark-of-requires c κs = search needs
-
-array-read-old-2 : tie.Need-array-read-old-2 Inv-loop2 μ-loop2 Inv-loop μ-loop
-array-read-old-2 c = search needs
-
-is-doubled-requires : tie.Need-is-doubled-requires Inv-loop2 μ-loop2 Inv-loop μ-loop
-is-doubled-requires c κs = search needs
-
-unsound-requires-2 : tie.Need-unsound-requires-2 Inv-loop2 μ-loop2 Inv-loop μ-loop
-unsound-requires-2 c κs = search needs
-
 returns-3 : tie.Need-returns-3 Inv-loop2 μ-loop2 Inv-loop μ-loop
 returns-3 c =
     let d = c .before in
@@ -272,12 +215,6 @@ returns-3 c =
     let a = l .before .before .before .before .before .args in
     let w = at-entry (d .before .before .before .before .before .before .before .before .before .before .turn-in .ensures) (d .before .before .before .before .before .before .before .before .t .given .1) in
     c .unsound2 .ensures ∙ sym (scan-doubled (a .y) (now (a .region)) (doubled (l .loop2 .inv .1) w _ _ (sym (d .before .is-doubled .ensures) ∙ d .if5 .taken)))
-
-note-requires-2 : tie.Need-note-requires-2 Inv-loop2 μ-loop2 Inv-loop μ-loop
-note-requires-2 c κs = search needs
-
-array-write-noted-3 : tie.Need-array-write-noted-3 Inv-loop2 μ-loop2 Inv-loop μ-loop
-array-write-noted-3 c = search needs
 
 loop-less : tie.Need-loop-less Inv-loop2 μ-loop2 Inv-loop μ-loop
 loop-less c =
@@ -306,51 +243,51 @@ scan-spec =
     μ-loop2
     Inv-loop
     μ-loop
-    last-header-requires
-    no-marks-requires
+    (λ c κs. search needs)
+    (λ c κs. search needs)
     loop-holds
     loop2-holds
-    usual-at-requires
-    vendor-requires
+    (λ c κs. search needs)
+    (λ c κs. search needs)
     add-v
     add-mark-of-key
     add-mark-of-key-2
     sub-mark-of-key
     part-mark-of-key-start
     part-mark-of-key-end
-    mark-of-key-requires
-    array-read-old
-    array-write-noted
+    (λ c κs. search needs)
+    (λ c. search needs)
+    (λ c. search needs)
     rounded-requires
     add-at
     loop2-less
     loop2-again
-    is-noted-requires
-    note-requires
-    array-write-noted-2
+    (λ c κs. search needs)
+    (λ c κs. search needs)
+    (λ c. search needs)
     rounded-requires-2
     add-at-2
     loop2-less-2
     loop2-again-2
-    turn-in-requires
-    enum-known-t
-    enum-told
+    (λ c κs. search needs)
+    (λ c. search needs)
+    (λ c. search needs)
     returns
     sub-entry-sound
     part-entry-sound-start
     part-entry-sound-end
-    entry-sound-requires
-    unsound-requires
+    (λ c κs. search needs)
+    (λ c κs. search needs)
     returns-2
     sub-mark-of
     part-mark-of-start
     part-mark-of-end
-    mark-of-requires
-    array-read-old-2
-    is-doubled-requires
-    unsound-requires-2
+    (λ c κs. search needs)
+    (λ c. search needs)
+    (λ c κs. search needs)
+    (λ c κs. search needs)
     returns-3
-    note-requires-2
-    array-write-noted-3
+    (λ c κs. search needs)
+    (λ c. search needs)
     loop-less
     loop-again)

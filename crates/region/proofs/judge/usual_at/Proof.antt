@@ -11,9 +11,6 @@ use Rattle.region.proofs.Turns.{rest}
 use Rattle.region.proofs.judge.usual_at.Statement.{statement}
 use Rattle.region.proofs.judge.usual_at.Tie as tie
 
-not-usual-requires : tie.Need-not-usual-requires
-not-usual-requires c κs = search needs
-
 returns : tie.Need-returns
 returns c = λ h. absurd (omega arith)
 
@@ -22,9 +19,6 @@ sub-usual-of c = let e = c .before .before .pre (omega arith) in omega arith
 
 part-usual-of-start : tie.Need-part-usual-of-start
 part-usual-of-start c = let e = c .before .before .pre (omega arith) in omega arith
-
-part-usual-of-end : tie.Need-part-usual-of-end
-part-usual-of-end c = search needs
 
 usual-of-requires : tie.Need-usual-of-requires
 usual-of-requires c κs =
@@ -43,4 +37,4 @@ returns-2 c =
 pub usual-at-spec : {M : Type 1} → statement M
 usual-at-spec =
     tie.close
-    (tie.spec not-usual-requires returns sub-usual-of part-usual-of-start part-usual-of-end usual-of-requires returns-2)
+    (tie.spec (λ c κs. search needs) returns sub-usual-of part-usual-of-start (λ c. search needs) usual-of-requires returns-2)

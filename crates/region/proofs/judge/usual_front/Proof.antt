@@ -9,9 +9,6 @@ use Rattle.region.proofs.Usuals.{front-fields}
 use Rattle.region.proofs.judge.usual_front.Statement.{statement}
 use Rattle.region.proofs.judge.usual_front.Tie as tie
 
-standing-eight-requires : tie.Need-standing-eight-requires
-standing-eight-requires c κs = search needs
-
 returns : tie.Need-returns
 returns c =
     let k = c .before in
@@ -21,12 +18,6 @@ returns c =
 
 returns-2 : tie.Need-returns-2
 returns-2 c = λ e. absurd (true≢false (sym e))
-
-cast-plain-attributes : tie.Need-cast-plain-attributes
-cast-plain-attributes c = search needs
-
-plain-attributes-requires : tie.Need-plain-attributes-requires
-plain-attributes-requires c κs = search needs
 
 returns-3 : tie.Need-returns-3
 returns-3 c =
@@ -40,9 +31,9 @@ pub usual-front-spec : {M : Type 1} → statement M
 usual-front-spec =
     tie.close
     (tie.spec
-    standing-eight-requires
+    (λ c κs. search needs)
     returns
     returns-2
-    cast-plain-attributes
-    plain-attributes-requires
+    (λ c. search needs)
+    (λ c κs. search needs)
     returns-3)

@@ -14,57 +14,6 @@ use Rattle.region.proofs.Usuals.{part-is}
 use Rattle.region.proofs.judge.usual_of.Statement.{statement}
 use Rattle.region.proofs.judge.usual_of.Tie as tie
 
-usual-front-requires : tie.Need-usual-front-requires
-usual-front-requires c κs = search needs
-
-name-size-requires : tie.Need-name-size-requires
-name-size-requires c κs = search needs
-
-word-requires : tie.Need-word-requires
-word-requires c κs = search needs
-
-cast-name : tie.Need-cast-name
-cast-name c = search needs
-
-data-size-requires : tie.Need-data-size-requires
-data-size-requires c κs = search needs
-
-word-requires-2 : tie.Need-word-requires-2
-word-requires-2 c κs = search needs
-
-cast-size : tie.Need-cast-size
-cast-size c = search needs
-
-right-sizes-requires : tie.Need-right-sizes-requires
-right-sizes-requires c κs = search needs
-
-header-requires : tie.Need-header-requires
-header-requires c κs = search needs
-
-cast-n : tie.Need-cast-n
-cast-n c = search needs
-
-add-end : tie.Need-add-end
-add-end c = search needs
-
-cast-end : tie.Need-cast-end
-cast-end c = search needs
-
-add-end-2 : tie.Need-add-end-2
-add-end-2 c = search needs
-
-add-is-zero-ended : tie.Need-add-is-zero-ended
-add-is-zero-ended c = search needs
-
-sub-is-zero-ended : tie.Need-sub-is-zero-ended
-sub-is-zero-ended c = search needs
-
-part-is-zero-ended-start : tie.Need-part-is-zero-ended-start
-part-is-zero-ended-start c = search needs
-
-part-is-zero-ended-end : tie.Need-part-is-zero-ended-end
-part-is-zero-ended-end c = search needs
-
 is-zero-ended-requires : tie.Need-is-zero-ended-requires
 is-zero-ended-requires c κs =
     let h = c .before .before in
@@ -95,9 +44,6 @@ returns c =
       named = ap wellNamed (sym (part-is s (h .header .result) (k .word .result) (headerLength (a .y)) (h .header .ensures .0))) ∙ c .before .is-zero-ended .ensures (c .if4 .taken);
     }
 
-not-usual-requires : tie.Need-not-usual-requires
-not-usual-requires c κs = search needs
-
 returns-2 : tie.Need-returns-2
 returns-2 c = λ h. absurd (omega arith)
 
@@ -105,24 +51,24 @@ pub usual-of-spec : {M : Type 1} → statement M
 usual-of-spec =
     tie.close
     (tie.spec
-    usual-front-requires
-    name-size-requires
-    word-requires
-    cast-name
-    data-size-requires
-    word-requires-2
-    cast-size
-    right-sizes-requires
-    header-requires
-    cast-n
-    add-end
-    cast-end
-    add-end-2
-    add-is-zero-ended
-    sub-is-zero-ended
-    part-is-zero-ended-start
-    part-is-zero-ended-end
+    (λ c κs. search needs)
+    (λ c κs. search needs)
+    (λ c κs. search needs)
+    (λ c. search needs)
+    (λ c κs. search needs)
+    (λ c κs. search needs)
+    (λ c. search needs)
+    (λ c κs. search needs)
+    (λ c κs. search needs)
+    (λ c. search needs)
+    (λ c. search needs)
+    (λ c. search needs)
+    (λ c. search needs)
+    (λ c. search needs)
+    (λ c. search needs)
+    (λ c. search needs)
+    (λ c. search needs)
     is-zero-ended-requires
     returns
-    not-usual-requires
+    (λ c κs. search needs)
     returns-2)

@@ -5,27 +5,6 @@ use Rattle.region.specs.Marks.{plus, innerWords}
 use Rattle.region.proofs.marks.inner_words.Statement.{statement}
 use Rattle.region.proofs.marks.inner_words.Tie as tie
 
-sub-standing-eight : tie.Need-sub-standing-eight
-sub-standing-eight c = search needs
-
-standing-eight-requires : tie.Need-standing-eight-requires
-standing-eight-requires c κs = search needs
-
-sub-standing-eight-2 : tie.Need-sub-standing-eight-2
-sub-standing-eight-2 c = search needs
-
-standing-eight-requires-2 : tie.Need-standing-eight-requires-2
-standing-eight-requires-2 c κs = search needs
-
-plus-requires : tie.Need-plus-requires
-plus-requires c κs = search needs
-
-standing-eight-requires-3 : tie.Need-standing-eight-requires-3
-standing-eight-requires-3 c κs = search needs
-
-plus-requires-2 : tie.Need-plus-requires-2
-plus-requires-2 c κs = search needs
-
 returns : tie.Need-returns
 unfolding innerWords
 returns c =
@@ -38,11 +17,11 @@ pub inner-words-spec : {M : Type 1} → statement M
 inner-words-spec =
     tie.close
     (tie.spec
-    sub-standing-eight
-    standing-eight-requires
-    sub-standing-eight-2
-    standing-eight-requires-2
-    plus-requires
-    standing-eight-requires-3
-    plus-requires-2
+    (λ c. search needs)
+    (λ c κs. search needs)
+    (λ c. search needs)
+    (λ c κs. search needs)
+    (λ c κs. search needs)
+    (λ c κs. search needs)
+    (λ c κs. search needs)
     returns)

@@ -8,15 +8,6 @@ use Rattle.region.proofs.Marked.{live-mark, dead-mark}
 use Rattle.region.proofs.marks.mark_of.Statement.{statement}
 use Rattle.region.proofs.marks.mark_of.Tie as tie
 
-is-live-requires : tie.Need-is-live-requires
-is-live-requires c κs = search needs
-
-key-of-requires : tie.Need-key-of-requires
-key-of-requires c κs = search needs
-
-mark-of-key-requires : tie.Need-mark-of-key-requires
-mark-of-key-requires c κs = search needs
-
 returns : tie.Need-returns
 returns c =
     let b = c .before .before .before in
@@ -35,4 +26,4 @@ returns-2 c =
     (sym (dead-mark (a .y) (now (a .s)) (a .e) (sym (b .is-live .ensures) ∙ c .if1 .left)), omega arith)
 
 pub mark-of-spec : {M : Type 1} → statement M
-mark-of-spec = tie.close (tie.spec is-live-requires key-of-requires mark-of-key-requires returns returns-2)
+mark-of-spec = tie.close (tie.spec (λ c κs. search needs) (λ c κs. search needs) (λ c κs. search needs) returns returns-2)

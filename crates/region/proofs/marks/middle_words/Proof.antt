@@ -27,27 +27,9 @@ Inv-loop key left₀ i₀ sum₀ left i sum = (i + 7 * left + 16 ≤ length key)
 abbrev μ-loop : tie.MeasureT-loop
 μ-loop key left₀ i₀ sum₀ left i sum = left
 
-sub-left : tie.Need-sub-left Inv-loop μ-loop
-sub-left c = search needs
-
 loop-holds : tie.Need-loop-holds Inv-loop μ-loop
 unfolding middleWords
 loop-holds c = (omega arith, refl)
-
-standing-eight-requires : tie.Need-standing-eight-requires Inv-loop μ-loop
-standing-eight-requires c κs = search needs
-
-plus-requires : tie.Need-plus-requires Inv-loop μ-loop
-plus-requires c κs = search needs
-
-add-i : tie.Need-add-i Inv-loop μ-loop
-add-i c = search needs
-
-sub-left-2 : tie.Need-sub-left-2 Inv-loop μ-loop
-sub-left-2 c = search needs
-
-loop-less : tie.Need-loop-less Inv-loop μ-loop
-loop-less c = search needs
 
 loop-again : tie.Need-loop-again Inv-loop μ-loop
 loop-again c =
@@ -69,12 +51,12 @@ middle-words-spec =
     (tie.spec
     Inv-loop
     μ-loop
-    sub-left
+    (λ c. search needs)
     loop-holds
-    standing-eight-requires
-    plus-requires
-    add-i
-    sub-left-2
-    loop-less
+    (λ c κs. search needs)
+    (λ c κs. search needs)
+    (λ c. search needs)
+    (λ c. search needs)
+    (λ c. search needs)
     loop-again
     returns)

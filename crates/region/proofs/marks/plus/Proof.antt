@@ -4,12 +4,9 @@ use Rattle.region.specs.Marks.{plus}
 use Rattle.region.proofs.marks.plus.Statement.{statement}
 use Rattle.region.proofs.marks.plus.Tie as tie
 
-wrapping-add-u64-requires : tie.Need-wrapping-add-u64-requires
-wrapping-add-u64-requires c κs = search needs
-
 returns : tie.Need-returns
 unfolding plus
 returns c = c .wrapping-add-u64 .ensures
 
 pub plus-spec : {M : Type 1} → statement M
-plus-spec = tie.close (tie.spec wrapping-add-u64-requires returns)
+plus-spec = tie.close (tie.spec (λ c κs. search needs) returns)

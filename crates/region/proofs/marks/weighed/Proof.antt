@@ -15,20 +15,11 @@ returns c =
     let n = length (now (c .before .before .args .key)) in
     rw (lt-leb 16 n (omega arith))
 
-outer-words-requires : tie.Need-outer-words-requires
-outer-words-requires c κs = search needs
-
 returns-2 : tie.Need-returns-2
 unfolding weighed
 returns-2 c =
     let n = length (now (c .before .before .before .before .args .key)) in
     rw (le-leb 16 n (omega arith), lt-leb 24 n (omega arith)) (c .before .outer-words .ensures)
-
-inner-words-requires : tie.Need-inner-words-requires
-inner-words-requires c κs = search needs
-
-plus-requires : tie.Need-plus-requires
-plus-requires c κs = search needs
 
 returns-3 : tie.Need-returns-3
 unfolding weighed
@@ -36,12 +27,6 @@ returns-3 c =
     let n = length (now (c .before .before .before .before .before .before .before .args .key)) in
     rw (le-leb 16 n (omega arith), le-leb 24 n (omega arith), lt-leb 45 n (omega arith))
     (c .before .plus .ensures ∙ ap₂ plus (c .before .before .before .before .outer-words .ensures) (c .before .before .inner-words .ensures))
-
-middle-words-requires : tie.Need-middle-words-requires
-middle-words-requires c κs = search needs
-
-plus-requires-2 : tie.Need-plus-requires-2
-plus-requires-2 c κs = search needs
 
 returns-4 : tie.Need-returns-4
 unfolding weighed
@@ -57,11 +42,11 @@ weighed-spec =
     tie.close
     (tie.spec
     returns
-    outer-words-requires
+    (λ c κs. search needs)
     returns-2
-    inner-words-requires
-    plus-requires
+    (λ c κs. search needs)
+    (λ c κs. search needs)
     returns-3
-    middle-words-requires
-    plus-requires-2
+    (λ c κs. search needs)
+    (λ c κs. search needs)
     returns-4)

@@ -9,12 +9,6 @@ use Rattle.region.specs.Walk.{entryAs}
 use Rattle.region.proofs.walk.data_of_in.Statement.{statement}
 use Rattle.region.proofs.walk.data_of_in.Tie as tie
 
-from-requires : tie.Need-from-requires
-from-requires c κs = search needs
-
-data-of-requires : tie.Need-data-of-requires
-data-of-requires c κs = search needs
-
 returns : tie.Need-returns
 unfolding entryAs dataIn placed
 returns c =
@@ -22,4 +16,4 @@ returns c =
     c .data-of .ensures ∙ ap (λ (s : List ℕ). dataIn (a .y) s (a .e)) (c .before .from .ensures)
 
 pub data-of-in-spec : {M : Type 1} → statement M
-data-of-in-spec = tie.close (tie.spec from-requires data-of-requires returns)
+data-of-in-spec = tie.close (tie.spec (λ c κs. search needs) (λ c κs. search needs) returns)

@@ -16,23 +16,11 @@ returns c =
     let a = c .before .before .before .before .before .args in
     sym (other-state (a .y) (now (a .region)) (a .at) (a .e) (a .state) (now (a .name)) (now (a .vendor)) (c .if1 .taken))
 
-name-of-in-requires : tie.Need-name-of-in-requires
-name-of-in-requires c κs = search needs
-
 returns-2 : tie.Need-returns-2
 returns-2 c =
     let a = c .before .before .before .before .before .before .before .args in
     sym (other-length (a .y) (now (a .region)) (a .at) (a .e) (a .state) (now (a .name)) (now (a .vendor))
     (λ p. c .if2 .taken (ap length (c .before .name-of-in .ensures) ∙ p)))
-
-equal-requires : tie.Need-equal-requires
-equal-requires c κs = search needs
-
-vendor-of-in-requires : tie.Need-vendor-of-in-requires
-vendor-of-in-requires c κs = search needs
-
-equal-requires-2 : tie.Need-equal-requires-2
-equal-requires-2 c κs = search needs
 
 returns-3 : tie.Need-returns-3
 returns-3 c =
@@ -57,10 +45,10 @@ is-entry-in-spec =
     tie.close
     (tie.spec
     returns
-    name-of-in-requires
+    (λ c κs. search needs)
     returns-2
-    equal-requires
-    vendor-of-in-requires
-    equal-requires-2
+    (λ c κs. search needs)
+    (λ c κs. search needs)
+    (λ c κs. search needs)
     returns-3
     returns-4)

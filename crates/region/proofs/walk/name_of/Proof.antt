@@ -7,16 +7,10 @@ use Rattle.region.specs.Walk.{entryAs}
 use Rattle.region.proofs.walk.name_of.Statement.{statement}
 use Rattle.region.proofs.walk.name_of.Tie as tie
 
-authenticated-requires : tie.Need-authenticated-requires
-authenticated-requires c κs = search needs
-
-name-of-in-requires : tie.Need-name-of-in-requires
-name-of-in-requires c κs = search needs
-
 returns : tie.Need-returns
 returns c =
     let a = c .before .before .before .args in
     c .name-of-in .ensures ∙ ap (λ (y : Layout). entryAs y (now (a .region)) (a .at) (a .e) .name) (c .before .authenticated .ensures)
 
 pub name-of-spec : {M : Type 1} → statement M
-name-of-spec = tie.close (tie.spec authenticated-requires name-of-in-requires returns)
+name-of-spec = tie.close (tie.spec (λ c κs. search needs) (λ c κs. search needs) returns)

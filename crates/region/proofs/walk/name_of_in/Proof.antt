@@ -9,12 +9,6 @@ use Rattle.region.specs.Walk.{entryAs}
 use Rattle.region.proofs.walk.name_of_in.Statement.{statement}
 use Rattle.region.proofs.walk.name_of_in.Tie as tie
 
-from-requires : tie.Need-from-requires
-from-requires c κs = search needs
-
-name-of-requires : tie.Need-name-of-requires
-name-of-requires c κs = search needs
-
 returns : tie.Need-returns
 unfolding entryAs nameIn placed
 returns c =
@@ -22,4 +16,4 @@ returns c =
     c .name-of .ensures ∙ ap (λ (s : List ℕ). nameIn (a .y) s (a .e)) (c .before .from .ensures)
 
 pub name-of-in-spec : {M : Type 1} → statement M
-name-of-in-spec = tie.close (tie.spec from-requires name-of-requires returns)
+name-of-in-spec = tie.close (tie.spec (λ c κs. search needs) (λ c κs. search needs) returns)

@@ -7,16 +7,10 @@ use Rattle.region.specs.Walk.{stampAt}
 use Rattle.region.proofs.walk.stamp_of.Statement.{statement}
 use Rattle.region.proofs.walk.stamp_of.Tie as tie
 
-from-requires : tie.Need-from-requires
-from-requires c κs = search needs
-
-stamp-of-requires : tie.Need-stamp-of-requires
-stamp-of-requires c κs = search needs
-
 returns : tie.Need-returns
 unfolding stampAt
 returns c =
     c .stamp-of .ensures ∙ ap (λ s. headerFields s .stamp) (c .before .from .ensures)
 
 pub stamp-of-spec : {M : Type 1} → statement M
-stamp-of-spec = tie.close (tie.spec from-requires stamp-of-requires returns)
+stamp-of-spec = tie.close (tie.spec (λ c κs. search needs) (λ c κs. search needs) returns)

@@ -6,20 +6,8 @@ use borrow.Author.Tests.{eq-eqb, ne-eqb}
 use Rattle.region.proofs.walk.stride.Statement.{statement}
 use Rattle.region.proofs.walk.stride.Tie as tie
 
-header-requires : tie.Need-header-requires
-header-requires c κs = search needs
-
 returns : tie.Need-returns
 returns c = simp (eq-eqb _ _ (c .before .if1 .taken)) (omega (arith, c .header .ensures .0, c .header .ensures .1))
-
-cast-entry-size-in : tie.Need-cast-entry-size-in
-cast-entry-size-in c = search needs
-
-cast-entry-size-in-2 : tie.Need-cast-entry-size-in-2
-cast-entry-size-in-2 c = search needs
-
-entry-size-in-requires : tie.Need-entry-size-in-requires
-entry-size-in-requires c κs = search needs
 
 returns-2 : tie.Need-returns-2
 returns-2 c = simp (ne-eqb _ _ (c .before .before .before .if1 .left), c .entry-size-in .ensures) (omega arith)
@@ -28,9 +16,9 @@ pub stride-spec : {M : Type 1} → statement M
 stride-spec =
     tie.close
     (tie.spec
-    header-requires
+    (λ c κs. search needs)
     returns
-    cast-entry-size-in
-    cast-entry-size-in-2
-    entry-size-in-requires
+    (λ c. search needs)
+    (λ c. search needs)
+    (λ c κs. search needs)
     returns-2)

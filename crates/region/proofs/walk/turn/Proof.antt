@@ -7,16 +7,10 @@ use Rattle.region.specs.Walk.{turnIn}
 use Rattle.region.proofs.walk.turn.Statement.{statement}
 use Rattle.region.proofs.walk.turn.Tie as tie
 
-authenticated-requires : tie.Need-authenticated-requires
-authenticated-requires c κs = search needs
-
-turn-in-requires : tie.Need-turn-in-requires
-turn-in-requires c κs = search needs
-
 returns : tie.Need-returns
 returns c =
     let a = c .before .before .before .args in
     c .turn-in .ensures ∙ ap (λ (y : Layout). turnIn y (now (a .region)) (a .at)) (c .before .authenticated .ensures)
 
 pub turn-spec : {M : Type 1} → statement M
-turn-spec = tie.close (tie.spec authenticated-requires turn-in-requires returns)
+turn-spec = tie.close (tie.spec (λ c κs. search needs) (λ c κs. search needs) returns)

@@ -18,30 +18,6 @@ returns c =
     let a = c .before .before .args in
     rw (past (a .y) (now (a .region)) (a .at) (omega arith))
 
-sub-read-head : tie.Need-sub-read-head
-sub-read-head c = search needs
-
-part-read-head-start : tie.Need-part-read-head-start
-part-read-head-start c = search needs
-
-part-read-head-end : tie.Need-part-read-head-end
-part-read-head-end c = search needs
-
-read-head-requires : tie.Need-read-head-requires
-read-head-requires c κs = search needs
-
-enum-known-h : tie.Need-enum-known-h
-enum-known-h c = search needs
-
-stride-requires : tie.Need-stride-requires
-stride-requires c κs = search needs
-
-add-t13 : tie.Need-add-t13
-add-t13 c = search needs
-
-enum-told : tie.Need-enum-told
-enum-told c = search needs
-
 returns-2 : tie.Need-returns-2
 unfolding turnIn
 returns-2 c =
@@ -64,13 +40,13 @@ turn-in-spec =
     tie.close
     (tie.spec
     returns
-    sub-read-head
-    part-read-head-start
-    part-read-head-end
-    read-head-requires
-    enum-known-h
-    stride-requires
-    add-t13
-    enum-told
+    (λ c. search needs)
+    (λ c. search needs)
+    (λ c. search needs)
+    (λ c κs. search needs)
+    (λ c. search needs)
+    (λ c κs. search needs)
+    (λ c. search needs)
+    (λ c. search needs)
     returns-2
     returns-3)

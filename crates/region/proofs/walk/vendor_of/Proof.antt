@@ -7,16 +7,10 @@ use Rattle.region.specs.Walk.{vendorAs}
 use Rattle.region.proofs.walk.vendor_of.Statement.{statement}
 use Rattle.region.proofs.walk.vendor_of.Tie as tie
 
-authenticated-requires : tie.Need-authenticated-requires
-authenticated-requires c κs = search needs
-
-vendor-of-in-requires : tie.Need-vendor-of-in-requires
-vendor-of-in-requires c κs = search needs
-
 returns : tie.Need-returns
 returns c =
     let a = c .before .before .before .args in
     c .vendor-of-in .ensures ∙ ap (λ (y : Layout). vendorAs y (now (a .region)) (a .at)) (c .before .authenticated .ensures)
 
 pub vendor-of-spec : {M : Type 1} → statement M
-vendor-of-spec = tie.close (tie.spec authenticated-requires vendor-of-in-requires returns)
+vendor-of-spec = tie.close (tie.spec (λ c κs. search needs) (λ c κs. search needs) returns)

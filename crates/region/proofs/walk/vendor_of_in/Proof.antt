@@ -8,12 +8,6 @@ use Rattle.region.specs.Walk.{vendorAs}
 use Rattle.region.proofs.walk.vendor_of_in.Statement.{statement}
 use Rattle.region.proofs.walk.vendor_of_in.Tie as tie
 
-from-requires : tie.Need-from-requires
-from-requires c κs = search needs
-
-vendor-of-requires : tie.Need-vendor-of-requires
-vendor-of-requires c κs = search needs
-
 returns : tie.Need-returns
 unfolding vendorAs
 returns c =
@@ -21,4 +15,4 @@ returns c =
     c .vendor-of .ensures ∙ ap (λ (s : List ℕ). headerFieldsIn (a .y) s .vendor) (c .before .from .ensures)
 
 pub vendor-of-in-spec : {M : Type 1} → statement M
-vendor-of-in-spec = tie.close (tie.spec from-requires vendor-of-requires returns)
+vendor-of-in-spec = tie.close (tie.spec (λ c κs. search needs) (λ c κs. search needs) returns)

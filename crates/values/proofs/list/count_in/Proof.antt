@@ -25,23 +25,11 @@ loop-holds c =
     let all = ap length (listed-all (a .y) (now (a .region))) in
     (omega arith, omega arith)
 
-turn-in-requires : tie.Need-turn-in-requires Inv-loop μ-loop
-turn-in-requires c κs = search needs
-
-enum-known-t : tie.Need-enum-known-t Inv-loop μ-loop
-enum-known-t c = search needs
-
-enum-told : tie.Need-enum-told Inv-loop μ-loop
-enum-told c = search needs
-
 returns : tie.Need-returns Inv-loop μ-loop
 returns c =
     let b = c .before .before in
     let end = ap length (listed-none (at-end (b .turn-in .ensures) (c .enum-told .given .1))) in
     omega (arith, b .before .loop .inv .0)
-
-is-value-in-requires : tie.Need-is-value-in-requires Inv-loop μ-loop
-is-value-in-requires c κs = search needs
 
 add-n : tie.Need-add-n Inv-loop μ-loop
 add-n c =
@@ -78,11 +66,11 @@ count-in-spec =
     Inv-loop
     μ-loop
     loop-holds
-    turn-in-requires
-    enum-known-t
-    enum-told
+    (λ c κs. search needs)
+    (λ c. search needs)
+    (λ c. search needs)
     returns
-    is-value-in-requires
+    (λ c κs. search needs)
     add-n
     loop-less
     loop-again

@@ -9,16 +9,10 @@ use borrow.Author.Needs.{needs}
 use Rattle.values.proofs.list.is_value.Statement.{statement}
 use Rattle.values.proofs.list.is_value.Tie as tie
 
-authenticated-requires : tie.Need-authenticated-requires
-authenticated-requires c κs = search needs
-
-is-value-in-requires : tie.Need-is-value-in-requires
-is-value-in-requires c κs = search needs
-
 returns : tie.Need-returns
 returns c = let a = c .before .before .before .args in
     c .is-value-in .ensures ∙ ap (λ (y : Layout). isValue (entriesIn y (now (a .region))) (entryAs y (now (a .region)) (a .at) (a .e)))
     (c .before .authenticated .ensures)
 
 pub is-value-spec : {M : Type 1} → statement M
-is-value-spec = tie.close (tie.spec authenticated-requires is-value-in-requires returns)
+is-value-spec = tie.close (tie.spec (λ c κs. search needs) (λ c κs. search needs) returns)

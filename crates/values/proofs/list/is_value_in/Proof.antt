@@ -23,21 +23,6 @@ returns-2 c =
     let a = c .before .before .before .before .before .args in
     sym ((value-other (a .y)) (now (a .region)) (a .at) (a .e) (c .before .before .if1 .left) (c .if2 .taken))
 
-name-of-in-requires : tie.Need-name-of-in-requires
-name-of-in-requires c κs = search needs
-
-vendor-of-in-requires : tie.Need-vendor-of-in-requires
-vendor-of-in-requires c κs = search needs
-
-find-from-requires : tie.Need-find-from-requires
-find-from-requires c κs = search needs
-
-enum-told : tie.Need-enum-told
-enum-told c = search needs
-
-enum-told-2 : tie.Need-enum-told-2
-enum-told-2 c = search needs
-
 returns-3 : tie.Need-returns-3
 returns-3 c =
     let b = c .before .before .before .before .before in
@@ -68,10 +53,10 @@ is-value-in-spec =
     (tie.spec
     returns
     returns-2
-    name-of-in-requires
-    vendor-of-in-requires
-    find-from-requires
-    enum-told
-    enum-told-2
+    (λ c κs. search needs)
+    (λ c κs. search needs)
+    (λ c κs. search needs)
+    (λ c. search needs)
+    (λ c. search needs)
     returns-3
     returns-4)

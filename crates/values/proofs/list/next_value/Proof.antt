@@ -11,16 +11,10 @@ use borrow.Author.Needs.{needs}
 use Rattle.values.proofs.list.next_value.Statement.{statement}
 use Rattle.values.proofs.list.next_value.Tie as tie
 
-authenticated-requires : tie.Need-authenticated-requires
-authenticated-requires c κs = search needs
-
-next-value-in-requires : tie.Need-next-value-in-requires
-next-value-in-requires c κs = search needs
-
 returns : tie.Need-returns
 returns c = let a = c .before .before .before .args in
     c .next-value-in .ensures ∙ ap (λ (y : Layout). nextOf (first (isValue (entriesIn y (now (a .region)))) (fromIn y (now (a .region)) (a .at))))
     (c .before .authenticated .ensures)
 
 pub next-value-spec : {M : Type 1} → statement M
-next-value-spec = tie.close (tie.spec authenticated-requires next-value-in-requires returns)
+next-value-spec = tie.close (tie.spec (λ c κs. search needs) (λ c κs. search needs) returns)

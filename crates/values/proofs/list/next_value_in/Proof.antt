@@ -23,22 +23,10 @@ abbrev μ-loop : tie.MeasureT-loop
 loop-holds : tie.Need-loop-holds Inv-loop μ-loop
 loop-holds c = refl
 
-turn-in-requires : tie.Need-turn-in-requires Inv-loop μ-loop
-turn-in-requires c κs = search needs
-
-enum-known-t : tie.Need-enum-known-t Inv-loop μ-loop
-enum-known-t c = search needs
-
-enum-told : tie.Need-enum-told Inv-loop μ-loop
-enum-told c = search needs
-
 returns : tie.Need-returns Inv-loop μ-loop
 returns c =
     let b = c .before .before in
     sym (ap nextOf (b .before .loop .inv ∙ first-none (at-end (b .turn-in .ensures) (c .enum-told .given .1)) _))
-
-is-value-in-requires : tie.Need-is-value-in-requires Inv-loop μ-loop
-is-value-in-requires c κs = search needs
 
 returns-2 : tie.Need-returns-2 Inv-loop μ-loop
 returns-2 c =
@@ -62,11 +50,11 @@ next-value-in-spec =
     Inv-loop
     μ-loop
     loop-holds
-    turn-in-requires
-    enum-known-t
-    enum-told
+    (λ c κs. search needs)
+    (λ c. search needs)
+    (λ c. search needs)
     returns
-    is-value-in-requires
+    (λ c κs. search needs)
     returns-2
     loop-less
     loop-again)

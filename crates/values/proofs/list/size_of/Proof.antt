@@ -10,12 +10,6 @@ use Rattle.values.proofs.Sizes.{lengths}
 use Rattle.values.proofs.list.size_of.Statement.{statement}
 use Rattle.values.proofs.list.size_of.Tie as tie
 
-name-of-requires : tie.Need-name-of-requires
-name-of-requires c κs = search needs
-
-data-of-requires : tie.Need-data-of-requires
-data-of-requires c κs = search needs
-
 entry-size-requires : tie.Need-entry-size-requires
 entry-size-requires c κs =
     let a = c .before .before .before .args in
@@ -32,4 +26,4 @@ returns c =
     omega arith
 
 pub size-of-spec : {M : Type 1} → statement M
-size-of-spec = tie.close (tie.spec name-of-requires data-of-requires entry-size-requires returns)
+size-of-spec = tie.close (tie.spec (λ c κs. search needs) (λ c κs. search needs) entry-size-requires returns)

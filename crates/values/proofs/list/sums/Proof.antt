@@ -31,15 +31,6 @@ loop-holds c =
     let all = listed-all authenticated (now (c .before .args .region)) in
     (omega (arith, ap recordSizes all), omega (arith, ap otherSizes all), omega arith, omega arith)
 
-turn-requires : tie.Need-turn-requires Inv-loop μ-loop
-turn-requires c κs = search needs
-
-enum-known-t : tie.Need-enum-known-t Inv-loop μ-loop
-enum-known-t c = search needs
-
-enum-told : tie.Need-enum-told Inv-loop μ-loop
-enum-told c = search needs
-
 returns : tie.Need-returns Inv-loop μ-loop
 unfolding recordSizes otherSizes entrySizesIn
 returns c =
@@ -49,15 +40,6 @@ returns c =
     let records = ap recordSizes none in
     let others = ap otherSizes none in
     (omega (arith, i .0, records), omega (arith, i .1, others), i .3)
-
-is-value-requires : tie.Need-is-value-requires Inv-loop μ-loop
-is-value-requires c κs = search needs
-
-size-of-requires : tie.Need-size-of-requires Inv-loop μ-loop
-size-of-requires c κs = search needs
-
-is-error-record-requires : tie.Need-is-error-record-requires Inv-loop μ-loop
-is-error-record-requires c κs = search needs
 
 add-records : tie.Need-add-records Inv-loop μ-loop
 add-records c =
@@ -120,13 +102,13 @@ sums-spec =
     Inv-loop
     μ-loop
     loop-holds
-    turn-requires
-    enum-known-t
-    enum-told
+    (λ c κs. search needs)
+    (λ c. search needs)
+    (λ c. search needs)
     returns
-    is-value-requires
-    size-of-requires
-    is-error-record-requires
+    (λ c κs. search needs)
+    (λ c κs. search needs)
+    (λ c κs. search needs)
     add-records
     add-others
     loop-less

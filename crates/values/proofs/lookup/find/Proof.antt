@@ -32,35 +32,17 @@ loop-holds c =
     let k = keyed (now (a .name)) (now (a .vendor)) in
     found-else (first (isEntry 0x3F k) (from (now (a .region)) 28)) (first (isEntry 0x3E k) (from (now (a .region)) 28))
 
-turn-requires : tie.Need-turn-requires Inv-loop μ-loop
-turn-requires c κs = search needs
-
-enum-known-t : tie.Need-enum-known-t Inv-loop μ-loop
-enum-known-t c = search needs
-
-enum-told : tie.Need-enum-told Inv-loop μ-loop
-enum-told c = search needs
-
 returns : tie.Need-returns Inv-loop μ-loop
 returns c =
     let b = c .before .before in
     let z = at-end (b .turn .ensures) (c .enum-told .given .1) in
     sym (b .before .loop .inv ∙ ap₂ elseFound (found-none z _) (else-none z _ _))
 
-is-entry-requires : tie.Need-is-entry-requires Inv-loop μ-loop
-is-entry-requires c κs = search needs
-
 returns-2 : tie.Need-returns-2 Inv-loop μ-loop
 returns-2 c =
     let b = c .before .before .before in
     let w = at-entry (b .before .before .turn .ensures) (b .t .given .1) in
     sym (b .before .before .before .loop .inv ∙ else-found (found-here w _ (sym (c .before .is-entry .ensures) ∙ c .if1 .taken)) _)
-
-is-entry-requires-2 : tie.Need-is-entry-requires-2 Inv-loop μ-loop
-is-entry-requires-2 c κs = search needs
-
-or-entry-requires : tie.Need-or-entry-requires Inv-loop μ-loop
-or-entry-requires c κs = search needs
 
 -- what is looked for
 abbrev key : tie.At-loop Inv-loop μ-loop → Key
@@ -97,14 +79,14 @@ find-spec =
     Inv-loop
     μ-loop
     loop-holds
-    turn-requires
-    enum-known-t
-    enum-told
+    (λ c κs. search needs)
+    (λ c. search needs)
+    (λ c. search needs)
     returns
-    is-entry-requires
+    (λ c κs. search needs)
     returns-2
-    is-entry-requires-2
-    or-entry-requires
+    (λ c κs. search needs)
+    (λ c κs. search needs)
     loop-less
     loop-again
     loop-less-2

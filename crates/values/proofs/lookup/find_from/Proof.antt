@@ -25,22 +25,10 @@ abbrev μ-loop : tie.MeasureT-loop
 loop-holds : tie.Need-loop-holds Inv-loop μ-loop
 loop-holds c = refl
 
-turn-in-requires : tie.Need-turn-in-requires Inv-loop μ-loop
-turn-in-requires c κs = search needs
-
-enum-known-t : tie.Need-enum-known-t Inv-loop μ-loop
-enum-known-t c = search needs
-
-enum-told : tie.Need-enum-told Inv-loop μ-loop
-enum-told c = search needs
-
 returns : tie.Need-returns Inv-loop μ-loop
 returns c =
     let b = c .before .before in
     sym (b .before .loop .inv ∙ found-none (at-end (b .turn-in .ensures) (c .enum-told .given .1)) _)
-
-is-entry-in-requires : tie.Need-is-entry-in-requires Inv-loop μ-loop
-is-entry-in-requires c κs = search needs
 
 returns-2 : tie.Need-returns-2 Inv-loop μ-loop
 returns-2 c =
@@ -64,11 +52,11 @@ find-from-spec =
     Inv-loop
     μ-loop
     loop-holds
-    turn-in-requires
-    enum-known-t
-    enum-told
+    (λ c κs. search needs)
+    (λ c. search needs)
+    (λ c. search needs)
     returns
-    is-entry-in-requires
+    (λ c κs. search needs)
     returns-2
     loop-less
     loop-again)

@@ -6,18 +6,6 @@ use borrow.Author.Needs.{needs}
 use Rattle.values.proofs.lookup.old_data.Statement.{statement}
 use Rattle.values.proofs.lookup.old_data.Tie as tie
 
-enum-known-standing : tie.Need-enum-known-standing
-enum-known-standing c = search needs
-
-data-of-requires : tie.Need-data-of-requires
-data-of-requires c κs = search needs
-
-enum-told : tie.Need-enum-told
-enum-told c = search needs
-
-slice-aggregate-result : tie.Need-slice-aggregate-result
-slice-aggregate-result c = search needs
-
 returns : tie.Need-returns
 returns c =
     let a = c .before .before .before .before .before .args in
@@ -32,9 +20,9 @@ pub old-data-spec : {M : Type 1} → statement M
 old-data-spec =
     tie.close
     (tie.spec
-    enum-known-standing
-    data-of-requires
-    enum-told
-    slice-aggregate-result
+    (λ c. search needs)
+    (λ c κs. search needs)
+    (λ c. search needs)
+    (λ c. search needs)
     returns
     returns-2)

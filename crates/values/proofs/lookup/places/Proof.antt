@@ -29,33 +29,12 @@ loop-holds : tie.Need-loop-holds Inv-loop μ-loop
 unfolding added replacing entriesIn fromIn
 loop-holds c = (refl, refl)
 
-turn-requires : tie.Need-turn-requires Inv-loop μ-loop
-turn-requires c κs = search needs
-
-enum-known-t : tie.Need-enum-known-t Inv-loop μ-loop
-enum-known-t c = search needs
-
-enum-told : tie.Need-enum-told Inv-loop μ-loop
-enum-told c = search needs
-
 returns : tie.Need-returns Inv-loop μ-loop
 returns c =
     let b = c .before .before in
     let i = b .before .loop .inv in
     let z = at-end (b .turn .ensures) (c .enum-told .given .1) in
     (sym (i .0 ∙ else-none z _ _), sym (i .1 ∙ else-none z _ _))
-
-is-entry-requires : tie.Need-is-entry-requires Inv-loop μ-loop
-is-entry-requires c κs = search needs
-
-or-entry-requires : tie.Need-or-entry-requires Inv-loop μ-loop
-or-entry-requires c κs = search needs
-
-is-entry-requires-2 : tie.Need-is-entry-requires-2 Inv-loop μ-loop
-is-entry-requires-2 c κs = search needs
-
-or-entry-requires-2 : tie.Need-or-entry-requires-2 Inv-loop μ-loop
-or-entry-requires-2 c κs = search needs
 
 -- what is looked for
 abbrev key : tie.At-loop Inv-loop μ-loop → Key
@@ -107,14 +86,14 @@ places-spec =
     Inv-loop
     μ-loop
     loop-holds
-    turn-requires
-    enum-known-t
-    enum-told
+    (λ c κs. search needs)
+    (λ c. search needs)
+    (λ c. search needs)
     returns
-    is-entry-requires
-    or-entry-requires
-    is-entry-requires-2
-    or-entry-requires-2
+    (λ c κs. search needs)
+    (λ c κs. search needs)
+    (λ c κs. search needs)
+    (λ c κs. search needs)
     loop-less
     loop-again
     loop-less-2
