@@ -1,10 +1,13 @@
 .SILENT:
-.PHONY: help kit demo test check fmt lib link-test host host-test stack rust-test soak bench check-time efi interop volume-test convert-test records-test settings-test desk-test install clean
+.PHONY: help kit demo test check fmt lib link-test targets-test host host-test stack rust-test soak bench check-time efi interop volume-test convert-test records-test settings-test desk-test install clean
 
 CC = cc
 CFLAGS = -std=c11 -O2 -Wall -Wextra -Werror
 CARGO = CARGO_NET_OFFLINE=true CARGO_TARGET_DIR=$(CURDIR)/target/rust cargo
 LIB = target/staticlib/libcapi.a
+# x86_64, aarch64, riscv64 or riscv64-lp64: for which the library is made and installed
+TARGET = x86_64
+MADE = $(if $(filter x86_64,$(TARGET)),$(LIB),target/staticlib/libcapi-$(TARGET).a)
 PREFIX = /usr/local
 # what the library is made of
 SOURCES := crates.txt tools/lib c/memory.c c/varstore.h $(shell find crates -path '*/src/*' -type f -o -path '*/specs/*' -type f -o -path '*/proofs/*' -type f)
@@ -32,16 +35,20 @@ demo: kit
 	target/host >target/demo.out
 	tools/shown target/demo.out
 
-# the static library for firmware and other hosts: target/staticlib/libcapi.a, to be used with c/varstore.h
-lib: $(LIB)
+# the static library for firmware and other hosts: target/staticlib/libcapi.a, to be used with c/varstore.h (TARGET=aarch64, riscv64, riscv64-lp64: libcapi-TARGET.a)
+lib: $(MADE)
 
 $(LIB): $(SOURCES)
 	$(MAKE) -s kit
 	tools/lib
 
+# of the module that was proved for libcapi.a
+target/staticlib/libcapi-%.a: $(LIB) tools/lib-for
+	tools/lib-for $*
+
 # library, header and pkg-config file into PREFIX (/usr/local if none is given): lib/libvarstore.a, include/varstore.h, lib/pkgconfig/varstore.pc
-install: $(LIB)
-	tools/install $(LIB) "$(PREFIX)"
+install: $(MADE)
+	tools/install $(MADE) "$(PREFIX)"
 
 # remove target, where all that is made here is
 clean:
@@ -50,6 +57,10 @@ clean:
 # either calling convention, header and library of one form, and an installed library
 link-test: $(LIB)
 	tools/link-test
+
+# the library for AArch64 and RISC-V 64: made, and run where cross compilers and qemu-user are there; the same answers as on x86-64
+targets-test: $(LIB)
+	tools/targets-test
 
 # the host that a firmware engineer can start from
 host: $(LIB)

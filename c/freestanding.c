@@ -2,8 +2,8 @@
  * read and planned under a rule for its one setting. First memory.c is tried, which is not proved. Exit status 0 if every answer is right, else the number of the
  * first that is wrong.
  *
- * tools/link-test builds it for both conventions. The numbers of stores are those of document 01's cases: a format of one block 31, a new RATE 75, a compaction
- * of one block 8,197.
+ * tools/link-test builds it for both conventions of x86-64, tools/targets-test for the other machines. The numbers of stores are those of document 01's cases: a
+ * format of one block 31, a new RATE 75, a compaction of one block 8,197.
  */
 #include "varstore.h"
 
@@ -12,8 +12,7 @@ enum {
     PLAIN = VS_NV | VS_BOOT_ACCESS | VS_RUNTIME_ACCESS,
     ENTRY = 76,  /* of RATE */
     HEADER = 28, /* of the region */
-    MEMORY = 128,
-    EXIT = 60 /* Linux's call */
+    MEMORY = 128
 };
 
 static const vs_context no_limit = {.limit = VS_NO_LIMIT};
@@ -90,6 +89,7 @@ static void locked(void)
 
 void *memcpy(void *to, const void *from, size_t count);
 void *memset(void *to, int value, size_t count);
+void *memmove(void *to, const void *from, size_t count);
 
 /* The bytes that were to change have changed, and no other, before or after them. */
 static int only_these(const uint8_t *bytes, size_t at, size_t size, int copied)
@@ -125,10 +125,43 @@ static void memory(void)
     told(right);
 }
 
+/* Each size, to places before and after the source: bytes that are not copied stay. */
+static void overlaps(void)
+{
+    static uint8_t bytes[MEMORY];
+    int right = 1;
+    for (size_t size = 0; size <= 48; size++) {
+        for (size_t to = 0; to < MEMORY - 48; to++) {
+            const size_t from = 40;
+            for (size_t i = 0; i < MEMORY; i++) {
+                bytes[i] = (uint8_t)(i + 1);
+            }
+            right = right && memmove(bytes + to, bytes + from, size) == bytes + to;
+            for (size_t i = 0; i < MEMORY; i++) {
+                right = right && bytes[i] == (uint8_t)((i < to || i >= to + size ? i : i - to + from) + 1);
+            }
+        }
+    }
+    told(right);
+}
+
+/* Linux's call exit, and where a program begins: the stack is aligned as for a call, with the 32 bytes that a callee of the Microsoft convention may use. */
+#if defined(__x86_64__)
+#define EXIT(status) __asm__ volatile("syscall" : : "a"(60ul), "D"((uint64_t)(status)) : "rcx", "r11", "memory")
+__asm__(".text\n.globl _start\n_start:\n\tand $-16, %rsp\n\tsub $32, %rsp\n\tcall run\n");
+#elif defined(__aarch64__)
+#define EXIT(status) __asm__ volatile("mov x0, %0\n\tmov x8, #93\n\tsvc #0" : : "r"((uint64_t)(status)) : "x0", "x8", "memory")
+__asm__(".text\n.globl _start\n_start:\n\tbl run\n");
+#else
+#define EXIT(status) __asm__ volatile("mv a0, %0\n\tli a7, 93\n\tecall" : : "r"((uint64_t)(status)) : "a0", "a7", "memory")
+__asm__(".text\n.globl _start\n_start:\n\t.option push\n\t.option norelax\n\tla gp, __global_pointer$\n\t.option pop\n\tcall run\n");
+#endif
+
 __attribute__((noreturn)) void run(void);
 void run(void)
 {
     memory();
+    overlaps();
     told(done(vs_format(no_limit, image, IMAGE, content), 31));
     vs_started started = vs_start_up(no_limit, image, IMAGE, setup, content);
     told(done(started.answer, 0) && started.session.setup.rules == 1);
@@ -138,10 +171,6 @@ void run(void)
     compaction();
     names();
     locked();
-    uint64_t call = EXIT;
-    __asm__ volatile("syscall" : "+a"(call) : "D"((uint64_t)first_wrong) : "rcx", "r11", "memory");
+    EXIT(first_wrong);
     __builtin_unreachable();
 }
-
-/* The stack is aligned as for a call, with the 32 bytes that a callee of the Microsoft convention may use. */
-__asm__(".text\n.globl _start\n_start:\n\tand $-16, %rsp\n\tsub $32, %rsp\n\tcall run\n");
