@@ -4,9 +4,10 @@
 mod common;
 
 use common::random::Random;
+use common::station::Station;
 use common::{same_bytes, A, B, RECORD, VENDOR};
-use varstore::calls::{Calls, BOTH, ENGINE, PAPER};
-use varstore::interface::{Answer, Checked, Context, Guid, Key, Request, Rule, Session, Setup, RUNTIME};
+use varstore::calls::{BOTH, ENGINE, PAPER};
+use varstore::interface::{Answer, Checked, Context, Guid, Key, Rule, Setup, RUNTIME};
 use varstore::paper::entry::{self, Contents, ADDED, DELETED, REPLACED, STATE};
 use varstore::paper::layout::{Authenticated, Layout, Plain};
 use varstore::paper::region;
@@ -386,25 +387,6 @@ fn alike(r: &mut Random) -> (Vec<u8>, Guid) {
     (name, vendor)
 }
 
-/// A store with values up to its tail, and a session, in one implementation.
-#[derive(Clone)]
-struct Station {
-    calls: Calls,
-    session: Session,
-    image: Vec<u8>,
-}
-
-impl Station {
-    fn set(&mut self, key: Key, attributes: u32, data: &[u8]) -> Answer {
-        let request = Request { key, attributes, data, presence: 0, verdict: 0 };
-        (self.calls.set)(Context::NO_LIMIT, &self.session, &mut self.image, &request)
-    }
-
-    fn tail(&self) -> usize {
-        (self.calls.check)(&self.image).tail as usize
-    }
-}
-
 /// Values that leave `free` bytes after the tail, with so many deleted entries of 128 bytes among them. Their names are of one character each.
 fn filled(blocks: usize, free: usize, deleted: usize) -> Vec<u8> {
     let mut made = Made::new::<Authenticated>(blocks);
@@ -439,8 +421,7 @@ fn room_at_the_tail() {
                     let image = filled(blocks, free, deleted);
                     for calls in BOTH {
                         let setup = Setup { reserve, records, ..Setup::PLAIN };
-                        let session = (calls.phase)((calls.session_new)(&setup), phase);
-                        let mut station = Station { calls, session, image: image.clone() };
+                        let mut station = Station::new(calls, &setup, image.clone()).in_phase(phase);
                         assert_eq!(station.tail(), BLOCK * blocks - free);
                         // what deleted entries hold is room too
                         let room = free + 128 * deleted >= 164 + kept;
@@ -466,7 +447,7 @@ fn room_of_what_is_replaced() {
                 for append in [false, true] {
                     let answers = BOTH.map(|calls| {
                         let setup = Setup { reserve, records, ..Setup::PLAIN };
-                        let mut station = Station { calls, session: (calls.session_new)(&setup), image: filled(blocks, 104 + 164 + kept, 0) };
+                        let mut station = Station::new(calls, &setup, filled(blocks, 104 + 164 + kept, 0));
                         // 104 bytes of B, then 164 and what is kept free are left
                         assert!(matches!(station.set(B, 0x07, &[1; 40]), Answer::Done(_)));
                         assert_eq!(station.tail(), BLOCK * blocks - 164 - kept);
@@ -493,7 +474,7 @@ fn room_of_records() {
             for records in [0, 84, 88, 4000] {
                 let answers = BOTH.map(|calls| {
                     let setup = Setup { records, ..Setup::PLAIN };
-                    let mut station = Station { calls, session: (calls.session_new)(&setup), image: filled(blocks, free, 0) };
+                    let mut station = Station::new(calls, &setup, filled(blocks, free, 0));
                     let answer = station.set(RECORD, 0x0F, &[1; 2]);
                     (answer, station.image)
                 });

@@ -4,10 +4,10 @@
 mod common;
 
 use common::book::Book;
+use common::station::{with_space, Station};
 use common::{A, B, NEW, OLD, RATE, RECORD, RECORDS, VENDOR};
-use varstore::calls::{lent, Calls, BOTH, ENGINE};
-use varstore::engine;
-use varstore::interface::{Answer, Context, Guid, Key, Request, Rule, Session, Setup, AFTER_END_OF_DXE, RUNTIME};
+use varstore::calls::{Calls, BOTH, ENGINE};
+use varstore::interface::{Answer, Context, Guid, Key, Request, Rule, Setup, AFTER_END_OF_DXE, RUNTIME};
 use varstore::paper::entry::{self, Contents};
 use varstore::paper::layout::{Authenticated, Layout, Plain};
 use varstore::paper::{region, request};
@@ -23,64 +23,10 @@ const fn refused(rule: Rule) -> Answer {
 /// An entry of a record has 60 + 26 bytes beside its data: with one byte or two it is 88 bytes, rounded. RATE's with four is 76; A's and B's have 64 beside theirs.
 const SMALLEST: u32 = 88;
 
-/// An image of b = 1 and a session, in one implementation.
-#[derive(Clone)]
-struct Station {
-    calls: Calls,
-    session: Session,
-    image: Vec<u8>,
-}
-
-/// Runs a case on an empty store with so many bytes for records, in each implementation.
-fn with_space(records: u32, case: impl Fn(Station)) {
-    for calls in BOTH {
-        println!("implementation: {}", calls.who);
-        let mut image = vec![0; 3 * BLOCK];
-        assert_eq!((calls.format)(Context::NO_LIMIT, &mut image), Answer::Done(31));
-        case(Station { calls, session: (calls.session_new)(&Setup { records, ..Setup::PLAIN }), image });
-    }
-}
-
 impl Station {
-    /// What is planned has the same answer.
-    fn set(&mut self, key: Key, attributes: u32, data: &[u8]) -> Answer {
-        let request = Request { key, attributes, data, presence: 0, verdict: 0 };
-        let planned = lent(|content| engine::plan_set(&self.session, &self.image, &request, content).map(|plan| plan.count(1) as u64));
-        let answer = (self.calls.set)(Context::NO_LIMIT, &self.session, &mut self.image, &request);
-        assert_eq!(planned.map_or_else(Answer::Refused, Answer::Done), answer, "planned: {attributes:#X}, {} bytes, {key:X?}", data.len());
-        answer
-    }
-
     /// A record under the name of a number.
     fn record(&mut self, number: u32, data: &[u8]) -> Answer {
         self.set(numbered(number).key(), 0x0F, data)
-    }
-
-    /// Whether a set is accepted that stores an entry: the store keeps what it has.
-    fn would_store(&self, key: Key, attributes: u32, data: &[u8]) -> Result<(), Rule> {
-        match self.clone().set(key, attributes, data) {
-            Answer::Done(1..) => Ok(()),
-            Answer::Refused(rule) => Err(rule),
-            other => panic!("{other:?} for {attributes:#X}, {} bytes, {key:X?}", data.len()),
-        }
-    }
-
-    fn delete(&mut self, key: Key) -> Answer {
-        self.set(key, 0, &[])
-    }
-
-    /// The same store in a session with another H.
-    fn with_h(&self, records: u32) -> Station {
-        let mut station = self.clone();
-        station.session.setup.records = records;
-        station
-    }
-
-    fn at_runtime(&self, reserve: u32) -> Station {
-        let mut station = self.clone();
-        station.session.setup.reserve = reserve;
-        station.session = (self.calls.phase)(station.session, RUNTIME);
-        station
     }
 }
 
@@ -342,8 +288,7 @@ fn records_replaced_at_their_space() {
 fn a_record_being_replaced() {
     with_space(SMALLEST, |mut station| {
         assert_eq!(station.record(1, &[1]), Answer::Done(88));
-        let request = Request { key: RECORD, attributes: 0x0F, data: &[2], presence: 0, verdict: 0 };
-        assert_eq!((station.calls.set)(Context::with(1), &station.session, &mut station.image, &request), Answer::Stopped);
+        assert_eq!(station.set_in(Context::with(1), RECORD, 0x0F, &[2]), Answer::Stopped);
         assert_eq!(station.image[STATE], 0x3E);
         assert_eq!(station.record(2, &[1]), refused(Rule::RecordRoom));
         assert_eq!(station.with_h(0).record(1, &[1]), Answer::Done(0));
@@ -593,8 +538,7 @@ fn a_leftover_of_a_record() {
     let foreign = with_entry::<Authenticated>(RECORD, 0x07, 0x3F);
     image[120..212].copy_from_slice(&foreign[28..120]);
     for calls in BOTH {
-        let session = (calls.session_new)(&Setup { records: 500, ..Setup::PLAIN });
-        let mut station = Station { calls, session, image: image.clone() };
+        let mut station = Station::new(calls, &Setup { records: 500, ..Setup::PLAIN }, image.clone());
         assert_eq!((calls.check)(&station.image).answer, Answer::Done(0));
         assert_eq!(station.record(1, NEW), refused(Rule::Standing));
         assert_eq!(station.with_h(SMALLEST).record(2, &[1]), Answer::Done(88), "only the new one is a record");
@@ -610,8 +554,7 @@ fn foreign_values() {
     for attributes in [0x03, 0x07, 0x23, 0x27] {
         let image = with_entry::<Authenticated>(RECORD, attributes, 0x3F);
         for calls in BOTH {
-            let session = (calls.session_new)(&Setup { records: 500, ..Setup::PLAIN });
-            let mut station = Station { calls, session, image: image.clone() };
+            let mut station = Station::new(calls, &Setup { records: 500, ..Setup::PLAIN }, image.clone());
             assert_eq!((calls.check)(&station.image).answer, Answer::Done(0), "{}: {attributes:#X}", calls.who);
             for data in [OLD, NEW, &[]] {
                 assert_eq!(station.set(RECORD, attributes, data), refused(Rule::Record), "{}: {attributes:#X}", calls.who);
@@ -699,10 +642,7 @@ fn start_up_beyond_the_space() {
 #[test]
 fn seven_blocks() {
     for calls in BOTH {
-        let mut image = vec![0; 15 * BLOCK];
-        assert_eq!((calls.format)(Context::NO_LIMIT, &mut image), Answer::Done(43));
-        let session = (calls.session_new)(&Setup { records: 5 * 2136, ..Setup::PLAIN });
-        let mut station = Station { calls, session, image };
+        let mut station = Station::formatted(calls, &Setup { records: 5 * 2136, ..Setup::PLAIN }, 7);
         for number in 0..5 {
             assert_eq!(station.record(number, &[1; 2048]), Answer::Done(2135));
         }
@@ -718,8 +658,7 @@ fn seven_blocks() {
         assert_eq!(station.record(4, &[4; 2048]), Answer::Done(57361));
         Book::of(&station.image).check_listed(&ENGINE, &station.image);
         // 18 and 13 where the records alone exceed L: thirteen stand, and a fourteenth makes 29,904 bytes
-        let mut full = Station { image: vec![0; 15 * BLOCK], ..station.with_h(u32::MAX) };
-        assert_eq!((calls.format)(Context::NO_LIMIT, &mut full.image), Answer::Done(43));
+        let mut full = Station::formatted(calls, &Setup { records: u32::MAX, ..Setup::PLAIN }, 7);
         for number in 0..13 {
             assert_eq!(full.record(number, &[1; 2048]), Answer::Done(2135));
         }

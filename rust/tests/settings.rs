@@ -4,9 +4,9 @@
 mod common;
 
 use common::book::Book;
+use common::station::{each, with_space, Station};
 use common::{signed, stamped, A, AUTUMN, B, NEW, OLD, RATE, RECORD, SPRING, VENDOR};
-use varstore::calls::{lent, Calls, BOTH, ENGINE};
-use varstore::engine;
+use varstore::calls::ENGINE;
 use varstore::interface::{Answer, Context, Key, Request, Rule, Session, Setting, Setup, AFTER_END_OF_DXE, RUNTIME};
 use varstore::paper::request::{DB, KEK, PK};
 
@@ -18,73 +18,14 @@ const fn refused(rule: Rule) -> Answer {
 
 const BROKEN: Answer = refused(Rule::Setting);
 
-/// An image and a session, in one implementation.
-#[derive(Clone)]
-struct Station {
-    calls: Calls,
-    session: Session,
-    image: Vec<u8>,
-    verdict: u32,
-}
-
-/// Runs a case on an empty store of b = 1 without rules, with so many bytes for records, in each implementation.
-fn with_space(records: u32, case: impl Fn(Station)) {
-    for calls in BOTH {
-        println!("implementation: {}", calls.who);
-        let mut image = vec![0; 3 * BLOCK];
-        assert_eq!((calls.format)(Context::NO_LIMIT, &mut image), Answer::Done(31));
-        case(Station { calls, session: (calls.session_new)(&Setup { records, ..Setup::PLAIN }), image, verdict: 0 });
-    }
-}
-
-/// The same with no room for records.
-fn each(case: impl Fn(Station)) {
-    with_space(0, case);
-}
-
 impl Station {
-    /// What is planned has the same answer, and a refused call changes nothing.
-    fn set(&mut self, key: Key, attributes: u32, data: &[u8]) -> Answer {
-        let request = Request { key, attributes, data, presence: 0, verdict: self.verdict };
-        let planned = lent(|content| engine::plan_set(&self.session, &self.image, &request, content).map(|plan| plan.count(1) as u64));
-        let before = self.image.clone();
-        let answer = (self.calls.set)(Context::NO_LIMIT, &self.session, &mut self.image, &request);
-        assert_eq!(planned.map_or_else(Answer::Refused, Answer::Done), answer, "planned: {attributes:#X}, {} bytes, {key:X?}", data.len());
-        assert!(!matches!(answer, Answer::Refused(_)) || self.image == before, "a refused set has changed the image");
-        answer
-    }
-
-    fn delete(&mut self, key: Key) -> Answer {
-        self.set(key, 0, &[])
-    }
-
-    /// The answer, where the store keeps what it has.
-    fn asked(&self, key: Key, attributes: u32, data: &[u8]) -> Answer {
-        self.clone().set(key, attributes, data)
-    }
-
     /// Whether the rules allow the data: any set of RATE is done, or meets 21.
     fn allows(&self, data: &[u8]) -> bool {
-        match self.asked(RATE, 0x07, data) {
-            Answer::Done(1..) => true,
-            BROKEN => false,
-            other => panic!("{other:?} for {} bytes", data.len()),
+        match self.would_store(RATE, 0x07, data) {
+            Ok(()) => true,
+            Err(Rule::Setting) => false,
+            Err(other) => panic!("{other:?} for {} bytes", data.len()),
         }
-    }
-
-    /// The same store in a session with these rules.
-    fn ruled(&self, rules: &[Setting]) -> Station {
-        let mut station = self.clone();
-        station.session.setup = station.session.setup.ruled(rules);
-        station
-    }
-
-    fn in_phase(&self, phase: u32) -> Station {
-        Station { session: (self.calls.phase)(self.session, phase), ..self.clone() }
-    }
-
-    fn value(&self, key: Key) -> Option<Vec<u8>> {
-        Book::of(&self.image).values.into_iter().find(|value| value.name.key() == key).map(|value| value.data)
     }
 }
 
@@ -403,8 +344,7 @@ fn standing_data_that_break_a_rule() {
         assert_eq!(station.ruled(&[kept.between(0x65, 0x65)]).asked(RATE, 0x07, NEW), Answer::Done(77));
         assert_eq!(station.ruled(&[kept.sized(5, 5)]).asked(RATE, 0x47, &[0]), Answer::Done(78));
         // an equal value that was being replaced is what stands, too
-        let request = Request { key: RATE, attributes: 0x07, data: NEW, presence: 0, verdict: 0 };
-        assert_eq!((station.calls.set)(Context::with(1), &station.session, &mut station.image, &request), Answer::Stopped);
+        assert_eq!(station.set_in(Context::with(1), RATE, 0x07, NEW), Answer::Stopped);
         assert_eq!(station.image[28 + 2], 0x3E);
         assert_eq!(station.ruled(&[kept]).asked(RATE, 0x47, &[]), Answer::Done(0));
         assert_eq!(station.ruled(&[kept.between(0x65, 0x65)]).asked(RATE, 0x47, &[]), BROKEN);
@@ -701,9 +641,7 @@ fn twenty_one_before_stores() {
             (&[9], u64::MAX, &[], Answer::Done(72)),
         ] {
             for width in [1, 16] {
-                let request = Request { key: RATE, attributes: 0x07, data, presence: 0, verdict: 0 };
-                let context = Context::worn(n, dead).paged(width);
-                let answer = (station.calls.set)(context, &station.session, &mut station.image.clone(), &request);
+                let answer = station.clone().set_in(Context::worn(n, dead).paged(width), RATE, 0x07, data);
                 // in pages of 16 bytes: five of the header, two of the name, one of the data, and two marks
                 let expected = if expected == Answer::Done(72) && width == 16 { Answer::Done(10) } else { expected };
                 assert_eq!(answer, expected, "n = {n}, {dead:?}, w = {width}");
@@ -724,12 +662,8 @@ fn key_names_and_records() {
         assert_eq!((ruled.asked(KEK, 0x67, &signed(2024, NEW)), ruled.asked(KEK, 0x67, &signed(2024, OLD))), (BROKEN, Answer::Done(73)));
         // custom mode with presence wants no verdict, and the rule holds there too
         let mut custom = ruled.clone();
-        custom.session.setup.custom = 1;
-        for (data, expected) in [(signed(2024, NEW), BROKEN), (signed(2024, OLD), Answer::Done(71))] {
-            let request = Request { key: PK, attributes: 0x27, data: &data, presence: 1, verdict: 0 };
-            let answer = (custom.calls.set)(Context::NO_LIMIT, &custom.session, &mut custom.image.clone(), &request);
-            assert_eq!(answer, expected);
-        }
+        (custom.session.setup.custom, custom.presence, custom.verdict) = (1, 1, 0);
+        assert_eq!((custom.asked(PK, 0x27, &signed(2024, NEW)), custom.asked(PK, 0x27, &signed(2024, OLD))), (BROKEN, Answer::Done(71)));
         // a read-only PK cannot be deleted, with the verdict that is wanted
         assert_eq!(station.set(PK, 0x27, &signed(2024, OLD)), Answer::Done(71));
         station.verdict = 1;
@@ -836,9 +770,8 @@ fn kept_in_the_session() {
             }
         }
         // the next start-up has none
-        let fresh = (station.calls.start_up)(Context::NO_LIMIT, &mut station.image, &Setup::PLAIN);
-        assert_eq!(fresh.session.setup, Setup::PLAIN);
-        station.session = fresh.session;
+        station.start_up(&Setup::PLAIN);
+        assert_eq!(station.session.setup, Setup::PLAIN);
         assert_eq!(station.set(RATE, 0x07, &[0]), Answer::Done(74));
         Book::of(&station.image).check_listed(&ENGINE, &station.image);
     });
@@ -851,9 +784,7 @@ fn more_rules_than_places_at_a_start_up() {
         let mut rules = [Setting::any(A); 40];
         rules[31] = rate().between(1, 200);
         rules[32] = Setting::any(B).read_only();
-        let started = (station.calls.start_up)(Context::NO_LIMIT, &mut station.image, &Setup::PLAIN.ruled(&rules));
-        assert_eq!(started.answer, Answer::Done(0));
-        station.session = started.session;
+        assert_eq!(station.start_up(&Setup::PLAIN.ruled(&rules)), Answer::Done(0));
         assert_eq!((station.asked(RATE, 0x07, &[0]), station.asked(RATE, 0x07, &[200])), (BROKEN, Answer::Done(72)));
         assert_eq!(station.asked(B, 0x07, &[0]), Answer::Done(66));
     });

@@ -2,11 +2,11 @@
 
 mod common;
 
-use common::book::Book;
+use common::station::{each, Station};
 use common::{signed, stamped, A, AUTUMN, B, NEW, OLD, RATE, SPRING, VENDOR};
-use varstore::calls::{lent, Calls, BOTH};
+use varstore::calls::lent;
 use varstore::engine;
-use varstore::interface::{Answer, Context, Key, Reply, Request, Rule, Session, Setup, AFTER_END_OF_DXE, RUNTIME};
+use varstore::interface::{Answer, Context, Key, Reply, Request, Rule, Setup, AFTER_END_OF_DXE, RUNTIME};
 use varstore::paper::{self, request};
 use varstore::plan::{Content, Operation, Plan, OPERATIONS};
 
@@ -15,63 +15,17 @@ const STATE: usize = 28 + 2;
 const WORK: usize = 4096;
 const SPARE: usize = 8192;
 
-/// An image of b = 1 and a session, in one implementation.
-#[derive(Clone)]
-struct Station {
-    calls: Calls,
-    session: Session,
-    image: Vec<u8>,
-    presence: u32,
-    verdict: u32,
-}
-
-fn empty_stores() -> impl Iterator<Item = Station> {
-    BOTH.into_iter().map(|calls| {
-        println!("implementation: {}", calls.who);
-        let mut image = vec![0; 3 * 4096];
-        assert_eq!((calls.format)(Context::NO_LIMIT, &mut image), Answer::Done(31));
-        Station { calls, session: (calls.session_new)(&Setup::PLAIN), image, presence: 0, verdict: 0 }
-    })
-}
-
-/// Runs a case on an empty store in every implementation.
-fn on_empty(case: fn(Station)) {
-    empty_stores().for_each(case);
-}
-
 /// Runs a case on a store that holds RATE.
 fn on_rate(case: fn(Station)) {
-    for mut station in empty_stores() {
+    each(|mut station| {
         assert_eq!(station.set(RATE, 0x07, OLD), Answer::Done(75));
         case(station);
-    }
+    });
 }
 
 impl Station {
-    fn set(&mut self, key: Key, attributes: u32, data: &[u8]) -> Answer {
-        self.set_until(u64::MAX, key, attributes, data)
-    }
-
     fn set_until(&mut self, limit: u64, key: Key, attributes: u32, data: &[u8]) -> Answer {
-        let request = Request { key, attributes, data, presence: self.presence, verdict: self.verdict };
-        (self.calls.set)(Context::with(limit), &self.session, &mut self.image, &request)
-    }
-
-    fn delete(&mut self, key: Key) -> Answer {
-        self.set(key, 0, &[])
-    }
-
-    fn get(&self, key: Key) -> (Reply, Vec<u8>) {
-        let mut buffer = vec![0; 2048];
-        let reply = (self.calls.get)(Context::NO_LIMIT, &self.session, &self.image, key, &mut buffer);
-        buffer.truncate(reply.size as usize);
-        (reply, buffer)
-    }
-
-    /// The stamp that a name's value has in the image.
-    fn stamp(&self, key: Key) -> [u8; 16] {
-        let values = Book::of(&self.image).values;
-        values.iter().find(|value| value.name.key() == key).expect("a value").stamp
+        self.set_in(Context::with(limit), key, attributes, data)
     }
 
     /// PK is enrolled, so that the mode is user; from then on its verdict is given.
@@ -79,16 +33,6 @@ impl Station {
         self.verdict = 3;
         assert_eq!(self.set(request::PK, 0x27, &stamped(&SPRING, OLD)), Answer::Done(71));
         self.verdict = 1;
-    }
-
-    fn start_up(&mut self) -> Answer {
-        let started = (self.calls.start_up)(Context::NO_LIMIT, &mut self.image, &Setup::PLAIN);
-        self.session = started.session;
-        started.answer
-    }
-
-    fn tail(&self) -> u32 {
-        (self.calls.check)(&self.image).tail
     }
 
     fn is_blank(&self, from: usize, to: usize) -> bool {
@@ -103,7 +47,7 @@ fn refused(number: u32) -> Answer {
 /// "New: 75 stores; entry 28 to 104 with padding."
 #[test]
 fn new_value() {
-    on_empty(|mut station| {
+    each(|mut station| {
         assert_eq!(station.set(RATE, 0x07, OLD), Answer::Done(75));
         assert_eq!(station.tail(), 104);
         assert_eq!(station.image[28..32], [0xAA, 0x55, 0x3F, 0x00]);
@@ -137,7 +81,7 @@ fn deleted_value() {
 /// "Name sizes 4 and 128 pass; 2, 5, 130: 3."
 #[test]
 fn name_sizes() {
-    on_empty(|mut station| {
+    each(|mut station| {
         for (size, answer) in [(4, Answer::Done(69)), (128, Answer::Done(193)), (2, refused(3)), (5, refused(3)), (130, refused(3))] {
             let mut name: Vec<u8> = b"x\0".iter().copied().cycle().take(size).collect();
             name[size - 2..].fill(0);
@@ -149,7 +93,7 @@ fn name_sizes() {
 /// "Attributes 0x13 and 0x40: 4. PK with 0x07: 5."
 #[test]
 fn attributes() {
-    on_empty(|mut station| {
+    each(|mut station| {
         assert_eq!(station.set(RATE, 0x13, OLD), refused(4));
         assert_eq!(station.set(RATE, 0x40, OLD), refused(4));
         assert_eq!(station.set(request::PK, 0x07, OLD), refused(5));
@@ -159,7 +103,7 @@ fn attributes() {
 /// "Name size 4 with 2,048 data, then another with 1,892: the region is exactly full; 1,893 instead: 13; 2,049: 12."
 #[test]
 fn exactly_full() {
-    on_empty(|mut station| {
+    each(|mut station| {
         assert_eq!(station.set(A, 0x07, &[1; 2048]), Answer::Done(2113));
         assert_eq!(station.set(B, 0x07, &[2; 2049]), refused(12));
         assert_eq!(station.set(B, 0x07, &[2; 1893]), refused(13));
@@ -171,7 +115,7 @@ fn exactly_full() {
 /// "Full as above, first value replaced by 2,048 other bytes: 8,197 stores, not 13." The changed value stands last; the next record is F8.
 #[test]
 fn replaced_where_full() {
-    on_empty(|mut station| {
+    each(|mut station| {
         station.set(A, 0x07, &[1; 2048]);
         station.set(B, 0x07, &[2; 1892]);
         assert_eq!(station.set(A, 0x07, &[3; 2048]), Answer::Done(8197));
@@ -186,7 +130,7 @@ fn replaced_where_full() {
 /// "Erase the work block if 64 records are used": then 8,198 stores.
 #[test]
 fn work_block_used_up() {
-    on_empty(|mut station| {
+    each(|mut station| {
         station.set(A, 0x07, &[1; 2048]);
         station.set(B, 0x07, &[2; 1892]);
         station.image[WORK..WORK + 64].fill(0xF8);
@@ -198,7 +142,7 @@ fn work_block_used_up() {
 /// "Equal stamps in user mode, the wanted verdict given: 10." A later one is accepted, and without its verdict it is 9.
 #[test]
 fn equal_stamps() {
-    on_empty(|mut station| {
+    each(|mut station| {
         station.verdict = 3;
         assert_eq!(station.set(request::PK, 0x27, &signed(2024, OLD)), Answer::Done(71));
         assert_eq!(station.set(request::PK, 0x27, &signed(2025, NEW)), refused(9));
@@ -215,9 +159,9 @@ fn spare_complete_but_blank() {
     on_rate(|mut station| {
         station.image[WORK] = 0xFC;
         assert_eq!(station.get(RATE).0.answer, refused(2));
-        assert_eq!(station.start_up(), Answer::Done(1));
+        assert_eq!(station.start_up(&Setup::PLAIN), Answer::Done(1));
         assert!(station.is_blank(WORK, SPARE));
-        assert_eq!(station.start_up(), Answer::Done(0));
+        assert_eq!(station.start_up(&Setup::PLAIN), Answer::Done(0));
         assert_eq!(station.get(RATE).1, OLD);
     });
 }
@@ -268,7 +212,7 @@ fn unfinished_header() {
         assert_eq!(station.set_until(1 + 59, RATE, 0x07, NEW), Answer::Stopped);
         assert_eq!(station.tail(), 104 + 60);
         assert_eq!(station.get(RATE).1, OLD);
-        assert_eq!(station.start_up(), Answer::Done(0));
+        assert_eq!(station.start_up(&Setup::PLAIN), Answer::Done(0));
         assert_eq!(station.set(RATE, 0x07, NEW), Answer::Done(76));
     });
 }
@@ -279,7 +223,7 @@ fn tail_not_blank() {
     on_rate(|mut station| {
         station.image[4000] = 0;
         assert_eq!(station.get(RATE).0.answer, refused(2));
-        assert_eq!(station.start_up(), Answer::Done(8197));
+        assert_eq!(station.start_up(&Setup::PLAIN), Answer::Done(8197));
         assert_eq!((station.tail(), station.get(RATE).1), (104, OLD.to_vec()));
     });
 }
@@ -292,7 +236,7 @@ fn torn_work_block() {
         assert_eq!(station.set(RATE, 0x07, NEW), Answer::Done(77));
         station.image[SPARE..].copy_from_slice(&region);
         station.image[WORK + 5] = 0xFC;
-        assert_eq!(station.start_up(), Answer::Done(2));
+        assert_eq!(station.start_up(&Setup::PLAIN), Answer::Done(2));
         assert_eq!(station.get(RATE).1, NEW);
     });
 }
@@ -300,14 +244,14 @@ fn torn_work_block() {
 /// "If pending, resume at the erase of the region": 1 + 4,096 + 1 + 1 stores.
 #[test]
 fn resumed() {
-    on_empty(|mut station| {
+    each(|mut station| {
         station.set(A, 0x07, &[1; 2048]);
         station.set(B, 0x07, &[2; 1892]);
         for (limit, stores, found) in [(4097, 1, 1), (4098, 4099, 3), (8195, 4099, 3), (8196, 1, 3), (8197, 0, 3)] {
             let mut cut = station.clone();
             let answer = if limit == 8197 { Answer::Done(8197) } else { Answer::Stopped };
             assert_eq!(cut.set_until(limit, A, 0x07, &[3; 2048]), answer);
-            assert_eq!(cut.start_up(), Answer::Done(stores), "stopped after {limit}");
+            assert_eq!(cut.start_up(&Setup::PLAIN), Answer::Done(stores), "stopped after {limit}");
             assert_eq!(cut.get(A).1, [found; 2048], "stopped after {limit}");
             assert_eq!(cut.get(B).1, [2; 1892], "stopped after {limit}");
         }
@@ -317,7 +261,7 @@ fn resumed() {
 /// "Append joins the data, and creates if absent"; "An empty append changes nothing"; the data would exceed 2,048 bytes: 12.
 #[test]
 fn appended() {
-    on_empty(|mut station| {
+    each(|mut station| {
         assert_eq!(station.set(RATE, 0x47, &[]), Answer::Done(0));
         assert_eq!(station.set(RATE, 0x47, OLD), Answer::Done(75));
         assert_eq!(station.set(RATE, 0x47, OLD), Answer::Done(81));
@@ -331,7 +275,7 @@ fn appended() {
 /// that does not append still meets 10, and an append still meets 9.
 #[test]
 fn appended_in_either_order() {
-    on_empty(|mut station| {
+    each(|mut station| {
         station.enrol();
         for (first, second) in [(AUTUMN, SPRING), (SPRING, AUTUMN)] {
             let mut station = station.clone();
@@ -350,7 +294,7 @@ fn appended_in_either_order() {
 /// 02 (b): "the old one if neither is later": its sixteen bytes, of which another writer may have left others than zeros behind the second.
 #[test]
 fn appended_with_an_equal_stamp() {
-    on_empty(|mut station| {
+    each(|mut station| {
         let foreign = [&AUTUMN[..7], &[0xEE; 9]].concat();
         assert_eq!(station.set(request::KEK, 0x27, &stamped(&AUTUMN, OLD)), Answer::Done(73));
         station.image[28 + 16..][..16].copy_from_slice(&foreign);
@@ -369,7 +313,7 @@ fn appended_with_an_equal_stamp() {
 /// Without 0x40 it is the set's own, as in 01.
 #[test]
 fn appended_where_no_verdict_is_wanted() {
-    on_empty(|mut station| {
+    each(|mut station| {
         let append_and_set = |station: &mut Station| {
             assert_eq!(station.set(request::DB, 0x27, &stamped(&AUTUMN, OLD)), Answer::Done(71));
             assert_eq!(station.set(request::DB, 0x67, &stamped(&SPRING, NEW)), Answer::Done(77));
@@ -388,7 +332,7 @@ fn appended_where_no_verdict_is_wanted() {
 /// Without 0x20 the stamp is zeros, also over another writer's.
 #[test]
 fn appended_nothing_and_to_nothing() {
-    on_empty(|mut station| {
+    each(|mut station| {
         station.verdict = 3;
         assert_eq!(station.set(RATE, 0x67, &stamped(&SPRING, &[])), Answer::Done(0));
         assert_eq!(station.set(RATE, 0x67, &stamped(&SPRING, OLD)), Answer::Done(75));
@@ -429,7 +373,7 @@ fn phases_and_locks() {
 /// "The lock list holds 16 other names": 16; "a name already listed is accepted unchanged".
 #[test]
 fn sixteen_locks() {
-    on_empty(|station| {
+    each(|station| {
         let mut session = station.session;
         for letter in b'a'..b'a' + 16 {
             let listed = (station.calls.lock)(session, Key { name: &[letter, 0, 0, 0], vendor: &VENDOR });
@@ -543,7 +487,7 @@ fn stores_of_a_header() {
 /// "Stopped exactly if its list of stores is longer than n: the image is then as after the first n"; a byte store only clears bits.
 #[test]
 fn every_stop_of_a_compaction() {
-    on_empty(|mut station| {
+    each(|mut station| {
         station.set(A, 0x07, &[1; 2048]);
         station.set(B, 0x07, &[2; 1892]);
         let request = Request { key: A, attributes: 0x07, data: &[3; 2048], presence: 0, verdict: 0 };

@@ -10,6 +10,7 @@ pub mod generate;
 pub mod random;
 pub mod rounds;
 pub mod settings;
+pub mod station;
 pub mod stored;
 
 use varstore::interface::{Guid, Key};

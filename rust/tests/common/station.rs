@@ -1,0 +1,133 @@
+//! A station: an image and a session in one implementation, to which a test makes its calls. A test adds calls of its own in an `impl` beside its cases.
+
+use super::book::Book;
+use super::generate::BLOCK;
+use varstore::calls::{lent, Calls, BOTH};
+use varstore::engine;
+use varstore::interface::{Answer, Context, Key, Reply, Request, Rule, Session, Setting, Setup, RUNTIME};
+
+#[derive(Clone)]
+pub struct Station {
+    pub calls: Calls,
+    pub session: Session,
+    pub image: Vec<u8>,
+    /// What sets say of themselves.
+    pub presence: u32,
+    pub verdict: u32,
+}
+
+/// Runs a case on an empty store of b = 1, with a session that was given nothing, in each implementation.
+pub fn each(case: impl Fn(Station)) {
+    with_space(0, case);
+}
+
+/// The same with so many bytes for records.
+pub fn with_space(records: u32, case: impl Fn(Station)) {
+    for calls in BOTH {
+        println!("implementation: {}", calls.who);
+        case(Station::formatted(calls, &Setup { records, ..Setup::PLAIN }, 1));
+    }
+}
+
+impl Station {
+    /// In the fresh session of a setup.
+    pub fn new(calls: Calls, setup: &Setup, image: Vec<u8>) -> Station {
+        Station { calls, session: (calls.session_new)(setup), image, presence: 0, verdict: 0 }
+    }
+
+    /// On a store of so many blocks that was just formatted: each block is erased, and the header has 28 bytes.
+    pub fn formatted(calls: Calls, setup: &Setup, blocks: usize) -> Station {
+        let mut station = Station::new(calls, setup, vec![0; (2 * blocks + 1) * BLOCK]);
+        assert_eq!((calls.format)(Context::NO_LIMIT, &mut station.image), Answer::Done(2 * blocks as u64 + 1 + 28));
+        station
+    }
+
+    fn request<'a>(&self, key: Key<'a>, attributes: u32, data: &'a [u8]) -> Request<'a> {
+        Request { key, attributes, data, presence: self.presence, verdict: self.verdict }
+    }
+
+    /// What is planned has the same answer, and a refused call changes nothing.
+    pub fn set(&mut self, key: Key, attributes: u32, data: &[u8]) -> Answer {
+        let request = self.request(key, attributes, data);
+        let planned = lent(|content| engine::plan_set(&self.session, &self.image, &request, content).map(|plan| plan.count(1) as u64));
+        let before = self.image.clone();
+        let answer = (self.calls.set)(Context::NO_LIMIT, &self.session, &mut self.image, &request);
+        assert_eq!(planned.map_or_else(Answer::Refused, Answer::Done), answer, "planned: {attributes:#X}, {} bytes, {key:X?}", data.len());
+        assert!(!matches!(answer, Answer::Refused(_)) || self.image == before, "a refused set has changed the image");
+        answer
+    }
+
+    /// Stopped by n, or failing at a dead address.
+    pub fn set_in(&mut self, context: Context, key: Key, attributes: u32, data: &[u8]) -> Answer {
+        let request = self.request(key, attributes, data);
+        (self.calls.set)(context, &self.session, &mut self.image, &request)
+    }
+
+    pub fn delete(&mut self, key: Key) -> Answer {
+        self.set(key, 0, &[])
+    }
+
+    /// The answer, where the store keeps what it has.
+    pub fn asked(&self, key: Key, attributes: u32, data: &[u8]) -> Answer {
+        self.clone().set(key, attributes, data)
+    }
+
+    /// Whether a set is accepted that stores an entry: the store keeps what it has.
+    pub fn would_store(&self, key: Key, attributes: u32, data: &[u8]) -> Result<(), Rule> {
+        match self.asked(key, attributes, data) {
+            Answer::Done(1..) => Ok(()),
+            Answer::Refused(rule) => Err(rule),
+            other => panic!("{other:?} for {attributes:#X}, {} bytes, {key:X?}", data.len()),
+        }
+    }
+
+    pub fn get(&self, key: Key) -> (Reply, Vec<u8>) {
+        let mut buffer = vec![0; 2048];
+        let reply = (self.calls.get)(Context::NO_LIMIT, &self.session, &self.image, key, &mut buffer);
+        buffer.truncate(reply.size as usize);
+        (reply, buffer)
+    }
+
+    /// The data and the stamp that a name's value has in the image.
+    pub fn value(&self, key: Key) -> Option<Vec<u8>> {
+        Book::of(&self.image).values.into_iter().find(|value| value.name.key() == key).map(|value| value.data)
+    }
+
+    pub fn stamp(&self, key: Key) -> [u8; 16] {
+        Book::of(&self.image).values.iter().find(|value| value.name.key() == key).expect("a value").stamp
+    }
+
+    pub fn tail(&self) -> usize {
+        (self.calls.check)(&self.image).tail as usize
+    }
+
+    /// The session is that of the start-up from here on.
+    pub fn start_up(&mut self, setup: &Setup) -> Answer {
+        let started = (self.calls.start_up)(Context::NO_LIMIT, &mut self.image, setup);
+        self.session = started.session;
+        started.answer
+    }
+
+    /// The same store in a session with another H, at runtime with a reserve, with rules for settings, or in another phase.
+    pub fn with_h(&self, records: u32) -> Station {
+        let mut station = self.clone();
+        station.session.setup.records = records;
+        station
+    }
+
+    pub fn at_runtime(&self, reserve: u32) -> Station {
+        let mut station = self.clone();
+        station.session.setup.reserve = reserve;
+        station.in_phase(RUNTIME)
+    }
+
+    pub fn ruled(&self, rules: &[Setting]) -> Station {
+        let mut station = self.clone();
+        station.session.setup = station.session.setup.ruled(rules);
+        station
+    }
+
+    pub fn in_phase(&self, phase: u32) -> Station {
+        Station { session: (self.calls.phase)(self.session, phase), ..self.clone() }
+    }
+}
