@@ -1,4 +1,5 @@
-"""For the tests of the tools for the desk: volumes, stores and images made byte by byte, with nothing from the tools' own code; a tool run on them."""
+"""For the tests of the tools for the desk, and for tools/make-images: volumes, stores and images made byte by byte, with nothing from the tools' own code; a tool run
+on them."""
 import os
 import struct
 import subprocess
@@ -16,16 +17,18 @@ SIZE = 0xDFB8   # of OVMF's store
 # ---- volumes and images
 
 
-def entry(name="RATE", data=b"\x64\0\0\0", state=0x3F, attributes=7, name_bytes=None, vendor=VENDOR):
-    """in the authenticated form"""
+def entry(name="RATE", data=b"\x64\0\0\0", state=0x3F, attributes=7, name_bytes=None, vendor=VENDOR, stamp=bytes(16), name_size=None, data_size=None, zero=0, count=0, key=0,
+          pad=0xFF):
+    """in the authenticated form, with its padding; its size fields may say something else than its bytes"""
     name_bytes = name.encode("utf-16-le") + b"\0\0" if name_bytes is None else name_bytes
-    body = struct.pack("<HBBIQ16sIII16s", 0x55AA, state, 0, attributes, 0, bytes(16), 0, len(name_bytes), len(data), vendor) + name_bytes + data
-    return body + b"\xFF" * (-len(body) % 4)
+    name_size, data_size = (len(held) if told is None else told for held, told in ((name_bytes, name_size), (data, data_size)))
+    body = struct.pack("<HBBIQ16sIII16s", 0x55AA, state, zero, attributes, count, stamp, key, name_size, data_size, vendor) + name_bytes + data
+    return body + bytes([pad]) * (-len(body) % 4)
 
 
-def plain_entry(name="RATE", data=b"\x64\0\0\0", state=0x3F, attributes=7, name_bytes=None, vendor=VENDOR):
+def plain_entry(*told, **more):
     """in the plain form: without the 28 bytes of count, stamp and key index"""
-    whole = entry(name, data, state, attributes, name_bytes, vendor)
+    whole = entry(*told, **more)
     return whole[:8] + whole[36:]
 
 

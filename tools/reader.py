@@ -8,6 +8,7 @@ HEADER = 28
 STATES = (0xFF, 0x7F, 0x3F, 0x3E, 0x3D, 0x3C)
 RECORDS = (0xFF, 0xFE, 0xFC, 0xF8)
 ATTRIBUTES = (0x03, 0x07, 0x23, 0x27, 0x0F)
+LARGEST_DATA = 2048
 ERROR_RECORD = 0x08
 RECORD_VENDOR = bytes.fromhex("DD6B4E417BE4CC47B244BB61020CF516")
 
@@ -17,8 +18,10 @@ class Form:
 
     def __init__(self, name, signature, *fields):
         self.name, self.signature = name, bytes.fromhex(signature)
+        # start id, state, zero, attributes, what the form has of its own, sizes of name and data, vendor
         self.header = struct.Struct("<HBBI" + "".join(fields) + "II16s")
         self.entry = self.header.size
+        self.nothing = [0 if field != "16s" else bytes(16) for field in fields]
 
 
 # 01's form has monotonic count, time stamp and key index between attributes and sizes; the first recorders' has nothing there
@@ -64,6 +67,13 @@ class Entry:
         return self.name, self.vendor
 
 
+def entry_of(value, form):
+    """a value as the 3F entry that a move writes: count, stamp and key index are zero where the form has them"""
+    header = form.header.pack(0x55AA, 0x3F, 0, value.attributes, *form.nothing, value.name_size, value.data_size, value.vendor)
+    entry = header + value.name + value.data
+    return entry + b"\xFF" * (-len(entry) % 4)
+
+
 def walk(region, form=NEW):
     """"The walk starts at 28 and stops where under 60 bytes remain or no start id is found; the rest is the tail." In the plain form, under 32."""
     entries, at = [], HEADER
@@ -94,24 +104,34 @@ def is_error_record(e):
     return bool(e.attributes & ERROR_RECORD)
 
 
-def is_sound(region, entries, form=NEW):
-    if region[:HEADER] != header_of(len(region), form):
-        return False
+def faults_of(entries, length):
+    """each that keeps a region of these entries from being sound: the entry, in words why, and whether it can be read all the same"""
+    seen = set()
     for e in entries:
+        whole = e.state == 0xFF or e.end <= length
         if e.state not in STATES:
-            return False
-        if e.state != 0xFF and e.end > len(region):
-            return False
-        if e.is_live():
-            if not well_named(e.name) or not 1 <= e.data_size <= 2048 or e.attributes not in ATTRIBUTES:
-                return False
-            if is_error_record(e) and not has_record_name(e):
-                return False
-    for state in (0x3F, 0x3E):
-        keys = [e.key() for e in entries if e.state == state]
-        if len(set(keys)) != len(keys):
-            return False
-    return True
+            yield e, "has state %02X" % e.state, False
+        if not whole:
+            yield e, "ends beyond the region, and none is found after it", False
+        if not (e.is_live() and whole):
+            continue
+        if not well_named(e.name):
+            yield e, "has a name that is not 1 to 63 characters and a zero character", False
+            continue
+        if (e.state, e.key()) in seen:
+            yield e, "exists twice", False
+            continue
+        seen.add((e.state, e.key()))
+        if not 1 <= e.data_size <= LARGEST_DATA:
+            yield e, "has %d bytes of data, and 1 to 2,048 are allowed" % e.data_size, True
+        elif e.attributes not in ATTRIBUTES:
+            yield e, "has attributes 0x%02X, and %s are allowed" % (e.attributes, ", ".join("0x%02X" % one for one in sorted(ATTRIBUTES))), True
+        elif is_error_record(e) and not has_record_name(e):
+            yield e, "has attributes 0x%02X, and is by name and vendor no hardware error record" % e.attributes, True
+
+
+def is_sound(region, entries, form=NEW):
+    return region[:HEADER] == header_of(len(region), form) and not any(faults_of(entries, len(region)))
 
 
 def is_clean(region, form=NEW):

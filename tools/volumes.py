@@ -4,11 +4,9 @@ import argparse
 import struct
 
 from desk import Refused, about, read, shown, tell
-from reader import (ATTRIBUTES, BLOCK, FORMS, HEADER, NEW, STATES, blocks_of, has_record_name, header_of, is_blank, is_clean, is_error_record, is_idle, is_pending,
-                    values_of, walk, well_named)
+from reader import BLOCK, FORMS, HEADER, NEW, blocks_of, faults_of, header_of, is_blank, is_clean, is_idle, is_pending, values_of, walk, well_named
 
 MOST_BLOCKS = 7
-LARGEST_DATA = 2048
 # the exit status of a tool that only reads, where not all of a store is as the papers allow
 NOT_ALL = 4
 # file system GUID of volumes for variables, as in EFI_FIRMWARE_VOLUME_HEADER
@@ -30,8 +28,8 @@ class Store:
         self.at, self.wrong = at, None
         (_, self.system, length, _, _, header, _) = VOLUME.unpack_from(dump, at)
         self.begin = at + header
-        (signature, self.size, form, state, zeros) = struct.unpack("<16sIBB6s", dump[self.begin:self.begin + HEADER].ljust(HEADER, b"\0"))
-        self.form = next((form for form in FORMS if form.signature == signature), None)
+        head = dump[self.begin:self.begin + HEADER].ljust(HEADER, b"\0")
+        self.form, (self.size,) = form_of(head), struct.unpack_from("<I", head, 16)
         self.is_one = self.system == NV_DATA or self.form is not None
         words = dump[at:at + header // 2 * 2]
         if header % 2 or header < 72 or length > len(dump) - at or header + HEADER > length:
@@ -40,7 +38,7 @@ class Store:
             self.wrong = "the checksum of its header is wrong"
         elif self.form is None:
             self.wrong = "it has no variable store where its header ends"
-        elif (form, state, zeros) != (0x5A, 0xFE, bytes(6)):
+        elif head != header_of(self.size, self.form):
             self.wrong = "its variable store is not formatted or not healthy"
         elif self.size < HEADER or header + self.size > length:
             self.wrong = "its variable store is longer than it, or too short"
@@ -110,32 +108,6 @@ def the_store(dump, at):
 def named(entry):
     """of an entry whose name is well formed"""
     return "%s of vendor %s" % (shown(entry.name.decode("utf-16-le", errors="surrogatepass")[:-1]), entry.vendor.hex().upper())
-
-
-def faults_of(entries, length):
-    """each that keeps a region of these entries from being sound: the entry, in words why, and whether it can be read all the same"""
-    seen = set()
-    for e in entries:
-        whole = e.state == 0xFF or e.end <= length
-        if e.state not in STATES:
-            yield e, "has state %02X" % e.state, False
-        if not whole:
-            yield e, "ends beyond the region, and none is found after it", False
-        if not (e.is_live() and whole):
-            continue
-        if not well_named(e.name):
-            yield e, "has a name that is not 1 to 63 characters and a zero character", False
-            continue
-        if (e.state, e.key()) in seen:
-            yield e, "exists twice", False
-            continue
-        seen.add((e.state, e.key()))
-        if not 1 <= e.data_size <= LARGEST_DATA:
-            yield e, "has %d bytes of data, and 1 to 2,048 are allowed" % e.data_size, True
-        elif e.attributes not in ATTRIBUTES:
-            yield e, "has attributes 0x%02X, and %s are allowed" % (e.attributes, ", ".join("0x%02X" % one for one in sorted(ATTRIBUTES))), True
-        elif is_error_record(e) and not has_record_name(e):
-            yield e, "has attributes 0x%02X, and is by name and vendor no hardware error record" % e.attributes, True
 
 
 def in_words(entry, why):
