@@ -5,17 +5,15 @@ use Prim.Native.Nat.{ℕ, _+_, _*_, _-_, _<_, _≤_}
 use native.Mathlib.Nat.{min-le-left}
 use native.Mathlib.Omega.{arith}
 use mathlib.Core.Path.{_≡_, refl, sym, ap, _∙_}
-use mathlib.Core.Bool.{Bool, true, false}
 use mathlib.Core.List.{List, [], _∷_, _++_, map, append-assoc, append-nil}
 use lib.ListN.{length, drop, length-take, replicate, length-append, length-replicate}
 use lib.Seq.{take-all}
 use Rattle.model.specs.declared.Layout.{Layout}
 use Rattle.model.specs.Layout.{headerLength, vendorAt}
-use Rattle.model.specs.Lists.{part, any}
+use Rattle.model.specs.Lists.{part}
 use Rattle.model.specs.Entry.{Value, entrySizeIn, entryBytesIn}
 use Rattle.model.specs.Walk as walk
 use Rattle.model.specs.Region.{entriesIn, values}
-use Rattle.model.specs.Request.{timeBased}
 use Rattle.model.specs.Compact.{joinedIn}
 use Rattle.model.specs.Move.{unstamped}
 use Rattle.layout.specs.declared.Entry as numbers
@@ -97,20 +95,6 @@ pub carried-all : (y z : Layout) {r : List ℕ} {at here n : ℕ} {l l′ : List
     → Wrote (joinedIn z (map unstamped (values (entriesIn y r)))) at l l′ n
 unfolding joinedIn
 carried-all y z w p = wrote-as (sym (w .whole ∙ rw (p, append-nil))) (w .wrote)
-
--- ---- values with 0x20
-
-abbrev pub stamped : List Value → Bool
-stamped vs = any (λ v. timeBased (v .attributes)) vs
-
-module _ (y : Layout) {r : List ℕ} {here a after : ℕ} {e : numbers.Entry} (x : Next y r here a e after) where
-  pub stamped-here : timeBased (e .attributes) ≡ true → stamped (listedIn y r here) ≡ true
-  unfolding entryAs walk.placed
-  stamped-here h = ap stamped (x .list) ∙ rw h
-
-  pub stamped-next : timeBased (e .attributes) ≡ false → stamped (listedIn y r here) ≡ stamped (listedIn y r after)
-  unfolding entryAs walk.placed
-  stamped-next h = ap stamped (x .list) ∙ rw h
 
 -- ---- FF up to the end
 

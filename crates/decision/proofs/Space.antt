@@ -7,12 +7,14 @@ use mathlib.Core.Path.{_≡_, refl, sym, ap, _∙_}
 use mathlib.Core.Bool.{Bool, true, false, not, cond}
 use mathlib.Core.List.{List, [], _∷_, _++_}
 use mathlib.Core.Option.{Option, some}
+use Rattle.model.specs.Layout.{authenticated}
 use Rattle.model.specs.Lists.{any, keep, first, onSome}
 use Rattle.model.specs.Name.{Key, sameKey}
 use Rattle.model.specs.Entry.{Value, keyOf, entrySize}
 use Rattle.model.specs.Region.{find}
 use Rattle.model.specs.Image.{regionHeaderSize}
 use Rattle.model.specs.Change.{put, without, step, entrySizes, spaceOf, entrySizesIn, spaceIn, isErrorRecord, recordSizes, otherSizes}
+use Rattle.values.proofs.Sizes.{sizes-cons, sizes-split}
 use Rattle.model.proofs.Tests.{or-split, key-eq}
 use Rattle.model.proofs.Encode.{Distinct}
 
@@ -29,18 +31,10 @@ abbrev pub sizes : (Value → Bool) → List Value → ℕ
 sizes p vs = entrySizes (keep p vs)
 
 module _ (p : Value → Bool) where
-  sizes-cons : (v : Value) (vs : List Value) → sizes p (v ∷ vs) ≡ sizeIf p v + sizes p vs
-  unfolding entrySizesIn
-  sizes-cons v vs = go (p v)
-    where
-      go : (t : Bool) → entrySizes (cond t (v ∷ keep p vs) (keep p vs)) ≡ cond t (entrySize v) 0 + entrySizes (keep p vs)
-      go true = refl
-      go false = omega arith
-
   sizes-last : (ws : List Value) (v : Value) → sizes p (ws ++ (v ∷ [])) ≡ sizes p ws + sizeIf p v
   unfolding entrySizesIn
-  sizes-last [] v = omega (arith, sizes-cons v [])
-  sizes-last (w ∷ ws) v = omega (arith, sizes-last ws v, sizes-cons w ws, sizes-cons w (ws ++ (v ∷ [])))
+  sizes-last [] v = omega (arith, sizes-cons authenticated p v [])
+  sizes-last (w ∷ ws) v = omega (arith, sizes-last ws v, sizes-cons authenticated p w ws, sizes-cons authenticated p w (ws ++ (v ∷ [])))
 
   keep-whole : (f : Value → Bool) (vs : List Value) → any f vs ≡ false → keep (λ v. not (f v)) vs ≡ vs
   keep-whole f [] h = refl
@@ -59,8 +53,8 @@ module _ (p : Value → Bool) where
           + sizeOf p (cond t (some v) (first (λ w. sameKey (keyOf w) k) vs)) ≡ sizes p (v ∷ vs)
       go true h i =
           let alone : any (λ w. sameKey (keyOf w) k) vs ≡ false = ap (λ (j : Key). any (λ w. sameKey (keyOf w) j) vs) (sym (key-eq (keyOf v) k h)) ∙ d .0 in
-          rw (keep-whole (λ w. sameKey (keyOf w) k) vs alone) (omega (arith, sizes-cons v vs))
-      go false h i = omega (arith, sizes-cons v vs, sizes-cons v (keep (λ w. not (sameKey (keyOf w) k)) vs))
+          rw (keep-whole (λ w. sameKey (keyOf w) k) vs alone) (omega (arith, sizes-cons authenticated p v vs))
+      go false h i = omega (arith, sizes-cons authenticated p v vs, sizes-cons authenticated p v (keep (λ w. not (sameKey (keyOf w) k)) vs))
 
   -- the old value counts
   pub old-counts : (k : Key) (vs : List Value) → Distinct vs → sizeOf p (find k vs) ≤ sizes p vs
@@ -72,14 +66,5 @@ module _ (p : Value → Bool) where
 
 -- all values are the records and the others
 pub all-sizes : (vs : List Value) → spaceOf vs ≡ regionHeaderSize + recordSizes vs + otherSizes vs
-unfolding spaceIn recordSizes otherSizes entrySizesIn
-all-sizes vs = omega (arith, go vs)
-  where
-    one : (t : Bool) (n : ℕ) → n ≡ cond t n 0 + cond (not t) n 0
-    one true n = omega arith
-    one false n = omega arith
-
-    go : (vs : List Value) → entrySizes vs ≡ sizes isErrorRecord vs + sizes (λ v. not (isErrorRecord v)) vs
-    go [] = refl
-    go (v ∷ vs) =
-        omega (arith, go vs, one (isErrorRecord v) (entrySize v), sizes-cons isErrorRecord v vs, sizes-cons (λ w. not (isErrorRecord w)) v vs)
+unfolding spaceIn recordSizes otherSizes
+all-sizes vs = omega (arith, sizes-split authenticated isErrorRecord vs)

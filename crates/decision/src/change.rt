@@ -18,6 +18,7 @@ ghost use Rattle.decision.specs.Parts.{judgedOf, stands, equalBy, kindBy
 use crate::Decision;
 use crate::Judged;
 use crate::NewValue;
+use model::Layout;
 use model::Rule;
 use model::Setup;
 use model::Terms;
@@ -209,7 +210,7 @@ fn after(region: &[u8], old: Found, error: bool, size: usize) -> Sums
         × (r .others ≡ othersAfter (now (region .entry)) old error size)
         × (r .records + r .others < 2 ^ 63 + 2 ^ 16) ⌝ }
 {
-    let sums = list::sums(region);
+    let sums = list::tally_in(Layout::authenticated(), region);
     let old = freed(region, old);
     if error {
         return Sums {

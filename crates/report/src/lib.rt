@@ -119,8 +119,8 @@ fn put_store(y: Layout, region: &[u8], tail: usize, out: &mut [u8]) -> usize
         (summaryLine (length (now (region .entry))) tail (length (values (entriesIn y (now (region .entry))))) ++ valueLines
         (values (entriesIn y (now (region .entry))))) 0 (now (out .entry)) (now (out .exit)) r ⌝ }
 {
-    let live = list::count_in(y, region);
-    let next = put_summary(out, 0, region.len() as u32, tail as u32, live as u32);
+    let t = list::tally_in(y, region);
+    let next = put_summary(out, 0, region.len() as u32, tail as u32, t.number as u32);
     put_lines(y, region, out, next)
 }
 

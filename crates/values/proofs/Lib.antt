@@ -9,3 +9,5 @@ pub mod Stands
 pub mod Sizes
 -- The values from an offset on, by what the search for the next one finds, and how many there are
 pub mod Next
+-- A pass over the values: what is counted, and what is still to come
+pub mod Counting

@@ -1,34 +1,35 @@
 -- The data of an entry is a part of the region, since dropping twice is dropping once. Name and data follow
 -- each other, so together they hold no more than the rest of the region, and each no more than its size says. Hence the sizes of the values add up to no
--- more than the way that the walk has gone: to no more than the way to the tail.
+-- more than the way to the tail, and to no more than the region has. A sum over the values of a class grows by each value of the class.
 -- Assumes nothing.
 use Prim.Native.Nat.{ℕ, zero, suc, _+_, _-_, _≤_, _<_}
 use native.Mathlib.Nat.{min-le-left, min-le-right}
 use native.Mathlib.Omega.{arith}
 use mathlib.Core.Path.{_≡_, refl, ap, _∙_}
 use mathlib.Core.Logic.{_≢_}
-use mathlib.Core.Bool.{Bool, true, false}
-use mathlib.Core.List.{List, []}
+use mathlib.Core.Bool.{Bool, true, false, not, cond}
+use mathlib.Core.List.{List, [], _∷_}
 use lib.ListN.{length, take, drop, length-take, length-drop}
 use lib.Seq.{drop-drop}
 use lib.Dec.{eqb}
 use borrow.Author.Tests.{eq-eqb, ne-eqb, eqb-true, eqb-false}
 use Rattle.model.specs.declared.Layout.{Layout}
 use Rattle.model.specs.Layout.{authenticated, headerLength}
-use Rattle.model.specs.Lists.{part}
-use Rattle.model.specs.Change.{entrySizesIn, recordSizes, otherSizes}
-use Rattle.model.specs.Entry.{entrySizeIn, entrySize}
+use Rattle.model.specs.Lists.{part, keep}
+use Rattle.model.specs.Change.{entrySizesIn, isErrorRecord, recordSizes, otherSizes}
+use Rattle.model.specs.Entry.{Value, entrySizeIn}
 use Rattle.model.specs.Walk as walk
-use Rattle.model.specs.Region.{entriesIn, entries, tailAtIn, tailAt, isValue, values, recordBit}
+use Rattle.model.specs.Region.{entriesIn, entries, tailAtIn, tailAt, isValue, values}
 use Rattle.model.specs.Beside.{fromIn}
 use Rattle.model.proofs.Walking.{entries-from}
 use Rattle.layout.specs.declared.Entry as numbers
-use Rattle.region.specs.Walk.{entryAs, entryAt, strideIn, turnIn}
+use Rattle.region.specs.Walk.{entryAs, strideIn, turnIn}
 use Rattle.region.specs.declared.Turn.{Turn}
 use Rattle.region.specs.declared.Turn.the-variants.{Entry, Stop}
 use Rattle.region.proofs.Turns.{Turned, Ended, at-entry, at-end}
 use Rattle.region.proofs.Entries.{unnamed, named}
-use Rattle.values.proofs.Listed.{listedIn, listed, listed-all, listed-none, listed-value, listed-next}
+use Rattle.values.specs.Sums.{sizesIn}
+use Rattle.values.proofs.Listed.{listedIn, listed-all, listed-none, listed-value, listed-next}
 
 part-fits : (r : List ℕ) (i n : ℕ) → (length (part i n r) ≤ n) × (length (part i n r) ≤ length r - i)
 part-fits r i n =
@@ -84,51 +85,65 @@ module _ {y : Layout} {r : List ℕ} {at : ℕ} {e : numbers.Entry} {k : ℕ} (w
   unfolding entrySizesIn
   sizes-value h = ap (entrySizesIn y) (listed-value w h)
 
--- an entry that is a value counts by its class
-module _ {r : List ℕ} {at : ℕ} {e : numbers.Entry} {k : ℕ} (w : Turned authenticated r at e k) (h : isValue (entries r) (entryAt r at e) ≡ true) where
-  abbrev size : ℕ
-  size = entrySize (walk.entryValue (entryAt r at e))
+-- ---- sums by class
 
-  pub sums-record : recordBit (e .attributes) ≡ true
-      → (recordSizes (listed r at) ≡ size + recordSizes (listed r k)) × (otherSizes (listed r at) ≡ otherSizes (listed r k))
-  unfolding recordSizes otherSizes entrySizesIn entryAs walk.placed
-  sums-record b = rw (listed-value w h, b) (refl, refl)
+module _ (y : Layout) (p : Value → Bool) where
+  pub sizes-cons : (v : Value) (vs : List Value) → sizesIn y p (v ∷ vs) ≡ cond (p v) (entrySizeIn y v) 0 + sizesIn y p vs
+  unfolding entrySizesIn
+  sizes-cons v vs = go (p v)
+    where
+      go : (t : Bool) → entrySizesIn y (cond t (v ∷ keep p vs) (keep p vs)) ≡ cond t (entrySizeIn y v) 0 + entrySizesIn y (keep p vs)
+      go true = refl
+      go false = omega arith
 
-  pub sums-other : recordBit (e .attributes) ≡ false
-      → (recordSizes (listed r at) ≡ recordSizes (listed r k)) × (otherSizes (listed r at) ≡ size + otherSizes (listed r k))
-  unfolding recordSizes otherSizes entrySizesIn entryAs walk.placed
-  sums-other b = rw (listed-value w h, b) (refl, refl)
+-- all values are those of a class and the others
+pub sizes-split : (y : Layout) (p : Value → Bool) (vs : List Value) → entrySizesIn y vs ≡ sizesIn y p vs + sizesIn y (λ v. not (p v)) vs
+unfolding entrySizesIn
+sizes-split y p [] = refl
+sizes-split y p (v ∷ vs) =
+    omega (arith, sizes-split y p vs, one (p v) (entrySizeIn y v), sizes-cons y p v vs, sizes-cons y (λ w. not (p w)) v vs)
+  where
+    one : (t : Bool) (n : ℕ) → n ≡ cond t n 0 + cond (not t) n 0
+    one true n = omega arith
+    one false n = omega arith
 
 -- ---- the way to the tail
 
--- the values from an offset on take no more than the way from there to the tail
-abbrev Takes : List ℕ → ℕ → Type 0
-Takes r at = at + recordSizes (listed r at) + otherSizes (listed r at) ≤ walk.walkEnd at (fromIn authenticated r at)
+-- the values from an offset on take no more than the way from there to the tail, nor more than the region has left
+pub record Takes (y : Layout) (r : List ℕ) (at : ℕ) : Type 0 where
+  pub way : at + entrySizesIn y (listedIn y r at) ≤ walk.walkEnd at (fromIn y r at)
+  pub left : entrySizesIn y (listedIn y r at) ≤ length r + 3 - at
 
-takes-none : {r : List ℕ} {at : ℕ} → Ended authenticated r at → Takes r at
-unfolding recordSizes otherSizes entrySizesIn walk.walkEnd
-takes-none {r} {at} z = rw (listed-none z, z .walk) (omega arith)
+takes-none : {y : Layout} {r : List ℕ} {at : ℕ} → Ended y r at → Takes y r at
+unfolding entrySizesIn walk.walkEnd
+takes-none {y} {r} {at} z = record { way = rw (listed-none z, z .walk) (omega arith); left = rw (listed-none z) (omega arith) }
 
-takes-more : {r : List ℕ} {at : ℕ} {e : numbers.Entry} {k : ℕ} → Turned authenticated r at e k → Takes r k → Takes r at
+takes-more : {y : Layout} {r : List ℕ} {at : ℕ} {e : numbers.Entry} {k : ℕ} → Turned y r at e k → Takes y r k → Takes y r at
 unfolding walk.walkEnd
-takes-more {r} {at} {e} {k} w h = rw (w .walk, w .next) (go (isValue (entries r) (entryAt r at e)) refl (recordBit (e .attributes)) refl)
+takes-more {y} {r} {at} {e} {k} w h = go (isValue (entriesIn y r) (entryAs y r at e)) refl
   where
-    go : (v : Bool) → isValue (entries r) (entryAt r at e) ≡ v → (b : Bool) → recordBit (e .attributes) ≡ b
-        → at + recordSizes (listed r at) + otherSizes (listed r at) ≤ walk.walkEnd k (fromIn authenticated r k)
-    go true v true b = let s = sums-record w v b in omega (arith, size-next w)
-    go true v false b = let s = sums-other w v b in omega (arith, size-next w)
-    go false v b q = rw (listed-next w v) (omega (arith, size-next w))
+    go : (v : Bool) → isValue (entriesIn y r) (entryAs y r at e) ≡ v → Takes y r at
+    go true v =
+        let s = sizes-value w v in
+        record { way = rw (w .walk, w .next) (omega (arith, size-next w, h .way)); left = omega (arith, size-next w, size-within w, h .left) }
+    go false v =
+        record { way = rw (w .walk, w .next, listed-next w v) (omega (arith, size-next w, h .way)); left = rw (listed-next w v) (omega (arith, size-next w, h .left)) }
 
-takes-by : (r : List ℕ) (at : ℕ) → ((k : ℕ) → length r - k < length r - at → Takes r k) → (t : Turn) → turnIn authenticated r at ≡ t → Takes r at
-takes-by r at on (Entry e k) p = let w = at-entry refl p in takes-more w (on k (w .less))
-takes-by r at on Stop p = takes-none (at-end refl p)
+takes-by : (y : Layout) (r : List ℕ) (at : ℕ) → ((k : ℕ) → length r - k < length r - at → Takes y r k) → (t : Turn) → turnIn y r at ≡ t → Takes y r at
+takes-by y r at on (Entry e k) p = let w = at-entry refl p in takes-more w (on k (w .less))
+takes-by y r at on Stop p = takes-none (at-end refl p)
 
-takes : (left : ℕ) (r : List ℕ) (at : ℕ) → length r - at ≤ left → Takes r at
-takes zero r at h = takes-by r at (λ k l. absurd (omega arith)) (turnIn authenticated r at) refl
-takes (suc n) r at h = takes-by r at (λ k l. takes n r k (omega arith)) (turnIn authenticated r at) refl
+pub takes : (y : Layout) (left : ℕ) (r : List ℕ) (at : ℕ) → length r - at ≤ left → Takes y r at
+takes y zero r at h = takes-by y r at (λ k l. absurd (omega arith)) (turnIn y r at) refl
+takes y (suc n) r at h = takes-by y r at (λ k l. takes y n r k (omega arith)) (turnIn y r at) refl
+
+pub sizes-within : (y : Layout) (r : List ℕ) → entrySizesIn y (values (entriesIn y r)) ≤ length r + 3 - 28
+sizes-within y r = rw (listed-all y r) (omega (arith, takes y (length r) r 28 (omega arith) .left))
 
 pub sizes-before-tail : (r : List ℕ) → 28 + recordSizes (values (entries r)) + otherSizes (values (entries r)) ≤ tailAt r
-unfolding tailAtIn
+unfolding tailAtIn recordSizes otherSizes
 sizes-before-tail r =
-    let t = takes (length r) r 28 (omega arith) in
-    rw (listed-all authenticated r, entries-from authenticated r) t
+    let t = takes authenticated (length r) r 28 (omega arith) .way in
+    let s = sizes-split authenticated isErrorRecord (values (entries r)) in
+    let e = ap (entrySizesIn authenticated) (listed-all authenticated r) in
+    omega (arith, ap (walk.walkEnd 28) (entries-from authenticated r))

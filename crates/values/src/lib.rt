@@ -27,3 +27,11 @@ pub struct Sums {
     pub records: usize,
     pub others: usize,
 }
+
+// What a pass over the values counts: how many there are, their sums, and whether one has 0x20.
+pub struct Tally {
+    pub number: usize,
+    pub records: usize,
+    pub others: usize,
+    pub stamped: bool,
+}

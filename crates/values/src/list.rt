@@ -1,19 +1,20 @@
-// The values of a region in flash order, their number and their sizes. What ends in `_in` is given the stored form; the others are the same in the form in
+// The values of a region in flash order, and what a pass over them counts. What ends in `_in` is given the stored form; the others are the same in the form in
 // which calls store.
 ghost use mathlib.Core.Path.{_≡_};
-ghost use Prim.Native.Nat.{_+_, _≤_};
+ghost use mathlib.Core.Bool.{cond};
+ghost use Prim.Native.Nat.{_+_, _^_, _<_, _≤_};
 ghost use lib.ListN.{length};
 ghost use Rattle.model.specs.Lists.{first};
-ghost use Rattle.model.specs.Entry.{entrySize};
+ghost use Rattle.model.specs.Entry.{entrySize, entrySizeIn};
 ghost use Rattle.model.specs.Walk.{entryValue};
 ghost use Rattle.model.specs.Region.{entries, entriesIn, isValue, values};
-ghost use Rattle.model.specs.Change.{recordSizes, otherSizes};
 ghost use Rattle.model.specs.Beside.{from, fromIn};
 ghost use Rattle.region.specs.Walk.{entryAs, entryAt};
 ghost use Rattle.values.specs.Found.{nextOf};
+ghost use Rattle.values.specs.Sums.{Tallied, counted};
 use crate::Found;
 use crate::NextValue;
-use crate::Sums;
+use crate::Tally;
 use crate::lookup;
 use layout::Entry;
 use model::Layout;
@@ -68,55 +69,64 @@ pub fn next_value(region: &[u8], at: usize) -> NextValue
     next_value_in(Layout::authenticated(), region, at)
 }
 
-// How many values there are.
-pub fn count_in(y: Layout, region: &[u8]) -> usize
-    ensures { λ r. ⌜ r ≡ length (values (entriesIn y (now (region .entry)))) ⌝ }
+// The rounded size of the entry that a value is written as: of a name and data that the region cuts off, what it holds of them.
+pub fn size_of_in(y: Layout, region: &[u8], at: usize, e: Entry) -> usize
+    ensures { λ r. ⌜ r ≡ entrySizeIn y (entryValue (entryAs y (now (region .entry)) at e)) ⌝ }
 {
-    let mut n: usize = 0;
-    let mut at: usize = layout::REGION_HEADER;
-    loop {
-        let t = walk::turn_in(y, region, at);
-        let Turn::Entry(e, next) = t else {
-            return n;
-        };
-        if is_value_in(y, region, at, e) {
-            n += 1;
-        }
-        at = next;
-    }
+    let name = walk::name_of_in(y, region, at, e);
+    let data = walk::data_of_in(y, region, at, e);
+    layout::entry_size_in(y, name.len(), data.len())
 }
 
-// The rounded size of the entry that a value is written as: of a name and data that the region cuts off, what it holds of them.
 pub fn size_of(region: &[u8], at: usize, e: Entry) -> usize
     ensures { λ r. ⌜ r ≡ entrySize (entryValue (entryAt (now (region .entry)) at e)) ⌝ }
 {
-    let name = walk::name_of(region, at, e);
-    let data = walk::data_of(region, at, e);
-    layout::entry_size(name.len(), data.len())
+    size_of_in(Layout::authenticated(), region, at, e)
 }
 
-// The rounded entry sizes of the values: those of the error records, and those of the others.
-pub fn sums(region: &[u8]) -> Sums
-    ensures { λ r. ⌜ (r .records ≡ recordSizes (values (entries (now (region .entry)))))
-        × (r .others ≡ otherSizes (values (entries (now (region .entry)))))
+// The sum of a class, with a value of this size where it is of the class.
+fn class_sum(sum: usize, belongs: bool, size: usize) -> usize
+    requires { ⌜ sum + size < 2 ^ 64 ⌝ }
+    ensures { λ r. ⌜ r ≡ sum + cond belongs size 0 ⌝ }
+{
+    if belongs {
+        return sum + size;
+    }
+    sum
+}
+
+// With one more value, of these attributes and this size.
+fn counted(t: Tally, attributes: u32, size: usize) -> Tally
+    requires { ⌜ (t .number + 1 < 2 ^ 64) × (t .records + size < 2 ^ 64) × (t .others + size < 2 ^ 64) ⌝ }
+    ensures { λ r. ⌜ r ≡ counted t attributes size ⌝ }
+{
+    let error = layout::is_error_record(attributes);
+    Tally {
+        number: t.number + 1,
+        records: class_sum(t.records, error, size),
+        others: class_sum(t.others, !error, size),
+        stamped: t.stamped || policy::time_based(attributes),
+    }
+}
+
+// The values in one pass: their number, the rounded entry sizes of each class, and whether one has 0x20.
+pub fn tally_in(y: Layout, region: &[u8]) -> Tally
+    ensures { λ r. ⌜ Tallied y (values (entriesIn y (now (region .entry)))) r
         × (r .records + r .others ≤ length (now (region .entry)) + 3) ⌝ }
 {
-    let mut records: usize = 0;
-    let mut others: usize = 0;
-    let mut at: usize = layout::REGION_HEADER;
+    let mut t = Tally {
+        number: 0,
+        records: 0,
+        others: 0,
+        stamped: false,
+    };
+    let mut here: usize = layout::REGION_HEADER;
     loop {
-        let t = walk::turn(region, at);
-        let Turn::Entry(e, next) = t else {
-            return Sums { records, others };
+        let v = next_value_in(y, region, here);
+        let NextValue::At(at, e, after) = v else {
+            return t;
         };
-        if is_value(region, at, e) {
-            let size = size_of(region, at, e);
-            if layout::is_error_record(e.attributes) {
-                records += size;
-            } else {
-                others += size;
-            }
-        }
-        at = next;
+        t = counted(t, e.attributes, size_of_in(y, region, at, e));
+        here = after;
     }
 }
