@@ -25,11 +25,11 @@ unfolding headerBytes beforeStamp behindStamp headerRestIn extraBytes
 header-value s v =
     regroup headerFront (s ∷ []) (0 ∷ []) (bytes32 (v .attributes)) (replicate 8 0) (v .stamp) (replicate 4 0) (bytes32 (length (v .name))) (bytes32 (length (v .bytes))) (v .vendor)
 
-length-before : (s a : ℕ) → length (beforeStamp s a) ≡ 16
+pub length-before : (s a : ℕ) → length (beforeStamp s a) ≡ 16
 unfolding beforeStamp headerFront
 length-before s a = refl
 
-length-behind : (n d : ℕ) → length (behindStamp n d) ≡ 12
+pub length-behind : (n d : ℕ) → length (behindStamp n d) ≡ 12
 unfolding behindStamp
 length-behind n d = refl
 

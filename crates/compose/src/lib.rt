@@ -1,12 +1,14 @@
 // Bytes of entries, and of a region that holds values, composed in a lent buffer. As in `output`, a function is given the place of its first byte and gives
 // back the place behind its last one, and bytes past the buffer's end are counted and not stored.
 ghost use mathlib.Core.Path.{_≡_};
+ghost use mathlib.Core.Logic.{_≢_};
 ghost use Prim.Native.Nat.{_+_, _-_, _^_, _<_, _≤_};
 ghost use mathlib.Core.List.{[], _∷_, _++_};
 ghost use lib.ListN.{length, replicate};
+ghost use lib.Dec.{leb};
 ghost use Rattle.model.specs.Lists.{bytes32, among};
 ghost use Rattle.model.specs.Image.{regionHeader};
-ghost use Rattle.model.specs.Entry.{rounded, entrySize, entryBytes};
+ghost use Rattle.model.specs.Entry.{headerSize, rounded, entrySize, entryBytes};
 ghost use Rattle.model.specs.Walk.{entryValue};
 ghost use Rattle.model.specs.Compact.{joined};
 ghost use Rattle.region.specs.Walk.{entryAt};
@@ -174,17 +176,72 @@ pub fn put_entry(
     put_entry_in(0x3F, out, at, attributes, stamp, name, vendor, old, own)
 }
 
-// The entry of a value that is carried over: its stamp is kept.
-fn put_value(out: &mut [u8], at: usize, region: &[u8], place: usize, e: Entry) -> usize
+// Whether so many bytes from a place on lie within a buffer of so many.
+fn lies_within(size: usize, at: usize, len: usize) -> bool
+    ensures { λ r. ⌜ r ≡ leb (at + len) size ⌝ }
+{
+    if size < at {
+        return false;
+    }
+    len <= size - at
+}
+
+// Bytes that all have a place in the buffer.
+fn put_within(out: &mut [u8], at: usize, src: &[u8])
+    requires { ⌜ at + length (now src) ≤ length (now out) ⌝ }
+    ensures { λ _. ⌜ Wrote (now (src .entry)) at (now (out .entry)) (now (out .exit)) (at + length (now (src .entry))) ⌝ }
+{
+    let mut i = 0;
+    while i < src.len() {
+        out[at + i] = src[i];
+        i += 1;
+    }
+}
+
+// A value whose entry lies within the region, and within the buffer: one copy from its stamp on, in which key index and sizes are then written anew.
+fn carry(out: &mut [u8], at: usize, region: &[u8], place: usize, e: Entry) -> usize
+    requires { ⌜ (at < 2 ^ 62) × (length (now region) ≤ 28672) × (place + (headerSize + e .name + e .size) ≤ length (now region))
+        × (at + (headerSize + e .name + e .size) ≤ length (now out)) × (e .state ≢ 0xFF) ⌝ }
+    ensures { λ r. ⌜ Wrote (entryBytes 0x3F (entryValue (entryAt (now (region .entry)) place e))) at (now (out .entry)) (now (out .exit)) r ⌝ }
+{
+    let size = Layout::HEADER + e.name as usize + e.size as usize;
+    let from = place + Layout::STAMP;
+    let to = place + size;
+    let front = before_stamp(0x3F, e.attributes);
+    let sizes = behind_stamp(e.name as usize, e.size as usize);
+    put_within(out, at, &front);
+    put_within(out, at + Layout::STAMP, &region[from..to]);
+    put_within(out, at + Layout::STAMP + 16, &sizes);
+    put_padding(out, at + size, size)
+}
+
+// A value of whose entry the region, or the buffer, holds not all: field by field, and of name and data what there is.
+fn put_cut(out: &mut [u8], at: usize, region: &[u8], place: usize, e: Entry) -> usize
     requires { ⌜ (at < 2 ^ 62) × (length (now region) ≤ 28672) ⌝ }
-    ensures { λ r. ⌜ Wrote (entryBytes 0x3F (entryValue (entryAt (now (region .entry)) place e))) at (now (out .entry)) (now (out .exit)) r
-        × (r ≤ at + entrySize (entryValue (entryAt (now (region .entry)) place e))) ⌝ }
+    ensures { λ r. ⌜ Wrote (entryBytes 0x3F (entryValue (entryAt (now (region .entry)) place e))) at (now (out .entry)) (now (out .exit)) r ⌝ }
 {
     let stamp = walk::stamp_of(region, place);
     let name = walk::name_of(region, place, e);
     let vendor = walk::vendor_of(region, place);
     let data = walk::data_of(region, place, e);
     put_entry(out, at, e.attributes, stamp, name, vendor, data, &data[..0])
+}
+
+// The entry of a value that is carried over: its stamp is kept.
+fn put_value(out: &mut [u8], at: usize, region: &[u8], place: usize, e: Entry) -> usize
+    requires { ⌜ (at < 2 ^ 62) × (length (now region) ≤ 28672) ⌝ }
+    ensures { λ r. ⌜ Wrote (entryBytes 0x3F (entryValue (entryAt (now (region .entry)) place e))) at (now (out .entry)) (now (out .exit)) r
+        × (r ≤ at + entrySize (entryValue (entryAt (now (region .entry)) place e))) ⌝ }
+{
+    if e.state != 0xFF {
+        let size = Layout::HEADER + e.name as usize + e.size as usize;
+        if lies_within(region.len(), place, size) {
+            if lies_within(out.len(), at, size) {
+                return carry(out, at, region, place, e);
+            }
+        }
+    }
+    put_cut(out, at, region, place, e)
 }
 
 // Whether an offset is one of those to leave out.

@@ -1,37 +1,49 @@
--- `compose::put_value` meets its contract: what is read of the entry makes up its value, and none of it is longer than the region. Assumes nothing.
+-- `compose::put_value` meets its contract: one copy where the entry lies within region and buffer, else field by field; and no entry's bytes are more than its size.
+-- Assumes nothing.
 use native.Mathlib.Omega.{arith}
-use mathlib.Core.Path.{_∙_}
-use mathlib.Core.List.{append-nil}
+use mathlib.Core.Path.{sym, _∙_}
+use borrow.Author.Tests.{leb-true}
 use denote.Ref.{now}
-use Rattle.output.proofs.Writing.{wrote-as}
-use Rattle.compose.proofs.Carried.{entry-value, short}
+use Rattle.compose.proofs.Carried.{value-short}
 use borrow.Author.Needs.{needs}
 use Rattle.compose.proofs.put_value.Statement.{statement}
 use Rattle.compose.proofs.put_value.Tie as tie
 
-put-entry-requires : tie.Need-put-entry-requires
-put-entry-requires c κs =
-    let a = c .before .before .before .before .before .before .before .before .args in
-    let s = short (now (a .region)) (a .place) (a .e) (c .before .before .before .before .before .stamp-of .ensures) (c .before .before .before .before .name-of .ensures) (c .before .before .before .vendor-of .ensures) (c .before .before .data-of .ensures) in
-    (omega arith, omega (arith, s .stamp-short), omega (arith, s .name-short), omega (arith, s .vendor-short), omega (arith, s .bytes-short), search needs)
+carry-requires : tie.Need-carry-requires
+carry-requires c κs =
+    let s = c .before .before .before .before .before .before .before .before .before .before .before in (
+      s .pre .0,
+      s .pre .1,
+      leb-true _ _ (sym (c .before .before .before .before .lies-within .ensures) ∙ c .before .before .before .if2 .taken),
+      leb-true _ _ (sym (c .before .before .lies-within2 .ensures) ∙ c .before .if3 .taken),
+      c .before .before .before .before .before .before .before .if1 .taken,
+    )
 
 returns : tie.Need-returns
 returns c =
-    let a = c .before .before .before .before .before .before .before .before .before .before .before .args in
-    let e = append-nil (now (c .before .before .before .before .before .data-of .result)) ∙ c .before .before .before .before .before .data-of .ensures in
-    let s = short (now (a .region)) (a .place) (a .e) (c .before .before .before .before .before .before .before .before .stamp-of .ensures) (c .before .before .before .before .before .before .before .name-of .ensures) (c .before .before .before .before .before .before .vendor-of .ensures) e in
-    let w = c .before .before .put-entry .ensures in
-    (wrote-as (entry-value (now (a .region)) (a .place) (a .e) (c .before .before .before .before .before .before .before .before .stamp-of .ensures) (c .before .before .before .before .before .before .before .name-of .ensures) (c .before .before .before .before .before .before .vendor-of .ensures) e) w, omega (arith, w .place, s .entry-short))
+    let a = c .before .before .before .before .before .before .before .before .before .before .before .before .before .before .args in
+    let w = c .before .before .carry .ensures in
+    (w, omega (arith, w .place, value-short (now (a .region)) (a .place) (a .e)))
+
+returns-2 : tie.Need-returns-2
+returns-2 c =
+    let a = c .before .before .before .before .before .before .before .before .args in
+    let w = c .before .before .put-cut .ensures in
+    (w, omega (arith, w .place, value-short (now (a .region)) (a .place) (a .e)))
 
 pub put-value-spec : {M : Type 1} → statement M
 put-value-spec =
     tie.close
     (tie.spec
+    (λ c. search needs)
+    (λ c. search needs)
+    (λ c. search needs)
+    (λ c. search needs)
     (λ c κs. search needs)
     (λ c κs. search needs)
-    (λ c κs. search needs)
+    carry-requires
+    (λ c. search needs)
+    returns
     (λ c κs. search needs)
     (λ c. search needs)
-    put-entry-requires
-    (λ c. search needs)
-    returns)
+    returns-2)
