@@ -46,7 +46,7 @@ $(LIB): $(SOURCES)
 target/staticlib/libcapi-%.a: $(LIB) tools/lib-for
 	tools/lib-for $*
 
-# library, header and pkg-config file into PREFIX (/usr/local if none is given): lib/libvarstore.a, include/varstore.h, lib/pkgconfig/varstore.pc
+# library, headers and pkg-config file into PREFIX (/usr/local if none is given): lib/libvarstore.a, include/varstore.h and varstore_uefi.h, lib/pkgconfig/varstore.pc
 install: $(MADE)
 	tools/install $(MADE) "$(PREFIX)"
 
@@ -54,7 +54,7 @@ install: $(MADE)
 clean:
 	rm -rf target
 
-# either calling convention, header and library of one form, and an installed library
+# either calling convention, header and library of one form, varstore_uefi.h, and an installed library
 link-test: $(LIB)
 	tools/link-test
 

@@ -1,11 +1,11 @@
 /* A host with nothing beside it, no C library and no start-up code, in the calling convention that its compiler is told: a store is formatted, set, compacted,
- * read and planned under a rule for its one setting. First memory.c is tried, which is not proved. Exit status 0 if every answer is right, else the number of the
- * first that is wrong.
+ * read and planned under a rule for its one setting. First memory.c is tried, which is not proved, then varstore_uefi.h in this convention. Exit status 0 if every
+ * answer is right, else the number of the first that is wrong.
  *
  * tools/link-test builds it for both conventions of x86-64, tools/targets-test for the other machines. The numbers of stores are those of document 01's cases: a
  * format of one block 31, a new RATE 75, a compaction of one block 8,197.
  */
-#include "varstore.h"
+#include "varstore_uefi.h"
 
 enum {
     IMAGE = VS_BLOCK * 3,
@@ -145,6 +145,23 @@ static void overlaps(void)
     told(right);
 }
 
+/* As UEFI asks: a name by its zero character, a buffer too small and one that is not, and one buffer for the name that goes in and the one that comes out. */
+static void uefi(void)
+{
+    static uint8_t data[VS_LARGEST_DATA], name[8], guid[16];
+    uint64_t size = 3;
+    uint32_t attributes = 0;
+    told(vs_uefi_name_size(rate, SIZE_MAX) == sizeof rate);
+    vs_reply reply = vs_get(no_limit, session, image, IMAGE, rate, vs_uefi_name_size(rate, SIZE_MAX), vendor, data, sizeof data);
+    told(vs_uefi_got(reply, data, &attributes, &size, buffer) == VS_EFI_BUFFER_TOO_SMALL && size == 4 && attributes == PLAIN);
+    told(vs_uefi_got(reply, data, &attributes, &size, buffer) == VS_EFI_SUCCESS && size == 4 && buffer[0] == 200);
+    size = sizeof name;
+    reply = vs_next_name(no_limit, session, image, IMAGE, name, vs_uefi_name_size(name, size), vendor, data, sizeof data);
+    told(vs_uefi_named(reply, data, &size, name, guid) == VS_EFI_BUFFER_TOO_SMALL && size == sizeof rate);
+    told(vs_uefi_named(reply, data, &size, buffer, guid) == VS_EFI_SUCCESS && buffer[6] == 'E' && guid[2] == 3);
+    told(vs_uefi_answer(set(0)) == VS_EFI_INVALID_PARAMETER && vs_uefi_text(VS_SETTING)[0] == 'i');
+}
+
 /* Linux's call exit, and where a program begins: the stack is aligned as for a call, with the 32 bytes that a callee of the Microsoft convention may use. */
 #if defined(__x86_64__)
 #define EXIT(status) __asm__ volatile("syscall" : : "a"(60ul), "D"((uint64_t)(status)) : "rcx", "r11", "memory")
@@ -170,6 +187,7 @@ void run(void)
     told(done(set(1), 75) && rate_is(1));
     compaction();
     names();
+    uefi();
     locked();
     EXIT(first_wrong);
     __builtin_unreachable();

@@ -11,7 +11,7 @@
 #include <stdlib.h>
 #include <string.h>
 
-#include "varstore.h"
+#include "varstore_uefi.h"
 
 #if VS_INTERFACE != 6
 #error "this host knows the operations of interface 6"
@@ -19,36 +19,6 @@
 
 static const vs_context no_limit = {.limit = VS_NO_LIMIT};
 static vs_setup setup = {0}; /* no custom mode, no reserve; bytes for error records, and rules for settings, where the story comes to them */
-
-static const char *rule_text(uint32_t rule)
-{
-    static const char *const texts[] = {
-        [0] = "no rule",
-        [VS_LENGTH] = "image length",
-        [VS_UNREADY] = "image not ready for a call",
-        [VS_NAME] = "name not well formed",
-        [VS_ATTRIBUTES] = "attributes not allowed",
-        [VS_KEY_ATTRIBUTES] = "key name with other attributes",
-        [VS_LOCKED] = "locked",
-        [VS_STANDING] = "not allowed over the standing value",
-        [VS_DESCRIPTOR] = "descriptor malformed",
-        [VS_VERDICT] = "signature verdict missing",
-        [VS_STAMP] = "time stamp not later",
-        [VS_ABSENT] = "not found",
-        [VS_DATA_SIZE] = "data too long",
-        [VS_ROOM] = "no room",
-        [VS_BUFFER] = "buffer too short",
-        [VS_LOCK_PHASE] = "lock after the boot phase",
-        [VS_LOCK_SPACE] = "lock list full",
-        [VS_RECORD_NAME] = "an error record's attribute or name without the other",
-        [VS_RECORD_SPACE] = "no room for error records",
-        [VS_SOURCE] = "source not fit for a move",
-        [VS_TIME_BASED_VALUE] = "a value with time-based authentication",
-        [VS_SETTING] = "its rules forbid it",
-        [VS_WORN] = "a byte no longer clears",
-    };
-    return rule < sizeof texts / sizeof texts[0] && texts[rule] != NULL ? texts[rule] : "unknown rule";
-}
 
 static int told(const char *what, vs_answer answer)
 {
@@ -58,7 +28,7 @@ static int told(const char *what, vs_answer answer)
     if (answer.kind == VS_STOPPED) {
         printf("%s: stopped\n", what);
     } else {
-        printf("%s: refused %u, %s\n", what, (unsigned)answer.rule, rule_text(answer.rule));
+        printf("%s: refused %u, %s\n", what, (unsigned)answer.rule, vs_uefi_text(answer.rule));
     }
     return 1;
 }
@@ -553,18 +523,6 @@ static const vs_setup with_rules = {
     },
 };
 
-/* Whether VS_SETTING tells that a name is read-only, and not what the data are: by the host's own table. */
-static int read_only(const vs_setup *given, const uint8_t *name, size_t size, const uint8_t *vendor)
-{
-    uint32_t rules = given->rules < 32 ? given->rules : 32;
-    for (const vs_setting *rule = given->settings; rule < given->settings + rules; rule++) {
-        if (rule->fixed != 0 && rule->size == size && memcmp(rule->name, name, size) == 0 && memcmp(rule->vendor, vendor, 16) == 0) {
-            return 1;
-        }
-    }
-    return 0;
-}
-
 /* A setting of our own, and of a refused one the EFI_STATUS that a UEFI host would return. */
 static void change(const vs_session *session, const char *what, const char *text, uint32_t attributes, const void *data, size_t size)
 {
@@ -573,7 +531,7 @@ static void change(const vs_session *session, const char *what, const char *text
     vs_answer answer = set(session, text, attributes, data, size);
     print_answer(what, answer);
     if (answer.kind == VS_REFUSED && answer.rule == VS_SETTING) {
-        printf("  %s\n", read_only(&setup, name, name_size, our_vendor) ? "EFI_WRITE_PROTECTED" : "EFI_INVALID_PARAMETER");
+        printf("  %s\n", vs_uefi_read_only(&setup, name, name_size, our_vendor) ? "EFI_WRITE_PROTECTED" : "EFI_INVALID_PARAMETER");
     }
 }
 
