@@ -1,5 +1,5 @@
 .SILENT:
-.PHONY: help kit demo test check fmt lib link-test targets-test host host-test stack rust-test soak bench check-time efi interop volume-test convert-test records-test settings-test desk-test install clean
+.PHONY: help kit demo test check fmt lib link-test targets-test examples-test host host-test stack rust-test soak bench check-time efi interop volume-test convert-test records-test settings-test desk-test install clean
 
 CC = cc
 CFLAGS = -std=c11 -O2 -Wall -Wextra -Werror
@@ -71,6 +71,10 @@ host-test: host
 	target/host crates/varlist/stdin >target/host.out
 	target/host >>target/host.out
 	cmp target/host.out c/host.expected
+
+# the UEFI driver of examples/ on a part whose power fails and whose bytes die, compared with a book
+examples-test: $(LIB)
+	tools/examples-test
 
 # how much stack the calls take
 stack: $(LIB)
