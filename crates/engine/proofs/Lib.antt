@@ -9,7 +9,5 @@ pub mod Copying
 pub mod Bits
 -- A set, by what was decided
 pub mod Setting
--- A format
-pub mod Formatting
 -- How a call ends that was planned and carried out
 pub mod Carrying

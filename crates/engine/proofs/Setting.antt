@@ -40,12 +40,12 @@ use Rattle.plan.specs.declared.Op.{Op}
 use Rattle.plan.specs.declared.Planned.{Planned}
 use Rattle.plan.specs.Planned.{accepted, decidesRight, Kept, Plans}
 use Rattle.plan.proofs.Parts.{mark-decides, accepted-plans, either-kept}
-use Rattle.orders.specs.Entries.{Below, deletePlan}
-use Rattle.orders.proofs.EntryPlans.{delete-to, delete-on, remove-marks}
-use Rattle.orders.proofs.EntryReady.{delete-ready}
-use Rattle.orders.proofs.Found.{places-below}
-use Rattle.change.specs.Asked.{Asked, PutPlanned}
-use Rattle.change.proofs.Ready.{image-long, region-size, ready-clean}
+use Rattle.planner.specs.Entries.{Below, deletePlan}
+use Rattle.planner.proofs.EntryPlans.{delete-to, delete-on, remove-marks}
+use Rattle.planner.proofs.EntryReady.{delete-ready}
+use Rattle.planner.proofs.Found.{places-below}
+use Rattle.planner.specs.Asked.{Asked, PutPlanned}
+use Rattle.planner.proofs.Ready.{image-long, region-size, ready-clean}
 use Rattle.decision.specs.declared.Decision.{Decision}
 use Rattle.decision.specs.declared.Decision.the-variants as decision
 use Rattle.decision.specs.Decision.{requestOf, decisionOf, brokenOf}

@@ -1,5 +1,3 @@
 -- What the calls answer, where the code goes by parts.
 -- The calls that read
 pub mod Read
--- The plan of a format
-pub mod Format

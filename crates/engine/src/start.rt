@@ -18,8 +18,8 @@ pub fn plan_start_up(image: &[u8], content: &mut [u8; layout::CONTENT]) -> Plann
 {
     let found = image::check_start(image);
     match found {
-        Start::Pending(b, looked) => startup::resume(image, b, looked, content),
-        Start::Sound(b, looked, clean) => startup::tidy(image, b, looked, clean, content),
+        Start::Pending(b, looked) => planner::startup::resume(image, b, looked, content),
+        Start::Sound(b, looked, clean) => planner::startup::tidy(image, b, looked, clean, content),
         Start::Refused(rule) => plan::refuse(rule),
     }
 }

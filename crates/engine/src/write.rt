@@ -10,12 +10,10 @@ ghost use Rattle.model.specs.Book.{setPlan, Sized};
 ghost use Rattle.recovery.specs.Interface.{Returned};
 ghost use Rattle.image.specs.Check.{IsReady};
 ghost use Rattle.values.specs.Found.{elseFound};
-ghost use Rattle.change.specs.Asked.{Asked, PutPlanned};
+ghost use Rattle.planner.specs.Asked.{Asked, PutPlanned};
 ghost use Rattle.decision.specs.Decision.{requestOf};
 ghost use Rattle.decision.specs.Parts.{valueBy};
 ghost use Rattle.plan.specs.Planned.{Kept, Plans};
-ghost use Rattle.engine.specs.Format.{wipePlan};
-use change::Standing;
 use decision::Asking;
 use decision::Decision;
 use decision::NewValue;
@@ -24,10 +22,8 @@ use model::Answer;
 use model::Context;
 use model::Rule;
 use model::Session;
-use plan::Op;
-use plan::Plan;
 use plan::Planned;
-use plan::Step;
+use planner::Standing;
 
 // The plan of a value to put that was decided by numbers, over the region of an image that is ready.
 fn plan_put(
@@ -51,7 +47,7 @@ fn plan_put(
     let stamp = value.stamp;
     let kept = decision::kept(region, places, value.keeps);
     let own = slices::from(bytes, value.own);
-    change::put_value(
+    planner::put::put_value(
         image,
         standing,
         name,
@@ -96,7 +92,7 @@ fn plan_ready(
     match what {
         Decision::Broken(rule) => plan::refuse(rule),
         Decision::Nothing => plan::accept(plan::nothing(), 12),
-        Decision::Remove => plan::accept(orders::entries::delete(places), 1),
+        Decision::Remove => plan::accept(planner::entries::delete(places), 1),
         Decision::Put => plan_put(
             image,
             region,
@@ -203,34 +199,6 @@ pub fn set(
     flash::carry_out(image, planned, content, c)
 }
 
-// "it erases all blocks in rising order, then stores the 28 header bytes in rising order"
-fn wipe(b: usize) -> Plan
-    requires { ⌜ b ≤ 7 ⌝ }
-    ensures { λ r. ⌜ r ≡ wipePlan b ⌝ }
-{
-    let none = Op {
-        step: Step::Nothing,
-    };
-    [
-        Op {
-            step: Step::Erase(0, 2 * b + 1),
-        },
-        Op {
-            step: Step::Program(0, 0, layout::REGION_HEADER),
-        },
-        none,
-        none,
-        none,
-        none,
-        none,
-        none,
-        none,
-        none,
-        none,
-        none,
-    ]
-}
-
 // The plan of a format: "Formatting meets 1 only".
 pub fn plan_format(image: &[u8], content: &mut [u8; layout::CONTENT]) -> Planned
     ensures { λ r. ⌜ Plans (formatPlan (now (image .entry))) (now (image .entry)) (now (content .entry)) (now (content .exit)) r ⌝ }
@@ -239,9 +207,7 @@ pub fn plan_format(image: &[u8], content: &mut [u8; layout::CONTENT]) -> Planned
     if b == 0 {
         return plan::refuse(Rule::Length);
     }
-    let header = layout::fixed::region_header(layout::BLOCK * b);
-    output::put_bytes(content, 0, &header);
-    plan::accept(wipe(b), 12)
+    planner::format::plan(image, b, content)
 }
 
 // An empty region: planned, then carried out up to n, or to a store that fails.

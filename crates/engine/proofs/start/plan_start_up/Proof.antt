@@ -3,7 +3,7 @@ use mathlib.Core.Path.{sym, _∙_}
 use denote.Ref.{now}
 use Rattle.model.specs.StartUp.{startUpPlan}
 use Rattle.plan.proofs.Parts.{refused-plans}
-use Rattle.startup.proofs.Starting.{refused-plan}
+use Rattle.planner.proofs.Starting.{refused-plan}
 use borrow.Author.Needs.{needs}
 use Rattle.engine.proofs.start.plan_start_up.Statement.{statement}
 use Rattle.engine.proofs.start.plan_start_up.Tie as tie

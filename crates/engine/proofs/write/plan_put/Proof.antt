@@ -3,8 +3,8 @@ use mathlib.Core.Path.{_≡_, ap₂, _∙_}
 use mathlib.Core.List.{List, _++_}
 use Prim.Native.Nat.{ℕ}
 use denote.Ref.{now}
-use Rattle.change.specs.Asked.{valued}
-use Rattle.change.proofs.Ready.{asked-as, planned-as}
+use Rattle.planner.specs.Asked.{valued}
+use Rattle.planner.proofs.Ready.{asked-as, planned-as}
 use Rattle.decision.specs.Parts.{valueBy}
 use borrow.Author.Needs.{needs}
 use Rattle.engine.proofs.write.plan_put.Statement.{statement}

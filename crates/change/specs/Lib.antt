@@ -1,2 +1,0 @@
--- What a put asks for, and what it finds.
-pub mod Asked

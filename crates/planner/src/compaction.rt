@@ -1,0 +1,125 @@
+// The plans of a compaction and of its second half. What the spare is to hold, or holds, stands at the front of the content.
+ghost use mathlib.Core.Path.{_≡_};
+ghost use mathlib.Core.Bool.{cond};
+ghost use Prim.Native.Nat.{_≤_, _<_};
+ghost use lib.Dec.{leb};
+ghost use Rattle.planner.specs.Compactions.{clearStep, compactPlan, resumePlan, restPlan};
+use plan::Op;
+use plan::Plan;
+use plan::Step;
+
+// The number of the next record: the first, where all 64 are used and the work block is erased.
+fn next_record(used: usize) -> usize
+    ensures { λ r. ⌜ (r ≡ cond (leb 64 used) 0 used) × (r < 64) ⌝ }
+{
+    if records::RECORDS <= used { 0 } else { used }
+}
+
+// "erase the work block if 64 records are used".
+fn clear_full(b: usize, used: usize) -> Step
+    ensures { λ r. ⌜ r ≡ clearStep b used ⌝ }
+{
+    if used < records::RECORDS {
+        return Step::Nothing;
+    }
+    Step::Erase(b, 1)
+}
+
+// A compaction, after what a start-up erases first: ".. next record FE; header and values .. stored into the spare; record FC (deciding); erase the region's
+// blocks; copy the spare; record F8; erase the spare's blocks".
+pub fn compact(spare: Step, work: Step, b: usize, used: usize) -> Plan
+    requires { ⌜ b ≤ 7 ⌝ }
+    ensures { λ r. ⌜ r ≡ compactPlan spare work b used ⌝ }
+{
+    let none = Op {
+        step: Step::Nothing,
+    };
+    let size = layout::BLOCK * b;
+    let at = size + next_record(used);
+    [
+        Op { step: spare },
+        Op { step: work },
+        Op {
+            step: clear_full(b, used),
+        },
+        Op {
+            step: Step::Mark(at, 0xFE),
+        },
+        Op {
+            step: Step::Program(size + layout::BLOCK, 0, size),
+        },
+        Op {
+            step: Step::Mark(at, 0xFC),
+        },
+        Op {
+            step: Step::Erase(0, b),
+        },
+        Op {
+            step: Step::Program(0, 0, size),
+        },
+        Op {
+            step: Step::Mark(at, 0xF8),
+        },
+        Op {
+            step: Step::Erase(b + 1, b),
+        },
+        none,
+        none,
+    ]
+}
+
+// "if pending, resume at the erase of the region": the record is the last used one.
+pub fn resume(b: usize, place: usize) -> Plan
+    requires { ⌜ (b ≤ 7) × (place < 64) ⌝ }
+    ensures { λ r. ⌜ r ≡ resumePlan b place ⌝ }
+{
+    let none = Op {
+        step: Step::Nothing,
+    };
+    let size = layout::BLOCK * b;
+    [
+        Op {
+            step: Step::Erase(0, b),
+        },
+        Op {
+            step: Step::Program(0, 0, size),
+        },
+        Op {
+            step: Step::Mark(size + place, 0xF8),
+        },
+        Op {
+            step: Step::Erase(b + 1, b),
+        },
+        none,
+        none,
+        none,
+        none,
+        none,
+        none,
+        none,
+        none,
+    ]
+}
+
+// A start-up that compacts nothing: what it erases.
+pub fn rest(spare: Step, work: Step) -> Plan
+    ensures { λ r. ⌜ r ≡ restPlan spare work ⌝ }
+{
+    let none = Op {
+        step: Step::Nothing,
+    };
+    [
+        Op { step: spare },
+        Op { step: work },
+        none,
+        none,
+        none,
+        none,
+        none,
+        none,
+        none,
+        none,
+        none,
+        none,
+    ]
+}
