@@ -1,25 +1,51 @@
--- A compaction with a put: the values without the changed one's name and then its entry are the values after the change, joined; they are written at the
--- front of a buffer that holds them, and with FF bytes behind them they are the region to store.
+-- What a compaction composes: a header and values that have room in the region, written at the front of a buffer, are with FF bytes after them the region to
+-- store. Of a put they are the values without the changed one's name and then its entry; of a start-up all values.
 -- Assumes nothing.
-use Prim.Native.Nat.{ℕ, _+_, _^_, _≤_, _<_}
+use Prim.Native.Nat.{ℕ, _+_, _-_, _^_, _≤_, _<_}
 use native.Mathlib.Omega.{arith}
-use mathlib.Core.Path.{_≡_, ap, _∙_}
+use mathlib.Core.Path.{_≡_, ap, _∙_, subst}
 use mathlib.Core.Bool.{true}
 use mathlib.Core.List.{List, [], _∷_, _++_, append-assoc}
-use lib.ListN.{length, length-append}
+use lib.ListN.{length, replicate, length-append, length-replicate}
+use Rattle.model.specs.Layout.{authenticated}
+use Rattle.model.specs.Lists.{part}
 use Rattle.model.specs.Name.{Key}
 use Rattle.model.specs.Image.{regionHeader}
 use Rattle.model.specs.Entry.{Value, keyOf, entrySize, entryBytes}
 use Rattle.model.specs.Region.{entries, standing, sound, values}
 use Rattle.model.specs.Change.{without, put, step, entrySizes, spaceOf, entrySizesIn, spaceIn}
-use Rattle.model.specs.Compact.{joined}
+use Rattle.model.specs.Compact.{joined, encode}
+use Rattle.model.proofs.Encode.{AllValid}
 use Rattle.values.specs.declared.Found.{Found}
 use Rattle.values.specs.Found.{foundOf}
 use Rattle.output.specs.Text.{Wrote}
-use Rattle.output.proofs.Writing.{wrote-append, wrote-as}
+use Rattle.output.proofs.Writing.{wrote-append, wrote-as, wrote-front}
 use Rattle.compose.specs.Compose.{valuesBut, leaveOf}
 use Rattle.compose.proofs.Leaving.{leaving-standing}
-use Rattle.compose.proofs.Encoded.{joined-put}
+use Rattle.compose.proofs.Encoded.{content-length, encode-content, joined-put}
+
+-- FF bytes after n others, up to `size`
+pub blank-to : {size n m : ℕ} {l c : List ℕ} → n ≤ size → Wrote (replicate (size - n) 0xFF) n l c m → Wrote (replicate (size - n) 0xFF) n l c size
+blank-to {size} {n} {m} {l} {c} h w =
+    let to : m ≡ size = omega (arith, w .place, length-replicate {A = ℕ} (size - n) 0xFF) in
+    subst (λ (k : ℕ). Wrote (replicate (size - n) 0xFF) n l c k) to w
+
+-- the front of a region of `size` bytes, with FF bytes after it
+module _ {size : ℕ} (vs : List Value) (valid : AllValid authenticated vs) (room : spaceOf vs ≤ size) where
+  pub front-short : length (regionHeader size ++ joined vs) ≤ size
+  front-short = omega (arith, content-length size vs valid)
+
+  module _ {l l₁ : List ℕ} {n : ℕ} (w : Wrote (regionHeader size ++ joined vs) 0 l l₁ n) where
+    pub front-fits : n ≤ size
+    front-fits = omega (arith, w .place, front-short)
+
+    pub composed : {c : List ℕ} → Wrote (replicate (size - n) 0xFF) n l₁ c size → size ≤ length l → part 0 size c ≡ encode size vs
+    composed {c} x long =
+        let at : n ≡ length (regionHeader size ++ joined vs) = omega (arith, w .place) in
+        let y = wrote-append w x in
+        wrote-front y (omega (arith, y .place))
+        ∙ ap (λ (k : ℕ). (regionHeader size ++ joined vs) ++ replicate (size - k) 0xFF) at
+        ∙ encode-content size vs valid
 
 module _ (n : ℕ) (v : Value) (vs : List Value) where
   others : List ℕ

@@ -1,12 +1,11 @@
--- A put with a compaction. The values after the change take the space that was found for them, so what is composed of them fits the buffer and the region;
--- with FF bytes behind it, it is the region that the compaction is to leave.
+-- A put with a compaction. The values after the change take the space that was found for them, so what is composed of them fits the buffer and the region.
 -- Assumes nothing.
 use Prim.Native.Nat.{ℕ, _+_, _*_, _-_, _^_, _≤_, _<_}
 use native.Mathlib.Omega.{arith}
 use mathlib.Core.Path.{_≡_, refl, sym, ap, _∙_, subst}
 use mathlib.Core.Bool.{true, false}
 use mathlib.Core.List.{List, [], _++_}
-use lib.ListN.{length, take, replicate, length-append, length-replicate}
+use lib.ListN.{length, replicate}
 use Rattle.model.specs.Layout.{authenticated}
 use Rattle.model.specs.Lists.{part}
 use Rattle.model.specs.Image.{block, regionSize, region, work, regionHeader}
@@ -24,8 +23,7 @@ use Rattle.model.proofs.Encode.{AllValid, sound-valid, put-valid}
 use Rattle.values.specs.declared.Places.{Places}
 use Rattle.values.specs.Found.{foundOf, elseFound}
 use Rattle.output.specs.Text.{Wrote}
-use Rattle.output.proofs.Writing.{wrote-append, wrote-front, wrote-length}
-use Rattle.compose.proofs.Encoded.{content-length, encode-content}
+use Rattle.output.proofs.Writing.{wrote-as, wrote-length}
 use Rattle.plan.specs.declared.Op.{Op}
 use Rattle.plan.specs.declared.Step.the-variants.{Nothing}
 use Rattle.plan.specs.declared.Planned.{Planned}
@@ -37,6 +35,7 @@ use Rattle.planner.proofs.EntryPlans.{standing-is}
 use Rattle.planner.proofs.CompactionPlans.{compact-to, compact-on}
 use Rattle.planner.proofs.CompactionReady.{compact-ready}
 use Rattle.planner.specs.Asked.{Asked, PutPlanned}
+use Rattle.planner.proofs.Composed.{front-short, front-fits, composed}
 use Rattle.planner.proofs.Ready.{image-long, region-size, value-short}
 
 -- what is composed, of a region's bytes and a value
@@ -50,12 +49,8 @@ module _ {img : List ℕ} {b at used : ℕ} {places : Places} {v : Value} (a : A
       let c = sound-chunked authenticated (region img) (omega (arith, a .ready .long)) (a .ready .sounds) in
       (put-valid authenticated) v (values (entries (region img))) (a .valid vendor) (sound-valid authenticated (region img) c)
 
-  after-length : length (after (region img) v) ≡ spaceOf (step (put v) (valuesOf img))
-  unfolding valuesIn
-  after-length = content-length (length (region img)) (step (put v) (values (entries (region img)))) all-valid
-
-  after-short : length (after (region img) v) ≤ 4096 * b
-  after-short = omega (arith, after-length, a .room, region-size img b (a .ready .number))
+  has-room : spaceOf (step (put v) (valuesOf img)) ≤ 4096 * b
+  has-room = omega (arith, a .room, region-size img b (a .ready .number))
 
   -- what the composing asks
   pub fold-room : {r : List ℕ} → r ≡ part 0 (4096 * b) img
@@ -64,52 +59,31 @@ module _ {img : List ℕ} {b at used : ℕ} {places : Places} {v : Value} (a : A
   fold-room {r} e =
       let few = a .ready .few in
       let h = value-short v (a .ready) (a .room) in
-      let n = after-short in
+      let n : length (after (region img) v) ≤ 4096 * b = unfold valuesIn in rw (a .ready .long) (front-short (step (put v) (valuesOf img)) all-valid has-room) in
       let is = standing-is [] places (keyOf v) (entries (region img)) (a .added) (a .replacing) in
       rw (e ∙ a .ready .cut) (a .ready .sounds, is, omega (arith, a .ready .long), omega arith, omega arith, vendor, omega arith)
 
-  whole-content : after (region img) v ++ replicate (block * b - length (after (region img) v)) 0xFF ≡ encode (regionSize img) (step (put v) (valuesOf img))
-  unfolding valuesIn block
-  whole-content =
-      let long : length (region img) ≡ 4096 * b = a .ready .long in
-      let e : length (region img) ≡ regionSize img = long ∙ sym (region-size img b (a .ready .number)) in
-      ap (λ (n : ℕ). after (region img) v ++ replicate (n - length (after (region img) v)) 0xFF) (sym long)
-      ∙ encode-content (length (region img)) (step (put v) (values (entries (region img)))) all-valid
-      ∙ ap (λ (n : ℕ). encode n (step (put v) (values (entries (region img))))) e
-
+  -- the region that the compaction is to leave
   abbrev wanted : List ℕ
   wanted = encode (regionSize img) (step (put v) (valuesOf img))
 
   module _ {r l l₁ : List ℕ} {n : ℕ} (e : r ≡ part 0 (4096 * b) img) (w : Wrote (after r v) 0 l l₁ n) (room : length l ≡ 28672) where
-    same : after r v ≡ after (region img) v
-    same = ap (λ (y : List ℕ). after y v) (e ∙ a .ready .cut)
+    front : Wrote (regionHeader (4096 * b) ++ joined (step (put v) (valuesOf img))) 0 l l₁ n
+    unfolding valuesIn
+    front =
+        wrote-as (ap (λ (x : List ℕ). after x v) (e ∙ a .ready .cut) ∙ ap (λ (k : ℕ). regionHeader k ++ joined (step (put v) (values (entries (region img))))) (a .ready .long)) w
 
-    -- what the padding asks
-    pub pad-asked : (n ≤ 4096 * b) × (n + (4096 * b - n) ≤ length l₁)
-    pad-asked =
-        let k = ap length same in
-        let t = after-short in
-        let few = a .ready .few in
-        let h : n ≤ 4096 * b = omega (arith, w .place) in
-        (h, omega (arith, wrote-length w))
+    -- what the compaction asks
+    pub fold-asked : (n ≤ 4096 * b) × (b ≤ 7) × (length l₁ ≡ 28672)
+    fold-asked = (front-fits (step (put v) (valuesOf img)) all-valid has-room front, a .ready .few, wrote-length w ∙ room)
 
-    module _ {c : List ℕ} {m : ℕ} (x : Wrote (replicate (4096 * b - n) 0xFF) n l₁ c m) where
+    module _ {c : List ℕ} (x : Wrote (replicate (4096 * b - n) 0xFF) n l₁ c (4096 * b)) where
       -- what was composed
-      pub composed : part 0 (block * b) c ≡ wanted
+      pub fold-composed : part 0 (block * b) c ≡ wanted
       unfolding block
-      composed =
-          let k = ap length same in
-          let h = pad-asked in
-          let few = a .ready .few in
-          let at : n ≡ length (after (region img) v) = omega (arith, w .place) in
-          let long : length (after r v ++ replicate (4096 * b - n) 0xFF) ≡ 4096 * b = length-append (after r v) (replicate (4096 * b - n) 0xFF) ∙ (let z = length-replicate {A = ℕ} (4096 * b - n) 0xFF in omega (arith, w .place, h .0)) in
-          let y = wrote-append w x in
-          let p : m ≡ 4096 * b = omega (arith, y .place) in
-          let f = wrote-front y (omega (arith, room)) in
-          ap (λ (k : ℕ). take k c) (sym p) ∙ f
-          ∙ ap (λ (z : List ℕ). z ++ replicate (4096 * b - n) 0xFF) same
-          ∙ ap (λ (k : ℕ). after (region img) v ++ replicate (4096 * b - k) 0xFF) at
-          ∙ whole-content
+      fold-composed =
+          composed (step (put v) (valuesOf img)) all-valid has-room front x (omega (arith, a .ready .few, room))
+          ∙ ap (λ (k : ℕ). encode k (step (put v) (valuesOf img))) (sym (region-size img b (a .ready .number)))
 
       module _ (fit : fitsTail (region img) v ≡ false) where
         is-plan : putPlan img v ≡ make (fillSpare b (work img) wanted) (finish b (nextRecord (work img)) wanted)
@@ -123,7 +97,7 @@ module _ {img : List ℕ} {b at used : ℕ} {places : Places} {v : Value} (a : A
         decides {ops} {p} o f =
             ap (λ (q : Plan). decidesRight q p) is-plan
             ∙ mark-decides c (compactPlan Nothing Nothing b (usedRecords (work img))) 5 (fillSpare b (work img) wanted) (finish b (nextRecord (work img)) wanted) f o refl
-            (compact-to c b (work img) wanted composed)
+            (compact-to c b (work img) wanted fold-composed)
 
         -- *what was planned*
         pub fold-planned : {ops : List Op} {p : Planned} → ops ≡ compactPlan Nothing Nothing b used → p ≡ accepted ops 5 → PutPlanned img v c p
@@ -137,11 +111,11 @@ module _ {img : List ℕ} {b at used : ℕ} {places : Places} {v : Value} (a : A
             let held : 4096 * b ≤ length c = omega (arith, wrote-length x, wrote-length w) in
             record {
               same =
-                  accepted-as c ops′ 5 (fillSpare b (work img) wanted) (finish b (nextRecord (work img)) wanted) f is (compact-to c b (work img) wanted composed) (compact-on c b (work img) wanted composed)
+                  accepted-as c ops′ 5 (fillSpare b (work img) wanted) (finish b (nextRecord (work img)) wanted) f is (compact-to c b (work img) wanted fold-composed) (compact-on c b (work img) wanted fold-composed)
                   ∙ sym is-plan;
               decides = decides is f;
               ready = λ states records.
                   accepted-ready c img ops′ 5 f is
-                  (compact-ready c img Nothing Nothing b (work img) wanted composed size (omega arith) held (tt, tt, tt) (tt, tt, tt)
+                  (compact-ready c img Nothing Nothing b (work img) wanted fold-composed size (omega arith) held (tt, tt, tt) (tt, tt, tt)
                   (λ n. subst (λ (ss : List Store). ClearsOne (isRecord img) ss img) (ap (storesOf n) is-plan) (records n)));
             }

@@ -1,8 +1,10 @@
 // The plans of a compaction and of its second half. What the spare is to hold, or holds, stands at the front of the content.
 ghost use mathlib.Core.Path.{_≡_};
 ghost use mathlib.Core.Bool.{cond};
-ghost use Prim.Native.Nat.{_≤_, _<_};
+ghost use Prim.Native.Nat.{_*_, _-_, _≤_, _<_};
 ghost use lib.Dec.{leb};
+ghost use lib.ListN.{length, replicate};
+ghost use Rattle.output.specs.Text.{Wrote};
 ghost use Rattle.planner.specs.Compactions.{clearStep, compactPlan, resumePlan, restPlan};
 use plan::Op;
 use plan::Plan;
@@ -27,7 +29,7 @@ fn clear_full(b: usize, used: usize) -> Step
 
 // A compaction, after what a start-up erases first: ".. next record FE; header and values .. stored into the spare; record FC (deciding); erase the region's
 // blocks; copy the spare; record F8; erase the spare's blocks".
-pub fn compact(spare: Step, work: Step, b: usize, used: usize) -> Plan
+fn compact(spare: Step, work: Step, b: usize, used: usize) -> Plan
     requires { ⌜ b ≤ 7 ⌝ }
     ensures { λ r. ⌜ r ≡ compactPlan spare work b used ⌝ }
 {
@@ -66,6 +68,23 @@ pub fn compact(spare: Step, work: Step, b: usize, used: usize) -> Plan
         none,
         none,
     ]
+}
+
+// The same of a region whose front, n bytes, is composed in the content: "rest FF".
+pub(crate) fn compact_front(
+    content: &mut [u8],
+    n: usize,
+    spare: Step,
+    work: Step,
+    b: usize,
+    used: usize,
+) -> Plan
+    requires { ⌜ (n ≤ 4096 * b) × (b ≤ 7) × (length (now content) ≡ 28672) ⌝ }
+    ensures { λ r. ⌜ (r ≡ compactPlan spare work b used)
+        × Wrote (replicate (4096 * b - n) 0xFF) n (now (content .entry)) (now (content .exit)) (4096 * b) ⌝ }
+{
+    compose::put_blank(content, n, layout::BLOCK * b - n);
+    compact(spare, work, b, used)
 }
 
 // "if pending, resume at the erase of the region": the record is the last used one.

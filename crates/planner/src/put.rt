@@ -86,9 +86,8 @@ fn fold(
         old,
         own,
     );
-    compose::put_blank(content, n, layout::BLOCK * b - n);
     plan::accept(
-        compaction::compact(Step::Nothing, Step::Nothing, b, standing.used),
+        compaction::compact_front(content, n, Step::Nothing, Step::Nothing, b, standing.used),
         5,
     )
 }

@@ -2,13 +2,11 @@
 // formed or ends in FC, and compact with no change if the tail is not all FF." The erases leave alone what is looked at later, so all of it is planned from
 // the image found.
 ghost use mathlib.Core.Path.{_≡_};
-ghost use mathlib.Core.Bool.{true, cond};
+ghost use mathlib.Core.Bool.{cond};
 ghost use Prim.Native.Nat.{_+_, _*_, _≤_};
 ghost use lib.ListN.{length};
-ghost use Rattle.model.specs.Lists.{allFF, part};
-ghost use Rattle.model.specs.Image.{block, region, spare};
-ghost use Rattle.model.specs.Region.{sound, entries, values};
-ghost use Rattle.model.specs.Compact.{encode};
+ghost use Rattle.model.specs.Lists.{allFF};
+ghost use Rattle.model.specs.Image.{block, spare};
 ghost use Rattle.model.specs.StartUp.{startUpPlan};
 ghost use Rattle.records.specs.Look.{idleAt};
 ghost use Rattle.image.specs.Check.{startUpOf};
@@ -66,20 +64,8 @@ fn work_left(b: usize, looked: Look) -> WorkLeft
     }
 }
 
-// The region after a compaction with no change: all values are carried over, "rest FF".
-fn compose_all(image: &[u8], b: usize, content: &mut [u8])
-    requires { ⌜ ((1 ≤ b) × (b ≤ 7) × (length (now image) ≡ block * (2 * b + 1)))
-        × (sound (region (now image)) ≡ true)
-        × (length (now content) ≡ 28672) ⌝ }
-    ensures { λ _. ⌜ part 0 (block * b) (now (content .exit)) ≡ encode (block * b) (values (entries (region (now (image .entry))))) ⌝ }
-{
-    let region = slices::cut(image, 0, layout::BLOCK * b);
-    let n = compose::put_values(content, region, [0; 8]);
-    compose::put_blank(content, n, layout::BLOCK * b - n);
-}
-
 // "Then erase the spare's blocks .., the work block .., and compact with no change if the tail is not all FF": if the sound
-// region is not clean.
+// region is not clean. All values are carried over.
 pub fn tidy(image: &[u8], b: usize, looked: Look, clean: bool, content: &mut [u8]) -> Planned
     requires { ⌜ (startUpOf (now image) ≡ Sound b looked clean) × (length (now content) ≡ 28672) ⌝ }
     ensures { λ r. ⌜ Plans (startUpPlan (now (image .entry))) (now (image .entry)) (now (content .entry)) (now (content .exit)) r ⌝ }
@@ -90,6 +76,9 @@ pub fn tidy(image: &[u8], b: usize, looked: Look, clean: bool, content: &mut [u8
     if clean {
         return plan::accept(compaction::rest(spare, work), 12);
     }
-    compose_all(image, b, content);
-    plan::accept(compaction::compact(spare, work, b, left.used), 12)
+    let n = compose::put_values(content, slices::cut(image, 0, layout::BLOCK * b), [0; 8]);
+    plan::accept(
+        compaction::compact_front(content, n, spare, work, b, left.used),
+        12,
+    )
 }

@@ -2,7 +2,7 @@
 use mathlib.Core.Path.{_≡_}
 use lib.ListN.{length}
 use denote.Ref.{now}
-use Rattle.planner.proofs.Folded.{fold-room, pad-asked, fold-planned}
+use Rattle.planner.proofs.Folded.{fold-room, fold-asked, fold-planned}
 use borrow.Author.Needs.{needs}
 use Rattle.planner.proofs.put.fold.Statement.{statement}
 use Rattle.planner.proofs.put.fold.Tie as tie
@@ -13,23 +13,19 @@ put-after-requires c κs =
     let ve : length (now (s .args .vendor)) ≡ 16 = search needs in
     fold-room (s .pre .0) ve (c .before .cut .ensures)
 
-sub-put-blank : tie.Need-sub-put-blank
-sub-put-blank c =
-    let s = c .before .before .before .before .before .before .before .before .before .before .before .before .before in
+compact-front-requires : tie.Need-compact-front-requires
+compact-front-requires c κs =
+    let p = c .before .before .before in
+    let s = p .before .before .before .before .before .before .before .before .before .before in
     let ve : length (now (s .args .vendor)) ≡ 16 = search needs in
-    pad-asked (s .pre .0) ve (c .before .before .before .before .before .cut .ensures) (c .before .before .before .put-after .ensures .0) (s .pre .2) .0
-
-put-blank-requires : tie.Need-put-blank-requires
-put-blank-requires c κs =
-    let s = c .before .before .before .before .before .before .before .before .before .before .before .before .before in
-    let ve : length (now (s .args .vendor)) ≡ 16 = search needs in
-    pad-asked (s .pre .0) ve (c .before .before .before .before .before .cut .ensures) (c .before .before .before .put-after .ensures .0) (s .pre .2) .1
+    fold-asked (s .pre .0) ve (p .before .before .cut .ensures) (p .put-after .ensures .0) (s .pre .2)
 
 returns : tie.Need-returns
 returns c =
-    let s = c .before .before .before .before .before .before .before .before .before .before .before .before .before .before .before .before .before .before in
-    let ve : length (now (s .args .vendor)) ≡ 16 = c .before .before .before .before .before .before .before .before .put-after .ensures .1 in
-    fold-planned (s .pre .0) ve (c .before .before .before .before .before .before .before .before .before .before .cut .ensures) (c .before .before .before .before .before .before .before .before .put-after .ensures .0) (s .pre .2) (c .before .before .before .before .put-blank .ensures) (s .pre .1) (c .before .compact .ensures) (c .accept .ensures)
+    let f = c .before .before .before in
+    let p = f .before .before .before .before in
+    let s = p .before .before .before .before .before .before .before .before .before .before in
+    fold-planned (s .pre .0) (p .put-after .ensures .1) (p .before .before .cut .ensures) (p .put-after .ensures .0) (s .pre .2) (f .compact-front .ensures .1) (s .pre .1) (f .compact-front .ensures .0) (c .accept .ensures)
 
 pub fold-spec : {M : Type 1} → statement M
 fold-spec =
@@ -38,10 +34,7 @@ fold-spec =
     (λ c. search needs)
     (λ c κs. search needs)
     put-after-requires
-    (λ c. search needs)
-    sub-put-blank
-    put-blank-requires
-    (λ c κs. search needs)
+    compact-front-requires
     (λ c κs. search needs)
     (λ c. search needs)
     returns)
