@@ -17,12 +17,13 @@ use Rattle.model.specs.Region.{entries, isEntry, isValue}
 use Rattle.model.specs.Beside.{from}
 use Rattle.model.proofs.Tests.{and-split, or-split}
 use Rattle.model.proofs.Walking.{entries-from}
-use Rattle.layout.specs.Head.{nameIn, Unlike}
+use Rattle.layout.specs.Head.{Unlike}
 use Rattle.layout.specs.declared.Entry as numbers
 use Rattle.region.specs.Walk.{entryAt, entryAs}
 use Rattle.region.specs.Judge.{liveState}
-use Rattle.region.proofs.Turns.{rest, Turned, Ended}
+use Rattle.region.proofs.Turns.{Turned, Ended}
 use Rattle.values.proofs.Listed.{value-other}
+use Rattle.values.proofs.Finds.{other-name}
 use Rattle.query.specs.Query.{visible, isSeen, isSought, entryToGet, entryFollowing, goingOn, entryToName}
 
 -- the entries that are seen from an offset on
@@ -85,14 +86,10 @@ going-none true k p = rw p
 going-none false k p = rw p
 
 module _ {r : List ℕ} {at : ℕ} {e : numbers.Entry} {n : ℕ} (w : Turned authenticated r at e n) (runtime : Bool) where
-  other-name : (name : List ℕ) → Unlike (take (length r - at) (drop at r)) name → same (entryAt r at e .name) name ≡ false
-  unfolding entryAs nameIn walk.placed
-  other-name name u = ap (λ s. same (nameIn authenticated s e) name) (sym (rest r at)) ∙ u e
-
   pub sought-unlike : (name vendor : List ℕ) → Unlike (take (length r - at) (drop at r)) name
       → isSought runtime (keyed name vendor) (entries r) (entryAt r at e) ≡ false
   unfolding isSought
-  sought-unlike name vendor u = rw (other-name name u)
+  sought-unlike name vendor u = rw (other-name w name u)
 
   seen-here : isSeen runtime (entries r) (entryAt r at e) ≡ true → seenFrom runtime r at ≡ entryAt r at e ∷ seenFrom runtime r n
   unfolding seenFrom

@@ -1,24 +1,26 @@
 -- The first entry that passes a test, from an offset on: it is the entry there, if that passes, and else the first from the next offset on.
 -- Assumes nothing.
-use Prim.Native.Nat.{ℕ}
+use Prim.Native.Nat.{ℕ, _-_}
 use mathlib.Core.Path.{_≡_, refl, sym, ap, _∙_}
 use mathlib.Core.Logic.{_≢_}
-use mathlib.Core.Bool.{Bool, true, false}
+use mathlib.Core.Bool.{Bool, true, false, and-false}
 use mathlib.Core.List.{List}
 use mathlib.Core.Option.{Option, none, some}
+use lib.ListN.{length, take, drop}
 use lib.Dec.{eqb}
 use borrow.Author.Tests.{ne-eqb, eqb-true}
 use Rattle.model.specs.declared.Layout.{Layout}
-use Rattle.model.specs.Lists.{first, orElse}
-use Rattle.model.specs.Name.{Key, sameKey}
+use Rattle.model.specs.Layout.{authenticated}
+use Rattle.model.specs.Lists.{same, first, orElse}
+use Rattle.model.specs.Name.{Key, keyed, sameKey}
 use Rattle.model.specs.Walk as walk
 use Rattle.model.specs.Region.{isEntry}
 use Rattle.model.proofs.Tests.{and-split}
 use Rattle.model.specs.Beside.{fromIn}
-use Rattle.layout.specs.Head.{numbersOf}
+use Rattle.layout.specs.Head.{numbersOf, nameIn, Unlike}
 use Rattle.layout.specs.declared.Entry as numbers
-use Rattle.region.specs.Walk.{entryAs}
-use Rattle.region.proofs.Turns.{Turned, Ended}
+use Rattle.region.specs.Walk.{entryAs, entryAt}
+use Rattle.region.proofs.Turns.{rest, Turned, Ended}
 use Rattle.values.specs.Found.{foundOf, nextOf, elseFound}
 use Rattle.values.specs.declared.Found.{Found}
 use Rattle.values.specs.declared.Found.the-variants.{At, Nothing}
@@ -42,6 +44,10 @@ next-at {at = at} {e} w = ap (next.At at e) (w .next)
 pub else-found : {g : Found} {at : ℕ} {e : numbers.Entry} → g ≡ At at e → (h : Found) → elseFound g h ≡ At at e
 else-found p h = ap (λ (g : Found). elseFound g h) p
 
+-- the same from a later offset on
+pub found-later : {x : Found} {o o′ : Option walk.Entry} (g : Found) → x ≡ elseFound g (foundOf o) → o ≡ o′ → x ≡ elseFound g (foundOf o′)
+found-later g p q = p ∙ ap (λ (o : Option walk.Entry). elseFound g (foundOf o)) q
+
 module _ {y : Layout} {r : List ℕ} {at : ℕ} (z : Ended y r at) (f : walk.Entry → Bool) where
   pub first-none : first f (fromIn y r at) ≡ none
   first-none = ap (first f) (z .walk)
@@ -62,6 +68,16 @@ module _ {y : Layout} {r : List ℕ} {at : ℕ} {e : numbers.Entry} {k : ℕ} (w
       let p = and-split (eqb (walk.stateOf x) s) (sameKey (walk.entryKey x) key) h in
       rw (ne-eqb (walk.stateOf x) t (λ q. n (sym (eqb-true (walk.stateOf x) s (p .0)) ∙ q)))
 
+-- an entry of which two words of a name are not there has another name
+module _ {r : List ℕ} {at : ℕ} {e : numbers.Entry} {k : ℕ} (w : Turned authenticated r at e k) (name : List ℕ) (u : Unlike (take (length r - at) (drop at r)) name) where
+  pub other-name : same (entryAt r at e .name) name ≡ false
+  unfolding entryAs nameIn walk.placed
+  other-name = ap (λ s. same (nameIn authenticated s e) name) (sym (rest r at)) ∙ u e
+
+  pub entry-unlike : (state : ℕ) (vendor : List ℕ) → isEntry state (keyed name vendor) (entryAt r at e) ≡ false
+  entry-unlike state vendor = rw other-name (and-false (eqb (entryAt r at e .header .state) state))
+
+module _ {y : Layout} {r : List ℕ} {at : ℕ} {e : numbers.Entry} {k : ℕ} (w : Turned y r at e k) where
   module _ (f : walk.Entry → Bool) where
     pub first-here : f (entryAs y r at e) ≡ true → first f (fromIn y r at) ≡ some (entryAs y r at e)
     first-here h = ap (first f) (w .walk) ∙ rw h

@@ -1,8 +1,13 @@
 -- What is found among the entries of a region, by offset and numbers.
 use Prim.Native.Nat.{ℕ}
+use mathlib.Core.Path.{_≡_}
 use mathlib.Core.List.{List, []}
 use mathlib.Core.Option.{Option, none, some}
+use Rattle.model.specs.Lists.{first}
+use Rattle.model.specs.Name.{keyed}
 use Rattle.model.specs.Walk.{Entry}
+use Rattle.model.specs.Region.{isEntry}
+use Rattle.model.specs.Beside.{from}
 use Rattle.layout.specs.Head.{numbersOf}
 use Rattle.region.specs.Walk.{entryAt}
 use Rattle.values.specs.declared.Found.{Found}
@@ -29,3 +34,8 @@ elseFound Nothing g = g
 abbrev pub oldData : List ℕ → Found → List ℕ
 oldData r (At at e) = entryAt r at e .bytes
 oldData r Nothing = []
+
+-- the first entry of a name, in each state and under each GUID, is the same from an offset on as from another on
+abbrev pub NoneBefore : List ℕ → List ℕ → ℕ → ℕ → Type 0
+NoneBefore r name at later =
+    (state : ℕ) (vendor : List ℕ) → first (isEntry state (keyed name vendor)) (from r at) ≡ first (isEntry state (keyed name vendor)) (from r later)

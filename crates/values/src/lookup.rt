@@ -1,10 +1,12 @@
 // Entries of a region, looked up by name and GUID.
 ghost use mathlib.Core.Path.{_≡_};
+ghost use Prim.Native.Nat.{_-_, _≤_};
+ghost use lib.ListN.{length};
 ghost use Rattle.model.specs.Lists.{first};
 ghost use Rattle.model.specs.Name.{keyed};
 ghost use Rattle.model.specs.Region.{entries, isEntry, added, replacing, standing};
 ghost use Rattle.model.specs.Beside.{fromIn};
-ghost use Rattle.values.specs.Found.{foundOf, elseFound, oldData};
+ghost use Rattle.values.specs.Found.{foundOf, elseFound, oldData, NoneBefore};
 use crate::Found;
 use crate::Places;
 use layout::Entry;
@@ -46,6 +48,23 @@ fn or_entry(found: Found, at: usize, e: Entry) -> Found
     }
 }
 
+// The offset, from one on, of the first entry that may have this name, else of the walk's end. Nearly every other name is told by two words of it.
+fn like_from(region: &[u8], at: usize, name: &[u8]) -> usize
+    ensures { λ r. ⌜ NoneBefore (now (region .entry)) (now (name .entry)) at r × (length (now (region .entry)) - r ≤ length (now (region .entry)) - at) ⌝ }
+{
+    let mut here = at;
+    loop {
+        let t = walk::turn(region, here);
+        let Turn::Entry(_, next) = t else {
+            return here;
+        };
+        if layout::may_be(&region[here..], name) {
+            return here;
+        }
+        here = next;
+    }
+}
+
 // The first 3F and the first 3E entry of a name and GUID, in one pass.
 pub fn places(region: &[u8], name: &[u8], vendor: &[u8]) -> Places
     ensures { λ r. ⌜ (r .added ≡ foundOf (added (keyed (now (name .entry)) (now (vendor .entry))) (entries (now (region .entry)))))
@@ -55,15 +74,16 @@ pub fn places(region: &[u8], name: &[u8], vendor: &[u8]) -> Places
     let mut replacing = Found::Nothing;
     let mut at: usize = layout::REGION_HEADER;
     loop {
-        let t = walk::turn(region, at);
+        let here = like_from(region, at, name);
+        let t = walk::turn(region, here);
         let Turn::Entry(e, next) = t else {
             return Places { added, replacing };
         };
-        if walk::is_entry(region, at, e, 0x3F, name, vendor) {
-            added = or_entry(added, at, e);
+        if walk::is_entry(region, here, e, 0x3F, name, vendor) {
+            added = or_entry(added, here, e);
         } else {
-            if walk::is_entry(region, at, e, 0x3E, name, vendor) {
-                replacing = or_entry(replacing, at, e);
+            if walk::is_entry(region, here, e, 0x3E, name, vendor) {
+                replacing = or_entry(replacing, here, e);
             }
         }
         at = next;
