@@ -41,7 +41,7 @@ use Rattle.decision.specs.declared.NewValue.{NewValue}
 use Rattle.decision.specs.Parts.{onFound, valueAt, stands, standingBy, notLater, verdictBy, equalBy, kindBy, keptData, stampOver, stampKept, valueBy, leavesBy, newSize, oldRecords, oldOthers, recordsAfter, othersAfter, roomBy, roomAfter, resultBy, outcomeBy, limitedBy, roomedBy}
 use Rattle.decision.proofs.Broken.{later-broken}
 use Rattle.decision.proofs.Old.{stands-some, old-value, mode-standing, stamp-read}
-use Rattle.decision.proofs.Space.{sizeIf, sizeOf, old-counts, put-sizes, all-sizes}
+use Rattle.model.proofs.Space.{sizeIf, sizeOf, old-counts, put-sizes, all-sizes}
 
 -- rules 3 to 5, 17 and 6
 pub request-fields : (t : Terms) (q : Request) → requestRules t q ≡ requestRules t (requestOf (q .name) (q .vendor) (q .attributes) [] 0 0)

@@ -3,8 +3,6 @@
 pub mod Broken
 -- The value that stands, by what was found
 pub mod Old
--- The space of the values after a change
-pub mod Space
 -- Room after the tail
 pub mod AfterTail
 -- The decision by the parts in which it is judged

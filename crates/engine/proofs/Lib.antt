@@ -11,3 +11,5 @@ pub mod Bits
 pub mod Setting
 -- How a call ends that was planned and carried out
 pub mod Carrying
+-- What a query answers
+pub mod Rooms

@@ -33,3 +33,5 @@ pub mod Locks
 pub mod Moving
 -- Which values the rules of a set look at
 pub mod Looking
+-- The space of the values of a class after a change
+pub mod Space

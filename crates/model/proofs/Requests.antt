@@ -95,6 +95,11 @@ puts r old v h =
     go false d false e true h = let z : _≡_ {A = ℕ} 0 1 = cc in absurd (omega arith)
     go false d false e false h = record { kept = d; adds = e; made = cc }
 
+-- a change that puts is of the set's own name
+pub put-named : (r : Request) (old : Option Value) (v : Value) → changeOf r old ≡ put v → keyOf v ≡ requestKey r
+unfolding newValue
+put-named r old v h = ap keyOf (puts r old v h .made)
+
 -- a change that removes is of the set's own name
 removes : (r : Request) (old : Option Value) (k : Key) → changeOf r old ≡ remove k → k ≡ requestKey r
 unfolding changeOf
@@ -233,8 +238,8 @@ module _ (s : Session) (r : Request) (img : List ℕ) (accepted : setBroken s r 
   set-ready = not-false (readyForCall img) (unbroken _ 2 accepted)
 
   pub put-key : (v : Value) → changeIn r (valuesOf img) ≡ put v → keyOf v ≡ requestKey r
-  unfolding changeIn newValue
-  put-key v c = ap keyOf (puts r (find (requestKey r) (valuesOf img)) v c .made)
+  unfolding changeIn
+  put-key v c = put-named r (find (requestKey r) (valuesOf img)) v c
 
   -- the old stamp is 16 bytes, since the region is sound
   old-stamp : (v : Value) → find (requestKey r) (valuesOf img) ≡ some v → length (v .stamp) ≡ 16

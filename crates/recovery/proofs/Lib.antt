@@ -43,3 +43,5 @@ pub mod Counts
 pub mod Interface
 -- A host that carries out plans by itself: what it was told is what the definitions plan
 pub mod Host
+-- What a query tells
+pub mod Query

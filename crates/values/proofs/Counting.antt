@@ -18,7 +18,8 @@ use Rattle.region.specs.Walk.{entryAs}
 use Rattle.values.specs.declared.Tally.{Tally}
 use Rattle.values.specs.Sums.{sizesIn, isOther, isStamped, Tallied, counted}
 use Rattle.values.proofs.Listed.{listedIn}
-use Rattle.values.proofs.Sizes.{sizes-cons, sizes-split, sizes-within}
+use Rattle.model.proofs.Space.{sizes-cons, sizes-split}
+use Rattle.values.proofs.Sizes.{sizes-within}
 use Rattle.values.proofs.Next.{Next, few-values}
 
 pub record Counted (y : Layout) (t : Tally) (all rest : List Value) : Type 0 where

@@ -1,6 +1,6 @@
 -- The data of an entry is a part of the region, since dropping twice is dropping once. Name and data follow
 -- each other, so together they hold no more than the rest of the region, and each no more than its size says. Hence the sizes of the values add up to no
--- more than the way to the tail, and to no more than the region has. A sum over the values of a class grows by each value of the class.
+-- more than the way to the tail, and to no more than the region has.
 -- Assumes nothing.
 use Prim.Native.Nat.{ℕ, zero, suc, _+_, _-_, _≤_, _<_}
 use native.Mathlib.Nat.{min-le-left, min-le-right}
@@ -22,13 +22,13 @@ use Rattle.model.specs.Walk as walk
 use Rattle.model.specs.Region.{entriesIn, entries, tailAtIn, tailAt, isValue, values}
 use Rattle.model.specs.Beside.{fromIn}
 use Rattle.model.proofs.Walking.{entries-from}
+use Rattle.model.proofs.Space.{sizes-split}
 use Rattle.layout.specs.declared.Entry as numbers
 use Rattle.region.specs.Walk.{entryAs, strideIn, turnIn}
 use Rattle.region.specs.declared.Turn.{Turn}
 use Rattle.region.specs.declared.Turn.the-variants.{Entry, Stop}
 use Rattle.region.proofs.Turns.{Turned, Ended, at-entry, at-end}
 use Rattle.region.proofs.Entries.{unnamed, named}
-use Rattle.values.specs.Sums.{sizesIn}
 use Rattle.values.proofs.Listed.{listedIn, listed-all, listed-none, listed-value, listed-next}
 
 part-fits : (r : List ℕ) (i n : ℕ) → (length (part i n r) ≤ n) × (length (part i n r) ≤ length r - i)
@@ -84,28 +84,6 @@ module _ {y : Layout} {r : List ℕ} {at : ℕ} {e : numbers.Entry} {k : ℕ} (w
       → entrySizesIn y (listedIn y r at) ≡ entrySizeIn y (walk.entryValue (entryAs y r at e)) + entrySizesIn y (listedIn y r k)
   unfolding entrySizesIn
   sizes-value h = ap (entrySizesIn y) (listed-value w h)
-
--- ---- sums by class
-
-module _ (y : Layout) (p : Value → Bool) where
-  pub sizes-cons : (v : Value) (vs : List Value) → sizesIn y p (v ∷ vs) ≡ cond (p v) (entrySizeIn y v) 0 + sizesIn y p vs
-  unfolding entrySizesIn
-  sizes-cons v vs = go (p v)
-    where
-      go : (t : Bool) → entrySizesIn y (cond t (v ∷ keep p vs) (keep p vs)) ≡ cond t (entrySizeIn y v) 0 + entrySizesIn y (keep p vs)
-      go true = refl
-      go false = omega arith
-
--- all values are those of a class and the others
-pub sizes-split : (y : Layout) (p : Value → Bool) (vs : List Value) → entrySizesIn y vs ≡ sizesIn y p vs + sizesIn y (λ v. not (p v)) vs
-unfolding entrySizesIn
-sizes-split y p [] = refl
-sizes-split y p (v ∷ vs) =
-    omega (arith, sizes-split y p vs, one (p v) (entrySizeIn y v), sizes-cons y p v vs, sizes-cons y (λ w. not (p w)) v vs)
-  where
-    one : (t : Bool) (n : ℕ) → n ≡ cond t n 0 + cond (not t) n 0
-    one true n = omega arith
-    one false n = omega arith
 
 -- ---- the way to the tail
 

@@ -4,19 +4,19 @@
 use Prim.Native.Nat.{ℕ, _+_, _-_, _≤_}
 use native.Mathlib.Omega.{arith}
 use mathlib.Core.Path.{_≡_, refl, sym, ap, _∙_}
-use mathlib.Core.Bool.{Bool, true, false, not, cond}
+use mathlib.Core.Bool.{Bool, true, false, not, cond, _||_}
 use mathlib.Core.List.{List, [], _∷_, _++_}
-use mathlib.Core.Option.{Option, some}
+use mathlib.Core.Option.{Option, none, some}
+use Rattle.model.specs.declared.Layout.{Layout}
 use Rattle.model.specs.Layout.{authenticated}
 use Rattle.model.specs.Lists.{any, keep, first, onSome}
 use Rattle.model.specs.Name.{Key, sameKey}
-use Rattle.model.specs.Entry.{Value, keyOf, entrySize}
+use Rattle.model.specs.Entry.{Value, keyOf, entrySize, entrySizeIn}
 use Rattle.model.specs.Region.{find}
 use Rattle.model.specs.Image.{regionHeaderSize}
 use Rattle.model.specs.Change.{put, without, step, entrySizes, spaceOf, entrySizesIn, spaceIn, isErrorRecord, recordSizes, otherSizes}
-use Rattle.values.proofs.Sizes.{sizes-cons, sizes-split}
 use Rattle.model.proofs.Tests.{or-split, key-eq}
 use Rattle.model.proofs.Encode.{Distinct}
 
 -- the size of a value of a class
 abbrev pub sizeIf : (Value → Bool) → Value → ℕ
@@ -29,6 +29,26 @@ sizeOf p o = onSome o (sizeIf p) 0
 -- the sizes of the values of a class
 abbrev pub sizes : (Value → Bool) → List Value → ℕ
 sizes p vs = entrySizes (keep p vs)
+
+module _ (y : Layout) (p : Value → Bool) where
+  pub sizes-cons : (v : Value) (vs : List Value) → entrySizesIn y (keep p (v ∷ vs)) ≡ cond (p v) (entrySizeIn y v) 0 + entrySizesIn y (keep p vs)
+  unfolding entrySizesIn
+  sizes-cons v vs = go (p v)
+    where
+      go : (t : Bool) → entrySizesIn y (cond t (v ∷ keep p vs) (keep p vs)) ≡ cond t (entrySizeIn y v) 0 + entrySizesIn y (keep p vs)
+      go true = refl
+      go false = omega arith
+
+-- all values are those of a class and the others
+pub sizes-split : (y : Layout) (p : Value → Bool) (vs : List Value) → entrySizesIn y vs ≡ entrySizesIn y (keep p vs) + entrySizesIn y (keep (λ v. not (p v)) vs)
+unfolding entrySizesIn
+sizes-split y p [] = refl
+sizes-split y p (v ∷ vs) =
+    omega (arith, sizes-split y p vs, one (p v) (entrySizeIn y v), sizes-cons y p v vs, sizes-cons y (λ w. not (p w)) v vs)
+  where
+    one : (t : Bool) (n : ℕ) → n ≡ cond t n 0 + cond (not t) n 0
+    one true n = omega arith
+    one false n = omega arith
 
 module _ (p : Value → Bool) where
   sizes-last : (ws : List Value) (v : Value) → sizes p (ws ++ (v ∷ [])) ≡ sizes p ws + sizeIf p v
@@ -55,6 +75,19 @@ module _ (p : Value → Bool) where
           let alone : any (λ w. sameKey (keyOf w) k) vs ≡ false = ap (λ (j : Key). any (λ w. sameKey (keyOf w) j) vs) (sym (key-eq (keyOf v) k h)) ∙ d .0 in
           rw (keep-whole (λ w. sameKey (keyOf w) k) vs alone) (omega (arith, sizes-cons authenticated p v vs))
       go false h i = omega (arith, sizes-cons authenticated p v vs, sizes-cons authenticated p v (keep (λ w. not (sameKey (keyOf w) k)) vs))
+
+  -- of a name that has no value nothing is dropped
+  pub new-sizes : (v : Value) (vs : List Value) → find (keyOf v) vs ≡ none → sizes p (step (put v) vs) ≡ sizes p vs + sizeIf p v
+  unfolding step without find
+  new-sizes v vs h = rw (keep-whole (λ w. sameKey (keyOf w) (keyOf v)) vs (absent (λ w. sameKey (keyOf w) (keyOf v)) vs h)) (sizes-last vs v)
+    where
+      absent : (f : Value → Bool) (vs : List Value) → first f vs ≡ none → any f vs ≡ false
+      absent f [] h = refl
+      absent f (w ∷ vs) h = go (f w) h (absent f vs)
+        where
+          go : (t : Bool) → cond t (some w) (first f vs) ≡ none → (first f vs ≡ none → any f vs ≡ false) → (t || any f vs) ≡ false
+          go true e i = absurd (let z : _≡_ {A = ℕ} 0 1 = cc in omega (arith, z))
+          go false e i = i e
 
   -- the old value counts
   pub old-counts : (k : Key) (vs : List Value) → Distinct vs → sizeOf p (find k vs) ≤ sizes p vs

@@ -1,0 +1,28 @@
+-- `engine::room::storage` meets its contract: by the class, the definition's difference.
+-- Assumes nothing.
+use native.Mathlib.Omega.{arith}
+use Rattle.model.specs.Query.{storageFor}
+use mathlib.Core.Path.{refl}
+use borrow.Author.Needs.{needs}
+use Rattle.engine.proofs.room.storage.Statement.{statement}
+use Rattle.engine.proofs.room.storage.Tie as tie
+
+returns : tie.Need-returns
+unfolding storageFor
+returns c = let e = c .least .ensures in let l = c .before .less .ensures in rw (c .before .before .if1 .taken) (rw (e, l) refl, omega (arith, e, l))
+
+returns-2 : tie.Need-returns-2
+unfolding storageFor
+returns-2 c = let e = c .less2 .ensures in rw (c .before .if1 .left) (e, omega (arith, e))
+
+pub storage-spec : {M : Type 1} → statement M
+storage-spec =
+    tie.close
+    (tie.spec
+    (λ c κs. search needs)
+    (λ c κs. search needs)
+    returns
+    (λ c. search needs)
+    (λ c. search needs)
+    (λ c κs. search needs)
+    returns-2)
