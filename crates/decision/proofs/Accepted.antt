@@ -5,7 +5,7 @@
 use Prim.Native.Nat.{ℕ, _≤_}
 use native.Mathlib.Omega.{arith}
 use mathlib.Core.Path.{_≡_, refl, sym, ap, _∙_}
-use mathlib.Core.Bool.{Bool, true, false, cond, _||_}
+use mathlib.Core.Bool.{Bool, false}
 use mathlib.Core.List.{List, [], _∷_, _++_, append-assoc}
 use mathlib.Core.Option.{Option, none, some}
 use lib.ListN.{length}
@@ -14,14 +14,15 @@ use Rattle.model.specs.declared.Limit.{Limit}
 use Rattle.model.specs.declared.Session.{Session}
 use Rattle.model.specs.declared.Terms.{Terms}
 use Rattle.model.specs.declared.Rule.{Rule}
-use Rattle.model.specs.Lists.{onSome, orElse}
+use Rattle.model.specs.Lists.{orElse}
 use Rattle.model.specs.Image.{regionSize}
 use Rattle.model.specs.Entry.{Value}
 use Rattle.model.specs.Region.{maxData, valuesOf, find}
-use Rattle.model.specs.Request.{Request, requestKey, dataProper}
+use Rattle.model.specs.Request.{Request, requestKey}
 use Rattle.model.specs.Limits.{limitsFor}
-use Rattle.model.specs.Change.{Change, nothing, remove, put, deletes, emptyAppend, equalTo, newValue, changeOf, changeIn}
+use Rattle.model.specs.Change.{Change, nothing, remove, put, newValue, changeOf, changeIn}
 use Rattle.model.specs.Rules.{firstBroken, rule8, rule12, termsOf, imageRules, requestRules, standingRules, resultRules, itemRules, settingRules, roomRules, setBroken}
+use Rattle.model.proofs.Looking.{change-cases}
 use Rattle.model.proofs.Requests.{broken-append, unbroken}
 use Rattle.decision.specs.declared.Decision.{Decision}
 use Rattle.decision.specs.declared.Decision.the-variants.{Nothing, Remove, Put}
@@ -61,32 +62,15 @@ decided-none (some rule) d k h b =
     absurd (omega arith)
 
 module _ (q : Request) (old : Option Value) where
-  by-tests : (c : Change) (k : Decision) → kindOf c ≡ k
-      → ((d n : Bool) → kindOf (cond d (remove (requestKey q)) (cond n nothing (put (newValue q old)))) ≡ k
-      → cond d (remove (requestKey q)) (cond n nothing (put (newValue q old))) ≡ c)
-      → kindOf (changeOf q old) ≡ k → changeOf q old ≡ c
-  unfolding changeOf
-  by-tests c k e f h =
-      f (deletes (q .attributes) (length (dataProper q)))
-      (emptyAppend (q .attributes) (length (dataProper q)) || onSome old (λ v. equalTo (q .attributes) (dataProper q) (v .attributes) (v .bytes)) false) h
-
   kind-put : kindOf (changeOf q old) ≡ Put → changeOf q old ≡ put (newValue q old)
-  kind-put h = by-tests (put (newValue q old)) Put refl go h
-    where
-      go : (d n : Bool) → kindOf (cond d (remove (requestKey q)) (cond n nothing (put (newValue q old)))) ≡ Put
-          → cond d (remove (requestKey q)) (cond n nothing (put (newValue q old))) ≡ put (newValue q old)
-      go true n h = let z : _≡_ {A = ℕ} 0 1 = cc in absurd (omega arith)
-      go false true h = let z : _≡_ {A = ℕ} 0 1 = cc in absurd (omega arith)
-      go false false h = refl
+  kind-put =
+      change-cases (λ (c : Change). kindOf c ≡ Put → c ≡ put (newValue q old)) q old
+      (λ h. let z : _≡_ {A = ℕ} 0 1 = cc in absurd (omega arith)) (λ h. let z : _≡_ {A = ℕ} 0 1 = cc in absurd (omega arith)) (λ h. refl)
 
   kind-remove : kindOf (changeOf q old) ≡ Remove → changeOf q old ≡ remove (requestKey q)
-  kind-remove h = by-tests (remove (requestKey q)) Remove refl go h
-    where
-      go : (d n : Bool) → kindOf (cond d (remove (requestKey q)) (cond n nothing (put (newValue q old)))) ≡ Remove
-          → cond d (remove (requestKey q)) (cond n nothing (put (newValue q old))) ≡ remove (requestKey q)
-      go true n h = refl
-      go false true h = let z : _≡_ {A = ℕ} 0 1 = cc in absurd (omega arith)
-      go false false h = let z : _≡_ {A = ℕ} 0 1 = cc in absurd (omega arith)
+  kind-remove =
+      change-cases (λ (c : Change). kindOf c ≡ Remove → c ≡ remove (requestKey q)) q old
+      (λ h. refl) (λ h. let z : _≡_ {A = ℕ} 0 1 = cc in absurd (omega arith)) (λ h. let z : _≡_ {A = ℕ} 0 1 = cc in absurd (omega arith))
 
 kind-nothing : (c : Change) → kindOf c ≡ Nothing → c ≡ nothing
 kind-nothing nothing h = refl

@@ -23,6 +23,7 @@ use Rattle.model.specs.Region.{maxData, recordBit, sound, entries, values, stan
 use Rattle.model.specs.Request.{Request, requestKey, timeBased, appends, withoutAppend, keyPK, userMode, wantedVerdicts, properAt, dataProper, stampToStore, later}
 use Rattle.model.specs.Change.{Change, nothing, remove, put, deletes, emptyAppend, equalTo, newData, laterOf, newStamp, newValue, changeOf, changeIn, step, steps, entrySizes, isErrorRecord, recordSizes, otherSizes}
 use Rattle.model.specs.Rules.{firstBroken, rule7, rule8, rule9, rule10, rule11, rule12, rule13, rule18, rule21, wantedOf, requestRules, standingRules, resultRules, itemRules, settingRules, roomRules}
+use Rattle.model.proofs.Looking.{change-cases}
 use Rattle.model.proofs.Requests.{broken-append, unbroken, record-append}
 use Rattle.model.proofs.Chunks.{sound-parts}
 use Rattle.model.proofs.Encode as encode
@@ -332,15 +333,10 @@ module _ (t : Terms) (q : Request) (r : List ℕ) (sounds : sound r ≡ true) (o
 
   -- a change that puts, puts the new value
   puts-new : (v : Value) → changeIn q vs ≡ put v → v ≡ new
-  unfolding changeIn changeOf
+  unfolding changeIn
   puts-new v e =
-      go (deletes (q .attributes) (length (dataProper q)))
-      (emptyAppend (q .attributes) (length (dataProper q)) || onSome (find (requestKey q) vs) (λ w. equalTo (q .attributes) (dataProper q) (w .attributes) (w .bytes)) false) e
-    where
-      go : (d n : Bool) → cond d (remove (requestKey q)) (cond n nothing (put new)) ≡ put v → v ≡ new
-      go true n e = let z : _≡_ {A = ℕ} 0 1 = cc in absurd (omega arith)
-      go false true e = let z : _≡_ {A = ℕ} 0 1 = cc in absurd (omega arith)
-      go false false e = cc
+      change-cases (λ (c : Change). c ≡ put v → v ≡ new) q (find (requestKey q) vs)
+      (λ e. let z : _≡_ {A = ℕ} 0 1 = cc in absurd (omega arith)) (λ e. let z : _≡_ {A = ℕ} 0 1 = cc in absurd (omega arith)) (λ e. cc) e
 
   pub decision-here : (ls : List Limit)
       → decisionOf ls t q (length r) vs

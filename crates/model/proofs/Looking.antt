@@ -93,16 +93,21 @@ Own k nothing = Unit {0}
 Own k (remove j) = j ≡ k
 Own k (put v) = keyOf v ≡ k
 
-change-own : (r : Request) (old : Option Value) → Own (requestKey r) (changeOf r old)
-unfolding changeOf newValue
-change-own r old =
+-- a set's change by cases: a delete, nothing, or a put of the new value
+pub change-cases : (P : Change → Type 0) (r : Request) (old : Option Value) → P (remove (requestKey r)) → P nothing → P (put (newValue r old)) → P (changeOf r old)
+unfolding changeOf
+change-cases P r old x y z =
     go (deletes (r .attributes) (length (dataProper r)))
     (emptyAppend (r .attributes) (length (dataProper r)) || onSome old (λ v. equalTo (r .attributes) (dataProper r) (v .attributes) (v .bytes)) false)
   where
-    go : (d e : Bool) → Own (requestKey r) (cond d (remove (requestKey r)) (cond e nothing (put (newValue r old))))
-    go true e = refl
-    go false true = tt
-    go false false = refl
+    go : (d e : Bool) → P (cond d (remove (requestKey r)) (cond e nothing (put (newValue r old))))
+    go true e = x
+    go false true = y
+    go false false = z
+
+change-own : (r : Request) (old : Option Value) → Own (requestKey r) (changeOf r old)
+unfolding newValue
+change-own r old = change-cases (Own (requestKey r)) r old refl tt refl
 
 -- a name that was taken out is not there, and one that comes last is
 find-out : (k : Key) (vs : List Value) → find k (without k vs) ≡ none
