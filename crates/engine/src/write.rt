@@ -91,7 +91,7 @@ fn plan_ready(
     let value = d.value;
     match what {
         Decision::Broken(rule) => plan::refuse(rule),
-        Decision::Nothing => plan::accept(plan::nothing(), 12),
+        Decision::Nothing => plan::accept(plan::nothing(), plan::NONE_DECIDES),
         Decision::Remove => plan::accept(planner::entries::delete(places), 1),
         Decision::Put => plan_put(
             image,

@@ -415,7 +415,7 @@ fn make_stores(
     let mut made: u64 = 0;
     let mut op = 0;
     let mut i = 0;
-    while op < 12 {
+    while op < plan::OPERATIONS {
         let o = plan[op];
         let step = o.step;
         if i < size(step, w) {

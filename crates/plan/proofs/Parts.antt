@@ -14,7 +14,7 @@ use Rattle.plan.specs.declared.Step.{Step}
 use Rattle.plan.specs.declared.Step.the-variants.{Nothing, Mark, Erase, Program, Header}
 use Rattle.plan.specs.declared.Planned.{Planned}
 use Rattle.plan.specs.Plan.{op, isMark, storesOfStep, expand, Ready}
-use Rattle.plan.specs.Planned.{nothings, accepted, refused, upTo, plannedAs, decidesRight, Kept, Plans}
+use Rattle.plan.specs.Planned.{noneDecides, nothings, accepted, refused, upTo, plannedAs, decidesRight, Kept, Plans}
 
 nothing-ready : (c img : List ℕ) → Ready c nothings img
 unfolding nothings
@@ -61,7 +61,7 @@ mark-decides c ops d to on e o m t =
     rw (e, o, some) m
 
 -- none does
-none-decides : (on : List Write) (ops : List Op) {p : Planned} → p ≡ accepted ops 12 → decidesRight (make [] on) p ≡ true
+none-decides : (on : List Write) (ops : List Op) {p : Planned} → p ≡ accepted ops noneDecides → decidesRight (make [] on) p ≡ true
 unfolding decidesRight accepted
 none-decides on ops e = rw e refl
 
@@ -93,13 +93,13 @@ accepted-plans before c img plan ops d to on {p} e o t u f decides ready = recor
 }
 
 -- no store decides
-pub undecided-plans : (before c img : List ℕ) (plan : Plan) (ops : List Op) (on : List Write) {p : Planned} {ops′ : List Op} → p ≡ accepted ops′ 12 → ops′ ≡ ops
+pub undecided-plans : (before c img : List ℕ) (plan : Plan) (ops : List Op) (on : List Write) {p : Planned} {ops′ : List Op} → p ≡ accepted ops′ noneDecides → ops′ ≡ ops
     → expand c ops ≡ on → plan ≡ make [] on → Ready c ops img → Plans plan img before c p
 unfolding expand
 undecided-plans before c img plan ops on e o u f ready =
-    accepted-plans before c img plan ops 12 [] on e o refl u f (none-decides on ops (e ∙ ap (λ (l : List Op). accepted l 12) o)) ready
+    accepted-plans before c img plan ops noneDecides [] on e o refl u f (none-decides on ops (e ∙ ap (λ (l : List Op). accepted l noneDecides) o)) ready
 
 -- *nothing to store*
-pub nothing-plans : (before c img : List ℕ) (plan : Plan) {p : Planned} {ops : List Op} → ops ≡ nothings → p ≡ accepted ops 12 → plan ≡ make [] [] → Plans plan img before c p
+pub nothing-plans : (before c img : List ℕ) (plan : Plan) {p : Planned} {ops : List Op} → ops ≡ nothings → p ≡ accepted ops noneDecides → plan ≡ make [] [] → Plans plan img before c p
 unfolding expand storesOfStep nothings
 nothing-plans before c img plan n e f = undecided-plans before c img plan nothings [] e n refl f (nothing-ready c img)

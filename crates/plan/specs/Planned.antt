@@ -20,15 +20,19 @@ unfoldable pub nothings : List Op
 nothings =
     op Nothing ∷ op Nothing ∷ op Nothing ∷ op Nothing ∷ op Nothing ∷ op Nothing ∷ op Nothing ∷ op Nothing ∷ op Nothing ∷ op Nothing ∷ op Nothing ∷ op Nothing ∷ []
 
+-- how many operations a plan has, and the deciding one's number where none decides
+abbrev pub noneDecides : ℕ
+noneDecides = 12
+
 unfoldable pub accepted : List Op → ℕ → Planned
 accepted ops deciding = record { judged = Accepted; plan = ops; deciding = deciding }
 
 unfoldable pub refused : Rule → Planned
-refused rule = record { judged = Refused rule; plan = nothings; deciding = 12 }
+refused rule = record { judged = Refused rule; plan = nothings; deciding = noneDecides }
 
 -- how many operations stand up to the deciding one, by its number
 abbrev pub upTo : ℕ → ℕ
-upTo deciding = cond (ltb deciding 12) (suc deciding) 0
+upTo deciding = cond (ltb deciding noneDecides) (suc deciding) 0
 
 abbrev pub onJudged : List ℕ → List Op → ℕ → Judged → set.Plan
 onJudged content ops deciding Accepted =
@@ -44,10 +48,10 @@ abbrev pub Kept : set.Plan → List ℕ → List ℕ → Type 0
 Kept (set.refuse rule) before after = after ≡ before
 Kept (set.make to on) before after = Unit {0}
 
--- the operation `deciding` is the one whose store decides, always a mark; it is 12 where none decides: of a refused call, and of a list without a deciding store
+-- the operation `deciding` is the one whose store decides, always a mark; it is `noneDecides` where none does: of a refused call, and of a list without a deciding store
 unfoldable pub decidesRight : set.Plan → Planned → Bool
-decidesRight (set.refuse rule) p = eqb (p .deciding) 12
-decidesRight (set.make to on) p = cond (isEmpty to) (eqb (p .deciding) 12) (isMark (getD (p .plan) (p .deciding) (op Nothing) .step))
+decidesRight (set.refuse rule) p = eqb (p .deciding) noneDecides
+decidesRight (set.make to on) p = cond (isEmpty to) (eqb (p .deciding) noneDecides) (isMark (getD (p .plan) (p .deciding) (op Nothing) .step))
 
 -- this was planned, over an image and with the content as it was before and is now: it is what the definitions plan, its deciding operation is told
 -- rightly, and it is what the executor asks. Open is only which operations make up the list of writes: one may be empty, an erase may be split in two, and a mark

@@ -25,8 +25,14 @@ pub struct Op {
     pub step: Step,
 }
 
-// The operations of a call, in their order: a start-up that compacts has the most, ten.
-pub type Plan = [Op; 12];
+// The places of a plan: a start-up that compacts has the most operations, ten.
+pub const OPERATIONS: usize = 12;
+
+// The deciding operation's number where none decides: that of no place.
+pub const NONE_DECIDES: usize = OPERATIONS;
+
+// The operations of a call, in their order.
+pub type Plan = [Op; OPERATIONS];
 
 // A call judged: accepted, or the first rule that it breaks.
 pub enum Judged {
@@ -34,7 +40,7 @@ pub enum Judged {
     Refused(Rule),
 }
 
-// What was planned for a call; no operation where it is refused. Its deciding store is operation number `deciding`, always a mark; 12 says that none decides.
+// What was planned for a call; no operation where it is refused. Its deciding store is operation number `deciding`, always a mark; or none decides.
 pub struct Planned {
     pub judged: Judged,
     pub plan: Plan,
@@ -82,7 +88,7 @@ pub fn refuse(rule: Rule) -> Planned
     Planned {
         judged: Judged::Refused(rule),
         plan: nothing(),
-        deciding: 12,
+        deciding: NONE_DECIDES,
     }
 }
 
@@ -97,12 +103,12 @@ pub struct HostOp {
     pub len: u64,
 }
 
-// What a planning call tells a host: the rule that the call breaks, or 0; the number of the operation that decides, 12 if none does; the operations.
+// What a planning call tells a host: the rule that the call breaks, or 0; the number of the operation that decides, or `NONE_DECIDES`; the operations.
 #[repr(C)]
 pub struct HostPlan {
     pub rule: u32,
     pub deciding: u64,
-    pub ops: [HostOp; 12],
+    pub ops: [HostOp; OPERATIONS],
 }
 
 // An operation in numbers.
@@ -147,7 +153,7 @@ fn operation(step: Step) -> HostOp
 fn operation_at(plan: Plan, i: usize) -> HostOp
     ensures { λ r. ⌜ r ≡ operationAt plan i ⌝ }
 {
-    if i < 12 {
+    if i < OPERATIONS {
         let o = plan[i];
         let step = o.step;
         return operation(step);
@@ -161,7 +167,7 @@ fn operation_at(plan: Plan, i: usize) -> HostOp
 }
 
 // All of them.
-fn operations(plan: Plan) -> [HostOp; 12]
+fn operations(plan: Plan) -> [HostOp; OPERATIONS]
     ensures { λ r. ⌜ r ≡ operationsOf plan ⌝ }
 {
     [
@@ -181,7 +187,7 @@ fn operations(plan: Plan) -> [HostOp; 12]
 }
 
 // The operations of a refused call.
-fn no_operations() -> [HostOp; 12]
+fn no_operations() -> [HostOp; OPERATIONS]
     ensures { λ r. ⌜ r ≡ noOperations ⌝ }
 {
     operations(nothing())
@@ -201,7 +207,7 @@ pub fn in_numbers(planned: Planned) -> HostPlan
         },
         Judged::Refused(rule) => HostPlan {
             rule: model::number(rule),
-            deciding: 12,
+            deciding: NONE_DECIDES as u64,
             ops: no_operations(),
         },
     }

@@ -20,7 +20,7 @@ use Rattle.output.proofs.Writing.{wrote-front, wrote-length}
 use Rattle.plan.specs.declared.Op.{Op}
 use Rattle.plan.specs.declared.Planned.{Planned}
 use Rattle.plan.specs.Plan.{storesOfStep, expand}
-use Rattle.plan.specs.Planned.{accepted, Plans}
+use Rattle.plan.specs.Planned.{noneDecides, accepted, Plans}
 use Rattle.plan.proofs.Parts.{undecided-plans}
 use Rattle.planner.specs.Format.{wipePlan}
 use Rattle.planner.proofs.Ready.{image-long, region-size}
@@ -56,7 +56,7 @@ module _ (img : List ℕ) (b : ℕ) (e : b ≡ blocksOf img) (low : 1 ≤ b) whe
 
   -- *what was planned*
   pub format-plans : {header before c : List ℕ} {n : ℕ} → header ≡ regionHeader (4096 * b) → Wrote header 0 before c n → length before ≡ 28672
-      → {ops : List Op} {p : Planned} → ops ≡ wipePlan b → p ≡ accepted ops 12 → Plans (formatPlan img) img before c p
+      → {ops : List Op} {p : Planned} → ops ≡ wipePlan b → p ≡ accepted ops noneDecides → Plans (formatPlan img) img before c p
   unfolding block wipePlan
   format-plans {header} {before} {c} {n} h w room {ops} {p} o e =
       let m : length header ≡ 28 = ap length h ∙ header-long (4096 * b) in

@@ -40,7 +40,7 @@ use Rattle.plan.specs.declared.Op.{Op}
 use Rattle.plan.specs.declared.Step.{Step}
 use Rattle.plan.specs.declared.Planned.{Planned}
 use Rattle.plan.specs.Plan.{storesOfStep, expand}
-use Rattle.plan.specs.Planned.{accepted, Plans}
+use Rattle.plan.specs.Planned.{noneDecides, accepted, Plans}
 use Rattle.plan.proofs.Parts.{undecided-plans}
 use Rattle.planner.specs.Compactions.{spareStep, workStep, tidied, compactPlan, resumePlan, restPlan}
 use Rattle.planner.proofs.CompactionPlans.{compact-is, resume-is}
@@ -159,7 +159,7 @@ module _ (img : List ℕ) (b : ℕ) (f : Accepted img b true) (bytes : Bytes img
           ap (λ (k : ℕ). take k c) (sym p) ∙ wrote-front w (omega arith) ∙ cut
 
       -- *what was planned*
-      pub resume-plans : {ops : List Op} {p : Planned} → ops ≡ resumePlan b place → p ≡ accepted ops 12 → Plans (startUpPlan img) img before c p
+      pub resume-plans : {ops : List Op} {p : Planned} → ops ≡ resumePlan b place → p ≡ accepted ops noneDecides → Plans (startUpPlan img) img before c p
       unfolding block
       resume-plans {ops} {p} o e =
           let content : List ℕ = part (4096 * b + 4096) (4096 * b) img in
@@ -220,7 +220,7 @@ module _ (img : List ℕ) (b : ℕ) (f : Accepted img b false) where
 
   -- *the tail is blank*
   pub rest-plans : (before c : List ℕ) {ops : List Op} {p : Planned} → allFF (tail (region img)) ≡ true
-      → ops ≡ restPlan (spareStep b (allFF (spare img))) (workStep b (idle (work img))) → p ≡ accepted ops 12 → Plans (startUpPlan img) img before c p
+      → ops ≡ restPlan (spareStep b (allFF (spare img))) (workStep b (idle (work img))) → p ≡ accepted ops noneDecides → Plans (startUpPlan img) img before c p
   rest-plans before c {ops} {p} t o e =
       undecided-plans before c img (startUpPlan img) (restPlan (spareStep b (allFF (spare img))) (workStep b (idle (work img)))) (startUpStores img) e o
       (rest-is own waits t c ∙ ap startUpStores (sym whole)) (plan-makes img b false f) (rest-ready c img b (allFF (spare img)) (idle (work img)) image-long)
@@ -228,7 +228,7 @@ module _ (img : List ℕ) (b : ℕ) (f : Accepted img b false) where
   -- *it is not*
   pub tidy-plans : Bytes img → (before c : List ℕ) {ops : List Op} {p : Planned} → allFF (tail (region img)) ≡ false → length c ≡ 28672
       → part 0 (block * b) c ≡ encode (block * b) (values (entries (region img)))
-      → ops ≡ compactPlan (spareStep b (allFF (spare img))) (workStep b (idle (work img))) b (usedRecords (tidied (work img))) → p ≡ accepted ops 12
+      → ops ≡ compactPlan (spareStep b (allFF (spare img))) (workStep b (idle (work img))) b (usedRecords (tidied (work img))) → p ≡ accepted ops noneDecides
       → Plans (startUpPlan img) img before c p
   tidy-plans bytes before c {ops} {p} t room e o a =
       let content : List ℕ = encode (block * b) (values (entries (region img))) in

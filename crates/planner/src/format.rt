@@ -46,5 +46,5 @@ pub fn plan(image: &[u8], b: usize, content: &mut [u8]) -> Planned
 {
     let header = layout::fixed::region_header(layout::BLOCK * b);
     output::put_bytes(content, 0, &header);
-    plan::accept(wipe(b), 12)
+    plan::accept(wipe(b), plan::NONE_DECIDES)
 }

@@ -28,7 +28,7 @@ pub fn resume(image: &[u8], b: usize, looked: Look, content: &mut [u8]) -> Plann
         0,
         slices::cut(image, layout::BLOCK * b + layout::BLOCK, layout::BLOCK * b),
     );
-    plan::accept(compaction::resume(b, looked.used - 1), 12)
+    plan::accept(compaction::resume(b, looked.used - 1), plan::NONE_DECIDES)
 }
 
 // "erase the spare's blocks if it is not all FF": all of them, in rising order.
@@ -74,11 +74,11 @@ pub fn tidy(image: &[u8], b: usize, looked: Look, clean: bool, content: &mut [u8
     let left = work_left(b, looked);
     let work = left.step;
     if clean {
-        return plan::accept(compaction::rest(spare, work), 12);
+        return plan::accept(compaction::rest(spare, work), plan::NONE_DECIDES);
     }
     let n = compose::put_values(content, slices::cut(image, 0, layout::BLOCK * b), [0; 8]);
     plan::accept(
         compaction::compact_front(content, n, spare, work, b, left.used),
-        12,
+        plan::NONE_DECIDES,
     )
 }
