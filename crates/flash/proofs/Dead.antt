@@ -7,7 +7,7 @@ use native.Mathlib.Omega.{arith}
 use mathlib.Core.Path.{_≡_, refl, sym, ap, ap₂, _∙_, subst}
 use mathlib.Core.Logic.{_≢_}
 use mathlib.Core.Bool.{Bool, true, false, cond, not, _&&_, _||_, true≢false}
-use mathlib.Core.List.{List, [], _∷_, _++_, append-assoc}
+use mathlib.Core.List.{List, [], _∷_, _++_, append-assoc, append-nil}
 use lib.ListN.{length, getD, set, take, drop, drop-of-length-le}
 use lib.Seq.{take-suc, drop-cons, getD-take, getD-drop, getD-set-other}
 use lib.Bits.{bitAnd}
@@ -16,11 +16,13 @@ use borrow.Author.Tests.{eqb-true, eqb-false, eq-eqb, ne-eqb, leb-true, leb-fals
 use Rattle.model.specs.Lists.{any, among, part}
 use Rattle.model.specs.Stores.{Store, page, byte, erase, apply, applyAll, pages, bytewise, falls, fails, reach, widthOf}
 use Rattle.model.proofs.Stores.{applyAll-append, pages-sets, pages-one, pages-bytewise}
+use Rattle.model.proofs.Pages.{pages-few}
 use Rattle.model.proofs.Failing.{fails-byte, reach-few, reach-none}
 use Rattle.plan.specs.declared.Step.{Step}
 use Rattle.plan.specs.declared.Step.the-variants.{Mark, Erase}
 use Rattle.plan.specs.Plan.{sizeOf, runOf, restOf, Fits, OneBit, FirstFails, Made, countOf, Programmed, Turned}
-use Rattle.plan.proofs.Stores.{length-part, length-runOf, run-split, run-next, erase-rest, Piece}
+use Rattle.plan.proofs.Stores.{length-part, length-runOf, run-nil, run-split, run-next, erase-rest, Piece}
+use Rattle.flash.proofs.Counting.{count-none, count-one, count-bytes, count-page, count-positive, run-count}
 
 -- of k bytes those before a dead address
 abbrev pub short : ℕ → List ℕ → List ℕ → ℕ → ℕ → ℕ
@@ -141,53 +143,26 @@ worn-if dead at v img e = rw (fails-byte dead at v img, ne-eqb (bitAnd (getD img
     go true = refl
     go false = refl
 
--- in a turn of none or one place as many stores are made
-pub count-none : (w : ℕ) → countOf w 0 ≡ 0
-count-none w = go (eqb w 1)
-  where
-    go : (t : Bool) → _≡_ {A = ℕ} (cond t 0 (min 0 1)) 0
-    go true = refl
-    go false = refl
-
-count-one : (w : ℕ) → countOf w 1 ≡ 1
-count-one w = go (eqb w 1)
-  where
-    go : (t : Bool) → _≡_ {A = ℕ} (cond t 1 (min 1 1)) 1
-    go true = refl
-    go false = refl
-
--- some places are some stores
-pub count-positive : (w r : ℕ) → r ≢ 0 → 1 ≤ countOf w r
-count-positive w r n = go (eqb w 1)
-  where
-    go : (t : Bool) → 1 ≤ cond t r (min r 1)
-    go true = omega (arith, n)
-    go false = omega (arith, n)
-
--- in pages some bytes are one store
-count-some : (w r : ℕ) → w ≢ 1 → 1 ≤ r → countOf w r ≡ 1
-count-some w r n l = rw (ne-eqb w 1 n) (omega arith)
-
-pub mark-turned : (dead : List ℕ) (w : ℕ) (c : List ℕ) (at v i left : ℕ) (img img′ : List ℕ) (r : ℕ) → i < 1 → 1 ≤ left
+pub mark-turned : (dead : List ℕ) (w : ℕ) (c : List ℕ) (at v i left : ℕ) (img img′ : List ℕ) (r : ℕ) → 1 ≤ w → i < 1 → 1 ≤ left
     → r ≡ cond (fails dead (byte at v) img) 0 1 → img′ ≡ cond (fails dead (byte at v) img) img (apply (byte at v) img) → Turned dead w c (Mark at v) i left img img′ r
 unfolding restOf reach applyAll
-mark-turned dead w c at v i left img img′ r l some e f = go (fails dead (byte at v) img) refl e f
+mark-turned dead w c at v i left img img′ r wide l some e f = go (fails dead (byte at v) img) refl e f
   where
     first : i ≡ 0
     first = omega arith
 
     go : (t : Bool) → fails dead (byte at v) img ≡ t → r ≡ cond t 0 1 → img′ ≡ cond t img (apply (byte at v) img) → Turned dead w c (Mark at v) i left img img′ r
     go true g h k =
-        rw (first, h, count-none w) (omega arith, record { made = []; whole = refl; many = refl; few = omega arith; image = k; spared = refl; worn = λ z. g })
+        rw (first, h, count-none w wide) (omega arith, record { made = []; whole = refl; many = refl; few = omega arith; image = k; spared = refl; worn = λ z. g })
     go false g h k =
-        rw (first, h, count-one w)
+        rw (first, h, count-one w wide)
         (omega arith, record { made = byte at v ∷ []; whole = refl; many = refl; few = some; image = k; spared = rw g; worn = λ z. absurd (omega arith) })
 
-pub erase-turned : (dead : List ℕ) (w : ℕ) (c : List ℕ) (first count i left : ℕ) (img img′ : List ℕ) → i < count → 1 ≤ left
+pub erase-turned : (dead : List ℕ) (w : ℕ) (c : List ℕ) (first count i left : ℕ) (img img′ : List ℕ) → 1 ≤ w → i < count → 1 ≤ left
     → img′ ≡ apply (erase (first + i)) img → Turned dead w c (Erase first count) i left img img′ 1
 unfolding reach fails applyAll
-erase-turned dead w c first count i left img img′ l some e =
-    rw (count-one w) (
+erase-turned dead w c first count i left img img′ wide l some e =
+    rw (count-one w wide) (
       omega arith,
       record {
         made = erase (first + i) ∷ [];
@@ -244,7 +219,8 @@ programmed dead c at from len n left k img img′ h m some l e f =
     let all-one : runOf 1 c at from len ≡ byte at (getD c from 0) ∷ runOf 1 c (at + 1) (from + 1) (len - 1) =
     ap (runOf 1 c at from) (let z : len ≡ 1 + (len - 1) = omega arith in z)
     ∙ split c at from 1 (len - 1) (omega arith)
-    ∙ ap (λ (l : List Store). l ++ runOf 1 c (at + 1) (from + 1) (len - 1)) (run-one c at from (omega arith)) in (
+    ∙ ap (λ (l : List Store). l ++ runOf 1 c (at + 1) (from + 1) (len - 1)) (run-one c at from (omega arith)) in
+    rw (count-bytes k) (
       omega arith,
       record {
         made = runOf 1 c at from k;
@@ -261,7 +237,7 @@ programmed dead c at from len n left k img img′ h m some l e f =
 
 -- ---- a page of them
 
-module _ (dead : List ℕ) (w : ℕ) (c : List ℕ) (at from len n left : ℕ) (img img′ : List ℕ) (h : from + len ≤ length c) (paged : w ≢ 1)
+module _ (dead : List ℕ) (w : ℕ) (c : List ℕ) (at from len n left : ℕ) (img img′ : List ℕ) (h : from + len ≤ length c) (wide : 1 ≤ w)
     (some : 1 ≤ n) (l : n ≤ len) (fits : at % w + n ≤ w) (whole : n ≢ len → at % w + n ≡ w) (m : 1 ≤ left) where
   next : runOf w c at from len ≡ (page at (part from n c) ∷ []) ++ runOf w c (at + n) (from + n) (len - n)
   next = run-next w c at from len n h some l fits whole
@@ -270,7 +246,7 @@ module _ (dead : List ℕ) (w : ℕ) (c : List ℕ) (at from len n left : ℕ) (
   pub page-made : fails dead (page at (part from n c)) img ≡ false → img′ ≡ applyAll (runOf 1 c at from n) img → Programmed dead w c at from len left img img′ n
   unfolding reach applyAll apply
   page-made e f =
-      rw (count-some w n paged some) (
+      rw (count-page w n wide some (omega arith)) (
         l,
         record {
           made = page at (part from n c) ∷ [];
@@ -287,7 +263,7 @@ module _ (dead : List ℕ) (w : ℕ) (c : List ℕ) (at from len n left : ℕ) (
   pub page-failed : fails dead (page at (part from n c)) img ≡ true → img′ ≡ img → Programmed dead w c at from len left img img′ 0
   unfolding reach applyAll
   page-failed e f =
-      rw (count-none w, add-zero at, add-zero from, sub-zero len) (
+      rw (count-none w wide, add-zero at, add-zero from, sub-zero len) (
         omega arith,
         record {
           made = [];
@@ -299,6 +275,32 @@ module _ (dead : List ℕ) (w : ℕ) (c : List ℕ) (at from len n left : ℕ) (
           worn = λ z. subst (λ (ss : List Store). FirstFails dead ss img) (sym next) e;
         },
       )
+
+-- ---- all pages of them
+
+-- from the beginning of a page on, where no address is dead
+pub pages-made : (dead : List ℕ) (w : ℕ) (c : List ℕ) (at from len left : ℕ) (img img′ : List ℕ) → from + len ≤ length c → 1 ≤ w → 1 ≤ len
+    → length dead ≡ 0 → at % w ≡ 0 → len ≤ left → img′ ≡ applyAll (runOf 1 c at from len) img → Programmed dead w c at from len left img img′ len
+pages-made dead w c at from len left img img′ h wide some none begins l f =
+    let long = length-part from len c h in
+    let many = run-count w c at from len h wide some begins in
+    let few = pages-few w at (part from len c) in
+    let end : len - len ≡ 0 = omega arith in (
+      omega arith,
+      record {
+        made = runOf w c at from len;
+        whole = sym (ap (λ (n : ℕ). runOf w c at from len ++ runOf w c (at + len) (from + len) n) end ∙ ap (λ (ss : List Store). runOf w c at from len ++ ss) (run-nil w c (at + len) (from + len)) ∙ append-nil (runOf w c at from len));
+        many = many;
+        few = omega (arith, many, few, long);
+        image = f ∙ pages-sets 1 at (part from len c) img ∙ sym (pages-sets w at (part from len c) img);
+        spared = reach-all dead none (runOf w c at from len) img ∙ many;
+        worn = λ z. let p = count-positive w len wide (λ e. omega arith) in absurd (omega arith);
+      },
+    )
+  where
+    reach-all : (dead : List ℕ) → length dead ≡ 0 → (ss : List Store) (img : List ℕ) → reach dead ss img ≡ length ss
+    reach-all [] e ss img = reach-none ss img
+    reach-all (d ∷ dead) e ss img = absurd (omega arith)
 
 -- ---- a part of an operation's list
 

@@ -254,7 +254,7 @@ fn one_page(
     dead: &[u32],
     w: usize,
 ) -> usize
-    requires { ⌜ (1 ≤ len) × (1 ≤ left) × (from + len ≤ length (now content)) × (at + len ≤ length (now image)) × (1 ≤ w) × (w ≢ 1) ⌝ }
+    requires { ⌜ (1 ≤ len) × (1 ≤ left) × (from + len ≤ length (now content)) × (at + len ≤ length (now image)) × (1 ≤ w) ⌝ }
     ensures { λ r. ⌜ Programmed (now (dead .entry)) w (now (content .entry)) at from len left (now (image .entry)) (now (image .exit)) r ⌝ }
 {
     let n = to_page_end(w, at, len);
@@ -265,7 +265,32 @@ fn one_page(
     n
 }
 
-// Bytes of the content: byte by byte, or one page.
+// Bytes of the content in pages: all of them, from the beginning of a page on, where no address is dead and n does not end them; else one page.
+fn pages(
+    image: &mut [u8],
+    at: usize,
+    from: usize,
+    len: usize,
+    content: &[u8],
+    left: u64,
+    dead: &[u32],
+    w: usize,
+) -> usize
+    requires { ⌜ (1 ≤ len) × (1 ≤ left) × (from + len ≤ length (now content)) × (at + len ≤ length (now image)) × (1 ≤ w) ⌝ }
+    ensures { λ r. ⌜ Programmed (now (dead .entry)) w (now (content .entry)) at from len left (now (image .entry)) (now (image .exit)) r ⌝ }
+{
+    if dead.len() == 0 {
+        if at % w == 0 {
+            if len as u64 <= left {
+                put_run(image, at, from, len, content);
+                return len;
+            }
+        }
+    }
+    one_page(image, at, from, len, content, left, dead, w)
+}
+
+// Bytes of the content: byte by byte, or in pages.
 fn program(
     image: &mut [u8],
     at: usize,
@@ -282,7 +307,7 @@ fn program(
     if w == 1 {
         return bytes(image, at, from, len, content, left, dead);
     }
-    one_page(image, at, from, len, content, left, dead, w)
+    pages(image, at, from, len, content, left, dead, w)
 }
 
 // A header byte by byte: those before the state, or those behind it.
@@ -320,7 +345,7 @@ fn header_bytes(
     )
 }
 
-// A header: without its state byte by byte, or a page of it, with FF in the place of its state.
+// A header: without its state byte by byte, or pages of it, with FF in the place of its state.
 fn header(
     image: &mut [u8],
     at: usize,
@@ -337,7 +362,7 @@ fn header(
     if w == 1 {
         return header_bytes(image, at, from, i, content, left, dead);
     }
-    one_page(
+    pages(
         image,
         at + i,
         from + i,
@@ -349,7 +374,7 @@ fn header(
     )
 }
 
-// Stores of an operation from a place of it on, no more than are left: a mark, an erase, bytes one behind another, or a page. None where the next one fails.
+// Stores of an operation from a place of it on, no more than are left: a mark, an erase, bytes one after another, or pages. None where the next one fails.
 fn turn(
     image: &mut [u8],
     step: Step,
@@ -383,17 +408,15 @@ fn turn(
     }
 }
 
-// The stores of r places that were gone over in one turn: each is one with w = 1, and else all are.
+// The stores of r places that were gone over in one turn: one for each page of w, the last one begun.
 fn counted(w: usize, r: usize) -> u64
+    requires { ⌜ 1 ≤ w ⌝ }
     ensures { λ n. ⌜ n ≡ countOf w r ⌝ }
 {
-    if w == 1 {
-        return r as u64;
-    }
     if r == 0 {
         return 0;
     }
-    1
+    ((r - 1) / w + 1) as u64
 }
 
 // The stores of a plan in their order, ended where n of them are made, or where one fails.

@@ -1,5 +1,5 @@
 -- A plan's operations, and what they write: whatever w is, which cuts it into stores.
-use Prim.Native.Nat.{ℕ, _+_, _*_, _-_, _≤_, _<_, min}
+use Prim.Native.Nat.{ℕ, _+_, _*_, _-_, _/_, _≤_, _<_}
 use mathlib.Core.Path.{_≡_}
 use mathlib.Core.Bool.{Bool, true, false, cond}
 use mathlib.Core.List.{List, [], _∷_, _++_}
@@ -146,9 +146,9 @@ pub record Made (dead : List ℕ) (ss : List Store) (left : ℕ) (before after :
   pub spared : reach dead made before ≡ k
   pub worn : k ≡ 0 → FirstFails dead ss before
 
--- in one turn all bytes that go are stored with w = 1, and one page otherwise: the stores of r bytes
+-- the stores of r places that are gone over in one turn, from the beginning of a page on or within one: one for each page of w, the last one begun
 abbrev pub countOf : ℕ → ℕ → ℕ
-countOf w r = cond (eqb w 1) r (min r 1)
+countOf w r = (r + (w - 1)) / w
 
 -- r of so many bytes of the content are stored in one turn
 abbrev pub Programmed : List ℕ → ℕ → List ℕ → ℕ → ℕ → ℕ → ℕ → List ℕ → List ℕ → ℕ → Type 0

@@ -18,25 +18,25 @@ returns : tie.Need-returns
 returns c =
     rw (c .before .before .before .before .if1 .taken) (c .before .before .header-bytes .ensures)
 
-add-one-page : tie.Need-add-one-page
-add-one-page c =
+add-pages : tie.Need-add-pages
+add-pages c =
     let s = c .before .before .before .before .before in
     let l = header-long (s .pre .0) (c .before .if1 .left) in omega (arith, l, s .pre .3)
 
-add-one-page-2 : tie.Need-add-one-page-2
-add-one-page-2 c =
+add-pages-2 : tie.Need-add-pages-2
+add-pages-2 c =
     let s = c .before .before .before .before .before in
     let l = header-long (s .pre .0) (c .before .if1 .left) in omega (arith, l, s .pre .2)
 
-sub-one-page : tie.Need-sub-one-page
-sub-one-page c =
+sub-pages : tie.Need-sub-pages
+sub-pages c =
     let s = c .before .before .before .before .before in
     let l = header-long (s .pre .0) (c .before .if1 .left) in omega (arith, l)
 
-one-page-requires : tie.Need-one-page-requires
-one-page-requires c κs =
+pages-requires : tie.Need-pages-requires
+pages-requires c κs =
     let s = c .before .before .before .before .before in
-    let l = header-long (s .pre .0) (c .before .if1 .left) in (omega (arith, l), s .pre .1, omega (arith, l, s .pre .2), omega (arith, l, s .pre .3), s .pre .4, c .before .if1 .left)
+    let l = header-long (s .pre .0) (c .before .if1 .left) in (omega (arith, l), s .pre .1, omega (arith, l, s .pre .2), omega (arith, l, s .pre .3), s .pre .4)
 
 returns-2 : tie.Need-returns-2
 returns-2 c =
@@ -44,8 +44,8 @@ returns-2 c =
     let a = s .args in
     let t = c .before .before .before .before .if1 .left in
     let l = header-long (s .pre .0) t in
-    piece-turned (now (a .dead)) (a .w) (now (a .content)) (Header (a .at) (a .from)) (a .i) (a .at + a .i) (a .from + a .i) (60 - a .i) (a .left) (now (a .image)) _ (c .before .before .one-page .result)
-    (header-piece (a .w) (now (a .content)) (a .at) (a .from) (a .i) t) (header-places (a .w) (a .i) t l) (c .before .before .one-page .ensures)
+    piece-turned (now (a .dead)) (a .w) (now (a .content)) (Header (a .at) (a .from)) (a .i) (a .at + a .i) (a .from + a .i) (60 - a .i) (a .left) (now (a .image)) _ (c .before .before .pages .result)
+    (header-piece (a .w) (now (a .content)) (a .at) (a .from) (a .i) t) (header-places (a .w) (a .i) t l) (c .before .before .pages .ensures)
 
 pub header-spec : {M : Type 1} → statement M
 header-spec =
@@ -54,9 +54,9 @@ header-spec =
     header-bytes-requires
     (λ c. search needs)
     returns
-    add-one-page
-    add-one-page-2
-    sub-one-page
-    one-page-requires
+    add-pages
+    add-pages-2
+    sub-pages
+    pages-requires
     (λ c. search needs)
     returns-2)

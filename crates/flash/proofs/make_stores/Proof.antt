@@ -11,7 +11,7 @@ use borrow.Author.Needs.{needs}
 use Rattle.plan.specs.Plan.{sizeOf, countOf, Fits, OneBit}
 use Rattle.plan.proofs.Stores.{stepAt, fits-at}
 use Rattle.plan.proofs.Carried.{Underway, unchanged, underway-begins, underway-turns, underway-next, underway-done, underway-stopped, underway-worn}
-use Rattle.flash.proofs.Dead.{count-none, count-positive}
+use Rattle.flash.proofs.Counting.{count-none, count-positive}
 use Rattle.flash.proofs.make_stores.Statement.{statement}
 use Rattle.flash.proofs.make_stores.Tie as tie
 
@@ -65,7 +65,7 @@ returns-2 c =
     let a = s .args in
     let m = c .before .before .before .turn .ensures .1 in
     let t = c .before .before .before .before .before .if2 .left in
-    let z = ap (countOf (a .w)) (c .if3 .taken) ∙ count-none (a .w) in
+    let z = ap (countOf (a .w)) (c .if3 .taken) ∙ count-none (a .w) (s .pre .1) in
     let none = underway-worn (now (a .dead)) (a .w) (now (a .content)) (a .t2) (now (a .image)) (s .pre .0) (l .op) (l .i) (l .image) (l .made) (a .n) (l .inv .4) (m .worn z) (omega arith) in
     (none .0, unchanged m z ∙ none .1)
 
@@ -77,9 +77,9 @@ add-i c = omega (arith, c .before .before .before .before .turn .ensures .0)
 
 loop-less : tie.Need-loop-less Inv-loop μ-loop
 loop-less c =
-    let a = c .before .before .before .before .before .before .before .before .before .before .before .before .before .before .before .args in
+    let s = c .before .before .before .before .before .before .before .before .before .before .before .before .before .before .before in
     let f = c .before .before .before .before .turn in
-    let some = count-positive (a .w) (f .result) (c .before .if3 .left) in
+    let some = count-positive (s .args .w) (f .result) (s .pre .1) (c .before .if3 .left) in
     omega (arith, f .ensures .1 .few, c .counted .ensures, some)
 
 loop-again : tie.Need-loop-again Inv-loop μ-loop

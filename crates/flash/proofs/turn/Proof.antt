@@ -83,7 +83,7 @@ returns-2 c =
     let e = c .before .before .before .before .before .step .given in
     let p = asked-as (e .1) (a .w) (length (now (a .content))) (length (now (a .image))) (a .i) (now (a .image)) (s .pre .0) (s .pre .2) (s .pre .3) in
     turned-as (e .1) (now (a .dead)) (a .w) (now (a .content)) (a .i) (a .left) (now (a .image)) (c .before .before .mark .result)
-    (mark-turned (now (a .dead)) (a .w) (now (a .content)) (e .0 .0) (e .0 .1 .0) (a .i) (a .left) (now (a .image)) _ (c .before .before .mark .result) (p .0) (s .pre .1) (c .before .before .mark .ensures .0) (c .before .before .mark .ensures .1))
+    (mark-turned (now (a .dead)) (a .w) (now (a .content)) (e .0 .0) (e .0 .1 .0) (a .i) (a .left) (now (a .image)) _ (c .before .before .mark .result) (s .pre .4) (p .0) (s .pre .1) (c .before .before .mark .ensures .0) (c .before .before .mark .ensures .1))
 
 returns-3 : tie.Need-returns-3
 returns-3 c =
@@ -92,7 +92,7 @@ returns-3 c =
     let e = c .before .before .before .before .before .step2 .given in
     let p = asked-as (e .1) (a .w) (length (now (a .content))) (length (now (a .image))) (a .i) (now (a .image)) (s .pre .0) (s .pre .2) (s .pre .3) in
     turned-as (e .1) (now (a .dead)) (a .w) (now (a .content)) (a .i) (a .left) (now (a .image)) 1
-    (erase-turned (now (a .dead)) (a .w) (now (a .content)) (e .0 .0) (e .0 .1 .0) (a .i) (a .left) (now (a .image)) _ (p .0) (s .pre .1) (c .before .before .clear .ensures))
+    (erase-turned (now (a .dead)) (a .w) (now (a .content)) (e .0 .0) (e .0 .1 .0) (a .i) (a .left) (now (a .image)) _ (s .pre .4) (p .0) (s .pre .1) (c .before .before .clear .ensures))
 
 returns-4 : tie.Need-returns-4
 returns-4 c =
