@@ -97,11 +97,11 @@ bench: $(LIB)
 check-time: $(LIB)
 	tools/check-time $(or $(BEFORE),3b92912)
 
-# the library inside a firmware, under its timer interrupts: EDK II's OVMF in qemu; first it says which packages are missing
+# the library inside a firmware, under its timer interrupts: EDK II's OVMF in qemu (TARGET=aarch64: AAVMF); first it says which packages are missing
 efi:
-	tools/efi --packages
-	$(MAKE) -s lib
-	tools/efi
+	tools/efi --target $(TARGET) --packages
+	$(MAKE) -s lib TARGET=$(TARGET)
+	tools/efi --target $(TARGET)
 
 # variables from the library to OVMF and back; first it says which packages are missing
 interop: kit
