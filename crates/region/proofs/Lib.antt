@@ -9,7 +9,11 @@ pub mod Judging
 pub mod Scanning
 -- The judgement of a whole region
 pub mod Whole
--- Names judged against those before them, and marks
+-- Names judged against those before them
+pub mod Passing
+-- The same by marks
 pub mod Marked
+-- The same by places in a table
+pub mod Settled
 -- A usual entry
 pub mod Usuals

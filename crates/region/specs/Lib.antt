@@ -2,3 +2,4 @@
 pub mod Walk
 pub mod Judge
 pub mod Marks
+pub mod Sorted

@@ -11,15 +11,20 @@ ghost use Rattle.model.specs.Walk.{entryKey};
 ghost use Rattle.model.specs.Region.{entriesIn, rightLive, isEntry};
 ghost use Rattle.region.specs.Walk.{entryAs};
 ghost use Rattle.region.specs.Judge.{plainAttributes, liveState, rightRecord, entrySound, doubledIn, scanOf, judgedIn, judgedOf, UsualFront, RightSizes, UsualOf};
-ghost use Rattle.region.specs.Marks.{isNoted, upTo};
+ghost use Rattle.region.specs.Marks.{upTo};
 use crate::Judged;
+use crate::Pass;
 use crate::Scan;
 use crate::Turn;
 use crate::Usual;
 use crate::marks;
+use crate::sorted;
 use crate::walk;
 use layout::Entry;
 use model::Layout;
+
+// How many bytes of the region the looks among entries before may pass, eight blocks; then a table is sorted, which takes as long as some eight times as many.
+const WALKED: usize = 32768;
 
 // Whether a state is one of the six.
 fn known_state(state: u8) -> bool
@@ -92,7 +97,7 @@ fn right_live(y: Layout, s: &[u8], e: Entry) -> bool
 }
 
 // Whether the entry at the front of `s` is sound by itself: a known state, an end within the region, and right if it is live.
-fn entry_sound(y: Layout, s: &[u8], e: Entry) -> bool
+pub(crate) fn entry_sound(y: Layout, s: &[u8], e: Entry) -> bool
     ensures { λ r. ⌜ r ≡ entrySound (length (now (s .entry))) (entryAs y (now (s .entry)) 0 e) ⌝ }
 {
     if e.state == 0xFF {
@@ -126,11 +131,11 @@ fn came_before(y: Layout, region: &[u8], end: usize, state: u8, name: &[u8], ven
     false
 }
 
-// Whether an entry is live and its state, name and GUID came before. They are looked for only where its sign is noted.
-fn is_doubled(y: Layout, region: &[u8], at: usize, e: Entry, noted: u8, sign: u8) -> bool
-    ensures { λ r. ⌜ r ≡ (isNoted noted sign && doubledIn (entryAs y (now (region .entry)) at e) (upTo at (entriesIn y (now (region .entry))))) ⌝ }
+// Whether an entry is live and its state, name and GUID came before. They are looked for only where that may be.
+pub(crate) fn is_doubled(y: Layout, region: &[u8], at: usize, e: Entry, suspect: bool) -> bool
+    ensures { λ r. ⌜ r ≡ (suspect && doubledIn (entryAs y (now (region .entry)) at e) (upTo at (entriesIn y (now (region .entry))))) ⌝ }
 {
-    if marks::is_noted(noted, sign) {
+    if suspect {
         if is_live(e.state) {
             let name = walk::name_of_in(y, region, at, e);
             let vendor = walk::vendor_of_in(y, region, at);
@@ -236,7 +241,7 @@ fn usual_at(y: Layout, region: &[u8], last: usize, at: usize) -> Usual
 }
 
 // The answer where an entry is not sound, or its name is doubled.
-fn unsound() -> Scan
+pub(crate) fn unsound() -> Scan
     ensures { λ r. ⌜ r ≡ record { sound = false; tail = 0 } ⌝ }
 {
     Scan {
@@ -245,13 +250,46 @@ fn unsound() -> Scan
     }
 }
 
+// What is left of WALKED once an entry that may be doubled, and is live, is looked for among those before it.
+fn left_after(left: usize, at: usize, e: Entry, suspect: bool) -> usize {
+    if suspect {
+        if is_live(e.state) {
+            if left < at {
+                return 0;
+            }
+            return left - at;
+        }
+    }
+    left
+}
+
+// The answers of the pass by marks where the region is not sound, and where it gives up.
+fn wrong() -> Pass
+    ensures { λ r. ⌜ r .scan ≡ record { sound = false; tail = 0 } ⌝ }
+{
+    Pass {
+        known: true,
+        scan: unsound(),
+    }
+}
+
+fn given_up() -> Pass
+    ensures { λ r. ⌜ r .known ≡ false ⌝ }
+{
+    Pass {
+        known: false,
+        scan: unsound(),
+    }
+}
+
 // One pass over the entries: each is sound by itself, and no name with its GUID has two 3F or two 3E entries. An entry whose mark is not noted is the first of its
-// name. The inner loop passes usual entries whose marks are not noted, as nearly all are; at any other it stops, and the code after it judges that one.
-fn scan(y: Layout, region: &[u8]) -> Scan
-    ensures { λ r. ⌜ r ≡ scanOf y (now (region .entry)) ⌝ }
+// name. After too many looks among the entries before it gives up. The inner loop passes usual entries whose marks are not noted, as nearly all are; at any other it stops, and the code after it judges that one.
+fn scan_by_marks(y: Layout, region: &[u8]) -> Pass
+    ensures { λ r. ⌜ (r .known ≡ true → r .scan ≡ scanOf y (now (region .entry))) ⌝ }
 {
     let last = last_header(y, region);
     let mut noted = marks::no_marks();
+    let mut left = WALKED;
     let mut at: usize = layout::REGION_HEADER;
     loop {
         loop {
@@ -277,23 +315,42 @@ fn scan(y: Layout, region: &[u8]) -> Scan
         }
         let t = walk::turn_in(y, region, at);
         let Turn::Entry(e, next) = t else {
-            return Scan {
-                sound: true,
-                tail: at,
+            return Pass {
+                known: true,
+                scan: Scan {
+                    sound: true,
+                    tail: at,
+                },
             };
         };
         if !entry_sound(y, &region[at..], e) {
-            return unsound();
+            return wrong();
         }
         let m = marks::mark_of(y, &region[at..], e);
         let i = m.place;
         let old = noted[i];
-        if is_doubled(y, region, at, e, old, m.sign) {
-            return unsound();
+        let suspect = marks::is_noted(old, m.sign);
+        left = left_after(left, at, e, suspect);
+        if left == 0 {
+            return given_up();
+        }
+        if is_doubled(y, region, at, e, suspect) {
+            return wrong();
         }
         noted[i] = marks::note(old, m.sign);
         at = next;
     }
+}
+
+// What one pass over the entries finds.
+fn scan(y: Layout, region: &[u8]) -> Scan
+    ensures { λ r. ⌜ r ≡ scanOf y (now (region .entry)) ⌝ }
+{
+    let p = scan_by_marks(y, region);
+    if p.known {
+        return p.scan;
+    }
+    sorted::scan_sorted(y, region)
 }
 
 // Whether the region is sound and clean, and where its tail begins.

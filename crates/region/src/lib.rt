@@ -3,6 +3,7 @@ use layout::Entry;
 
 pub mod judge;
 mod marks;
+mod sorted;
 pub mod walk;
 
 // What a turn of the walk finds at an offset: an entry's numbers and the offset of the next entry, or the end.
@@ -15,6 +16,12 @@ pub enum Turn {
 pub struct Scan {
     pub sound: bool,
     pub tail: usize,
+}
+
+// What a pass by marks finds, if it does not give up.
+pub struct Pass {
+    pub known: bool,
+    pub scan: Scan,
 }
 
 // Whether a region is sound, whether it is clean, and where the tail of a sound one begins (else 0).

@@ -13,7 +13,7 @@ use Rattle.model.proofs.Walking.{entries-from}
 use Rattle.region.specs.Marks.{upTo}
 use Rattle.region.proofs.Turns.{at-entry, at-end}
 use Rattle.region.proofs.Scanning.{any-next, any-here}
-use Rattle.region.proofs.Marked.{up-next, up-none, up-past}
+use Rattle.region.proofs.Passing.{up-next, up-none, up-past}
 use borrow.Author.Needs.{needs}
 use Rattle.region.proofs.judge.came_before.Statement.{statement}
 use Rattle.region.proofs.judge.came_before.Tie as tie

@@ -1,4 +1,4 @@
--- `region::judge::is_doubled` meets its contract: a live entry whose mark is noted is looked for under its own name and GUID among those before it.
+-- `region::judge::is_doubled` meets its contract: a live entry that may be doubled is looked for under its own name and GUID among those before it.
 -- Assumes nothing.
 use Prim.Native.Nat.{ℕ}
 use mathlib.Core.Path.{sym, ap₂, _∙_}
@@ -16,10 +16,10 @@ use Rattle.region.proofs.judge.is_doubled.Tie as tie
 returns : tie.Need-returns
 returns c =
     let b = c .before .before .before .before .before in
-    let a = b .before .before .before .args in
+    let a = b .before .before .args in
     let r = now (a .region) in
     let old = upTo (a .at) (entriesIn (a .y) r) in
-    rw (sym (b .before .is-noted .ensures) ∙ b .if1 .taken)
+    rw (b .if1 .taken)
     (c .came-before .ensures
     ∙ ap₂ (λ (name vendor : List ℕ). any (isEntry (a .e .state) (keyed name vendor)) old) (c .before .before .name-of-in .ensures)
     (c .before .vendor-of-in .ensures)
@@ -28,19 +28,18 @@ returns c =
 returns-2 : tie.Need-returns-2
 returns-2 c =
     let b = c .before .before in
-    let a = b .before .before .before .args in
+    let a = b .before .before .args in
     let r = now (a .region) in
-    rw (sym (b .before .is-noted .ensures) ∙ b .if1 .taken)
+    rw (b .if1 .taken)
     (sym (doubled-dead (a .y) r (a .at) (a .e) (upTo (a .at) (entriesIn (a .y) r)) (sym (c .before .is-live .ensures) ∙ c .if2 .left)))
 
 returns-3 : tie.Need-returns-3
-returns-3 c = rw (sym (c .before .is-noted .ensures) ∙ c .if1 .left)
+returns-3 c = rw (c .if1 .left)
 
 pub is-doubled-spec : {M : Type 1} → statement M
 is-doubled-spec =
     tie.close
     (tie.spec
-    (λ c κs. search needs)
     (λ c κs. search needs)
     (λ c κs. search needs)
     (λ c κs. search needs)
