@@ -2,14 +2,14 @@
 //! copied back and a buffer cleared before each turn, which is not measured.
 //!
 //!     bench                              wall time, the best of many alternating turns
-//!     bench names                        each case and its number of turns, for tools/bench
+//!     bench names                        each case, its number of turns, and whether it is one of a growing row, for tools/bench
 //!     bench bench-one NAME SIDE COUNT    prepares all turns of a case and makes the first COUNT; what two counts differ by is the calls alone
 
 use std::env;
 use std::hint::black_box;
 use std::time::{Duration, Instant};
 
-use varstore::calls::{Calls, ENGINE, PAPER};
+use varstore::calls::{lent, Calls, ENGINE, PAPER};
 use varstore::interface::{Answer, Context, Guid, Key, Request, Rule, Session, Setup};
 use varstore::paper::entry::{self, Contents, GONE, STATE};
 use varstore::paper::layout::Authenticated;
@@ -18,6 +18,8 @@ use varstore::paper::region;
 const BLOCK: usize = 4096;
 const VENDOR: Guid = [1, 2, 3, 4, 5, 6, 7, 8, 9, 10, 11, 12, 13, 14, 15, 16];
 const NONE: Variable = (Vec::new(), VENDOR);
+/// How many values a region of seven blocks has in the rows that grow.
+const COUNTS: [usize; 4] = [25, 50, 100, 200];
 const BEGIN: Key = Key { name: &[0, 0], vendor: &VENDOR };
 
 /// A name with its GUID.
@@ -25,6 +27,7 @@ type Variable = (Vec<u8>, Guid);
 
 /// What a turn works on: the variable is the one that it gets or sets.
 struct Desk {
+    context: Context,
     session: Session,
     variable: Variable,
     image: Vec<u8>,
@@ -32,17 +35,26 @@ struct Desk {
 }
 
 struct Case {
-    name: &'static str,
+    name: String,
     variable: Variable,
     image: Vec<u8>,
+    width: u32,
     turns: usize,
+    /// One of a row of cases that grow: its instructions are counted, and compared with those of the others.
+    grows: bool,
     turn: fn(&Calls, &mut Desk) -> Answer,
     expected: Answer,
 }
 
 impl Case {
     fn desk(&self) -> Desk {
-        Desk { session: (PAPER.session_new)(&Setup::PLAIN), variable: self.variable.clone(), image: self.image.clone(), buffer: [0; 2048] }
+        Desk {
+            context: Context::NO_LIMIT.paged(self.width),
+            session: (PAPER.session_new)(&Setup::PLAIN),
+            variable: self.variable.clone(),
+            image: self.image.clone(),
+            buffer: [0; 2048],
+        }
     }
 
     fn prepare(&self, desk: &mut Desk) {
@@ -94,6 +106,11 @@ fn numbered(index: usize) -> Variable {
     (name(&format!("SET{index:04}")), VENDOR)
 }
 
+/// Long names of one front and one end, as people give them.
+fn station(index: usize) -> Variable {
+    (name(&format!("Station{index:03}TriggerThresholdLevel")), VENDOR)
+}
+
 /// The smallest name of a number.
 fn single(index: usize) -> Variable {
     (name(char::from_u32(1 + index as u32).expect("a small number").encode_utf8(&mut [0; 4])), VENDOR)
@@ -124,18 +141,23 @@ fn image(mut region: Vec<u8>, blocks: usize) -> Vec<u8> {
     region
 }
 
-/// A region of b blocks with values of 50 bytes, 128 bytes an entry.
-fn region_of(blocks: usize, count: usize) -> Vec<u8> {
+/// A region of b blocks with values of so many bytes.
+fn region_with(blocks: usize, count: usize, variable: fn(usize) -> Variable, size: usize) -> Vec<u8> {
     let mut region = region::header::<Authenticated>(BLOCK * blocks).to_vec();
-    (0..count).for_each(|index| put(&mut region, &numbered(index), &[index as u8; 50]));
+    (0..count).for_each(|index| put(&mut region, &variable(index), &vec![index as u8; size]));
     region
 }
 
-/// Seven blocks full of values of one byte, and the last of these variables.
-fn full_of(variables: impl Fn(usize) -> Variable) -> (Vec<u8>, Variable) {
-    let (mut region, mut last) = (region_of(7, 0), NONE);
+/// The same of numbered names and 50 bytes, 128 bytes an entry.
+fn region_of(blocks: usize, count: usize) -> Vec<u8> {
+    region_with(blocks, count, numbered, 50)
+}
+
+/// A region of b blocks full of values of one byte, and the last of these variables.
+fn full_of(blocks: usize, variables: impl Fn(usize) -> Variable) -> (Vec<u8>, Variable) {
+    let (mut region, mut last) = (region_of(blocks, 0), NONE);
     for variable in (0..).map(variables) {
-        if region.len() + (60 + variable.0.len() + 1).next_multiple_of(4) > 7 * BLOCK {
+        if region.len() + (60 + variable.0.len() + 1).next_multiple_of(4) > blocks * BLOCK {
             break;
         }
         put(&mut region, &variable, &[1]);
@@ -157,27 +179,31 @@ fn crowded(count: usize) -> Vec<u8> {
 
 fn get(calls: &Calls, desk: &mut Desk) -> Answer {
     let key = Key { name: &desk.variable.0, vendor: &desk.variable.1 };
-    (calls.get)(Context::NO_LIMIT, &desk.session, &desk.image, key, &mut desk.buffer).answer
+    (calls.get)(desk.context, &desk.session, &desk.image, key, &mut desk.buffer).answer
 }
 
 fn check(calls: &Calls, desk: &mut Desk) -> Answer {
     (calls.check)(&desk.image).answer
 }
 
+fn start(calls: &Calls, desk: &mut Desk) -> Answer {
+    (calls.start_up)(desk.context, &mut desk.image, &Setup::PLAIN).answer
+}
+
 /// Replaces a value by another of the same length.
 fn replace(calls: &Calls, desk: &mut Desk) -> Answer {
     let key = Key { name: &desk.variable.0, vendor: &desk.variable.1 };
     let request = Request { key, attributes: 0x07, data: &[0x5A; 50], presence: 0, verdict: 0 };
-    (calls.set)(Context::NO_LIMIT, &desk.session, &mut desk.image, &request)
+    (calls.set)(desk.context, &desk.session, &mut desk.image, &request)
 }
 
 /// Next-name from the first to the end.
 fn names(calls: &Calls, desk: &mut Desk) -> Answer {
     let (mut last, mut size) = ([0; 144], 0);
-    let Desk { session, image, buffer, .. } = desk;
+    let Desk { context, session, image, buffer, .. } = desk;
     loop {
         let key = if size == 0 { BEGIN } else { Key { name: &last[16..size], vendor: &VENDOR } };
-        let reply = (calls.next_name)(Context::NO_LIMIT, session, image, key, &mut buffer[..144]);
+        let reply = (calls.next_name)(*context, session, image, key, &mut buffer[..144]);
         if reply.answer != Answer::Done(0) {
             return reply.answer;
         }
@@ -186,32 +212,70 @@ fn names(calls: &Calls, desk: &mut Desk) -> Answer {
     }
 }
 
+fn case(
+    name: impl Into<String>,
+    variable: Variable,
+    region: Vec<u8>,
+    blocks: usize,
+    turns: usize,
+    turn: fn(&Calls, &mut Desk) -> Answer,
+    expected: Answer,
+) -> Case {
+    Case { name: name.into(), variable, image: image(region, blocks), width: 1, turns, grows: false, turn, expected }
+}
+
+/// Full regions of one to seven blocks; more and more values in seven blocks.
+fn growing() -> Vec<Case> {
+    let mut cases = Vec::new();
+    for blocks in 1..=7 {
+        let (region, last) = full_of(blocks, single);
+        cases.push(case(format!("get the last, b = {blocks}, full"), last, region, blocks, 5, get, Answer::Done(0)));
+    }
+    for count in COUNTS {
+        cases.push(case(format!("get the last of {count}"), numbered(count - 1), region_of(7, count), 7, 10, get, Answer::Done(0)));
+    }
+    for count in COUNTS {
+        cases.push(case(format!("set in the tail, {count}"), numbered(0), region_of(7, count), 7, 10, replace, Answer::Done(129)));
+    }
+    cases.into_iter().map(|case| Case { grows: true, ..case }).collect()
+}
+
 fn cases() -> Vec<Case> {
     let done = Answer::Done;
     let end = Answer::Refused(Rule::Absent);
-    let case = |name, variable, region, blocks, turns, turn, expected| Case { name, variable, image: image(region, blocks), turns, turn, expected };
-    let (smallest, last) = full_of(single);
-    let (alike63, last63) = full_of(|index| alike(index, 63));
-    let (alike17, last17) = full_of(|index| alike(index, 17));
-    let (under, last_under) = full_of(alike_under);
-    vec![
+    let (smallest, last) = full_of(7, single);
+    let (alike63, last63) = full_of(7, |index| alike(index, 63));
+    let (alike17, last17) = full_of(7, |index| alike(index, 17));
+    let (under, last_under) = full_of(7, alike_under);
+    let paged = |name, width, stores| Case { width, ..case(name, numbered(0), crowded(204), 7, 5, replace, done(stores)) };
+    let mut cases = vec![
         case("get the last of 200 values", numbered(199), region_of(7, 200), 7, 20, get, done(0)),
         case("get the last of 421 smallest", last, smallest.clone(), 7, 5, get, done(0)),
-        case("check 421 smallest entries", NONE, smallest, 7, 5, check, done(0)),
-        case("replace in the tail, b = 1", numbered(0), region_of(1, 20), 1, 50, replace, done(129)),
+        case("next-name over 200, 201 calls", NONE, region_of(7, 200), 7, 2, names, end),
         case("set in the tail, 200 values", numbered(0), region_of(7, 200), 7, 20, replace, done(129)),
         case("compact seven blocks, 204", numbered(0), crowded(204), 7, 5, replace, done(57361)),
-        case("next-name over 200 values", NONE, region_of(7, 200), 7, 2, names, end),
-        case("get, all marks equal, 149", last63, alike63, 7, 2, get, done(0)),
-        case("get, all marks equal, 286", last17, alike17, 7, 2, get, done(0)),
-        case("get, all marks equal, 421", last_under, under, 7, 2, get, done(0)),
-    ]
+        paged("compact, 204, w = 2", 2, 28689),
+        paged("compact, 204, w = 16", 16, 3601),
+        case("replace in the tail, b = 1", numbered(0), region_of(1, 20), 1, 50, replace, done(129)),
+        case("check 200 values", NONE, region_of(7, 200), 7, 20, check, done(0)),
+        case("check 421 smallest", NONE, smallest, 7, 5, check, done(0)),
+        case("start-up, nothing to do, 200", NONE, region_of(7, 200), 7, 20, start, done(0)),
+        case("get of 200 long station names", station(199), region_with(7, 200, station, 10), 7, 5, get, done(0)),
+        case("get, marks equal, 149 names", last63, alike63, 7, 2, get, done(0)),
+        case("get, marks equal, 286 names", last17, alike17, 7, 2, get, done(0)),
+        case("get, marks equal, 421 GUIDs", last_under, under, 7, 2, get, done(0)),
+    ];
+    cases.extend(growing());
+    cases
 }
 
 fn wall() {
     println!("{:<30}{:>12}{:>12}{:>8}", "best wall time, µs", "engine", "paper", "ratio");
     for case in cases() {
         case.check();
+        if case.grows {
+            continue;
+        }
         let [engine, paper] = case.best().map(|time| time.as_secs_f64() * 1e6);
         println!("{:<30}{engine:>12.2}{paper:>12.2}{:>8.2}", case.name, engine / paper);
     }
@@ -222,6 +286,7 @@ fn one(wanted: &str, side: &str, count: usize) {
     let calls = [ENGINE, PAPER].into_iter().find(|calls| calls.who == side).expect("engine or paper");
     assert!(count <= case.turns, "{wanted} has {} turns", case.turns);
     let mut desk = case.desk();
+    lent(|content| black_box(content.len())); // which makes it, once
     for turn in 0..case.turns {
         case.prepare(&mut desk);
         if turn < count {
@@ -235,7 +300,7 @@ fn main() {
     let words: Vec<&str> = arguments.iter().map(String::as_str).collect();
     match words[..] {
         [] => wall(),
-        ["names"] => cases().iter().for_each(|case| println!("{}\t{}", case.turns, case.name)),
+        ["names"] => cases().iter().for_each(|case| println!("{}\t{}\t{}", case.turns, case.grows, case.name)),
         ["bench-one", name, side, count] => one(name, side, count.parse().expect("a number of turns")),
         _ => panic!("bench, bench names, or bench bench-one NAME SIDE COUNT"),
     }
