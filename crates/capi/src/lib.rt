@@ -1,4 +1,5 @@
-// The C interface: every exported function, thin over the engine and the move. Numbers and structs of numbers cross, no enum; c/varstore.h documents them.
+// The C interface: every exported function, thin over the engine and the move: the parts of the session that a call needs, one call, and its answer in numbers. Numbers
+// and structs of numbers cross, no enum; c/varstore.h documents them.
 ghost use mathlib.Core.Path.{_≡_};
 ghost use Rattle.model.specs.Layout.{authenticated, plain};
 ghost use Rattle.model.specs.Name.{keyed};
@@ -15,6 +16,7 @@ ghost use Rattle.plan.specs.Planned.{Kept};
 ghost use Rattle.plan.specs.Told.{Told};
 ghost use Rattle.plan.specs.Numbers.{Numbered};
 ghost use Rattle.capi.specs.Numbers.{numbersOf, checkedOf};
+use decision::Asking;
 use image::Check;
 use model::Answer;
 use model::Context;
@@ -148,7 +150,8 @@ pub extern "C" fn vs_get(
         (getReply session (keyed (now (name .entry)) (now (vendor .entry))) (now (buffer .entry)) (now (image .entry)))
         (r .size) (r .attributes) (r .needed) (now (buffer .exit)) ⌝ }
 {
-    let g = engine::read::get(context, session, image, name, vendor, buffer);
+    let view = session::view(session.phase);
+    let g = engine::read::get(context, view, image, name, vendor, buffer);
     let answer = g.answer;
     Reply {
         answer: numbers(answer),
@@ -175,7 +178,8 @@ pub extern "C" fn vs_next_name(
         (nextReply session (keyed (now (name .entry)) (now (vendor .entry))) (now (buffer .entry)) (now (image .entry)))
         (r .size) (r .attributes) (r .needed) (now (buffer .exit)) ⌝ }
 {
-    let g = engine::read::next_name(context, session, image, name, vendor, buffer);
+    let view = session::view(session.phase);
+    let g = engine::read::next_name(context, view, image, name, vendor, buffer);
     let answer = g.answer;
     Reply {
         answer: numbers(answer),
@@ -211,16 +215,37 @@ pub extern "C" fn vs_set(
         (now (content .entry))
         (now (content .exit)) ⌝ }
 {
+    let sizes = session.sizes;
+    let barred = session::is_barred(
+        session.phase,
+        session.count,
+        sizes,
+        &session.locks,
+        name,
+        vendor,
+    );
+    let terms = session::terms(
+        session.phase,
+        session.setup.custom,
+        session.setup.reserve,
+        session.setup.records,
+        session.setup.rules,
+        barred,
+    );
+    let asking = Asking {
+        attributes,
+        presence,
+        verdict,
+    };
     let answer = engine::write::set(
         context,
-        session,
+        terms,
+        &session.setup.limits,
         image,
         name,
         vendor,
-        attributes,
+        asking,
         bytes,
-        presence,
-        verdict,
         content,
     );
     numbers(answer)
@@ -252,9 +277,8 @@ pub extern "C" fn vs_start_up(
         × (now (image .exit) ≡ imageAfter context (startUpPlan (now (image .entry))) (now (image .entry)))
         × Kept (startUpPlan (now (image .entry))) (now (content .entry)) (now (content .exit)) ⌝ }
 {
-    let started = engine::start::start_up(context, image, setup, content);
-    let answer = started.answer;
-    let session = started.session;
+    let answer = engine::start::start_up(context, image, content);
+    let session = Session::fresh(setup);
     Started {
         answer: numbers(answer),
         session,
@@ -289,15 +313,36 @@ pub extern "C" fn vs_plan_set(
         (now (content .exit))
         r ⌝ }
 {
+    let sizes = session.sizes;
+    let barred = session::is_barred(
+        session.phase,
+        session.count,
+        sizes,
+        &session.locks,
+        name,
+        vendor,
+    );
+    let terms = session::terms(
+        session.phase,
+        session.setup.custom,
+        session.setup.reserve,
+        session.setup.records,
+        session.setup.rules,
+        barred,
+    );
+    let asking = Asking {
+        attributes,
+        presence,
+        verdict,
+    };
     let planned = engine::write::plan_set(
-        session,
+        terms,
+        &session.setup.limits,
         image,
         name,
         vendor,
-        attributes,
+        asking,
         bytes,
-        presence,
-        verdict,
         content,
     );
     plan::in_numbers(planned)

@@ -73,27 +73,3 @@ pub(crate) fn addresses(s: &[u8], at: usize) -> [u32; 16] {
     }
     list
 }
-
-// Eight numbers of four bytes.
-pub(crate) fn numbers(s: &[u8], at: usize) -> [u32; 8] {
-    let field = slices::cut(s, at, 32);
-    let mut list = [0u32; 8];
-    let mut i = 0;
-    while i < 8 {
-        list[i] = long(field, 4 * i) as u32;
-        i += 1;
-    }
-    list
-}
-
-// A name with zeros behind it.
-pub(crate) fn name(s: &[u8], at: usize) -> [u8; 128] {
-    let field = slices::cut(s, at, 128);
-    let mut place = [0u8; 128];
-    let mut i = 0;
-    while i < 128 {
-        place[i] = byte(field, i);
-        i += 1;
-    }
-    place
-}

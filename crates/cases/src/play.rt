@@ -27,6 +27,7 @@ ghost use Rattle.io.specs.Counts.{Counts};
 use crate::fields;
 use crate::print;
 use crate::rules;
+use decision::Asking;
 use model::Answer;
 use model::Context;
 use model::Got;
@@ -34,6 +35,7 @@ use model::Layout;
 use model::Named;
 use model::Session;
 use model::Setup;
+use model::Terms;
 
 // What is carried from a step to the next: the session, the last step's context for its dead bytes and its page, and what start-ups are given for its rules.
 struct Carried {
@@ -98,27 +100,49 @@ fn start_up(c: Context, step: &[u8], image: &mut [u8], ruled: Setup) -> Session 
     setup.reserve = fields::long(step, 6) as u32;
     setup.records = fields::long(step, 10) as u32;
     let mut content = content();
-    let started = engine::start::start_up(c, image, setup, &mut content);
-    let answer = started.answer;
-    print_answer(b"start-up", answer);
-    started.session
+    print_answer(b"start-up", engine::start::start_up(c, image, &mut content));
+    Session::fresh(setup)
+}
+
+// What a session says to a set of a name.
+fn terms(s: Session, name: &[u8], vendor: &[u8; 16]) -> Terms {
+    let sizes = s.sizes;
+    let barred = session::is_barred(s.phase, s.count, sizes, &s.locks, name, vendor);
+    session::terms(
+        s.phase,
+        s.setup.custom,
+        s.setup.reserve,
+        s.setup.records,
+        s.setup.rules,
+        barred,
+    )
+}
+
+// The numbers of a set.
+fn asking(step: &[u8]) -> Asking {
+    Asking {
+        attributes: fields::long(step, 5) as u32,
+        presence: fields::byte(step, 9) as u32,
+        verdict: fields::byte(step, 10) as u32,
+    }
 }
 
 fn set(c: Context, step: &[u8], image: &mut [u8], s: Session) {
     let vendor = fields::vendor(step, 11);
     let size = fields::short(step, 27);
-    let attributes = fields::long(step, 5) as u32;
+    let name = slices::cut(step, 33, size);
+    let bytes = slices::cut(step, 33 + size, fields::long(step, 29));
+    let terms = terms(s, name, &vendor);
     let mut content = content();
     let answer = engine::write::set(
         c,
-        s,
+        terms,
+        &s.setup.limits,
         image,
-        slices::cut(step, 33, size),
+        name,
         &vendor,
-        attributes,
-        slices::cut(step, 33 + size, fields::long(step, 29)),
-        fields::byte(step, 9) as u32,
-        fields::byte(step, 10) as u32,
+        asking(step),
+        bytes,
         &mut content,
     );
     print_answer(b"set", answer);
@@ -146,7 +170,7 @@ fn buffer_size(step: &[u8], space: &[u8]) -> usize
 fn got_into(c: Context, step: &[u8], image: &[u8], s: Session, buffer: &mut [u8]) -> Got {
     let vendor = fields::vendor(step, 7);
     let name = slices::cut(step, 25, fields::short(step, 23));
-    engine::read::get(c, s, image, name, &vendor, buffer)
+    engine::read::get(c, session::view(s.phase), image, name, &vendor, buffer)
 }
 
 fn get(c: Context, step: &[u8], image: &[u8], s: Session, space: &mut [u8]) {
@@ -169,7 +193,7 @@ fn print_named(named: Named, buffer: &[u8]) {
 fn named_into(c: Context, step: &[u8], image: &[u8], s: Session, buffer: &mut [u8]) -> Named {
     let vendor = fields::vendor(step, 7);
     let name = slices::cut(step, 25, fields::short(step, 23));
-    engine::read::next_name(c, s, image, name, &vendor, buffer)
+    engine::read::next_name(c, session::view(s.phase), image, name, &vendor, buffer)
 }
 
 fn next_name(c: Context, step: &[u8], image: &[u8], s: Session, space: &mut [u8]) {

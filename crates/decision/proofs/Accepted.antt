@@ -10,8 +10,6 @@ use mathlib.Core.List.{List, [], _∷_, _++_, append-assoc}
 use mathlib.Core.Option.{Option, none, some}
 use lib.ListN.{length}
 use borrow.Author.Tests.{ltb-false}
-use Rattle.model.specs.declared.Limit.{Limit}
-use Rattle.model.specs.declared.Session.{Session}
 use Rattle.model.specs.declared.Terms.{Terms}
 use Rattle.model.specs.declared.Rule.{Rule}
 use Rattle.model.specs.Lists.{orElse}
@@ -19,11 +17,11 @@ use Rattle.model.specs.Image.{regionSize}
 use Rattle.model.specs.Entry.{Value}
 use Rattle.model.specs.Region.{maxData, valuesOf, find}
 use Rattle.model.specs.Request.{Request, requestKey}
-use Rattle.model.specs.Limits.{limitsFor}
+use Rattle.model.specs.Limits.{Limit}
 use Rattle.model.specs.Change.{Change, nothing, remove, put, newValue, changeOf, changeIn}
-use Rattle.model.specs.Rules.{firstBroken, rule8, rule12, termsOf, imageRules, requestRules, standingRules, resultRules, itemRules, settingRules, roomRules, setBroken}
+use Rattle.model.specs.Rules.{firstBroken, rule8, rule12, imageRules, requestRules, standingRules, resultRules, itemRules, settingRules, roomRules}
 use Rattle.model.proofs.Looking.{change-cases}
-use Rattle.model.proofs.Requests.{broken-append, unbroken}
+use Rattle.model.proofs.Requests.{broken-append, unbroken, setRules}
 use Rattle.decision.specs.declared.Decision.{Decision}
 use Rattle.decision.specs.declared.Decision.the-variants.{Nothing, Remove, Put}
 use Rattle.decision.specs.Decision.{kindOf, decided, itemOf, decisionOf, brokenOf}
@@ -37,15 +35,14 @@ named-rule none (remove k) = refl
 named-rule none (put v) = refl
 
 -- the first broken rule of a set over an image that breaks neither 1 nor 2: with it the model's laws on a set that breaks none apply
-pub set-broken : (s : Session) (q : Request) (img : List ℕ) → firstBroken (imageRules img) ≡ none
-    → setBroken s q img ≡ brokenOf (decisionOf (limitsFor (s .setup) (requestKey q)) (termsOf s (requestKey q)) q (regionSize img) (valuesOf img))
-unfolding setBroken decisionOf
-set-broken s q img h =
-    let t : Terms = termsOf s (requestKey q) in
+pub rules-broken : (t : Terms) (ls : List Limit) (q : Request) (img : List ℕ) → firstBroken (imageRules img) ≡ none
+    → firstBroken (setRules t ls q img) ≡ brokenOf (decisionOf ls t q (regionSize img) (valuesOf img))
+unfolding decisionOf
+rules-broken t ls q img h =
     let vs : List Value = valuesOf img in
     let i : List (Rule × Bool) = imageRules img in
     let a : List (Rule × Bool) = itemRules t q vs in
-    let b : List (Rule × Bool) = settingRules (limitsFor (s .setup) (requestKey q)) q (find (requestKey q) vs) in
+    let b : List (Rule × Bool) = settingRules ls q (find (requestKey q) vs) in
     let d : List (Rule × Bool) = roomRules t (regionSize img) (changeIn q vs ∷ []) vs in
     ap firstBroken (ap (λ (xs : List (Rule × Bool)). xs ++ d) (append-assoc i a b) ∙ append-assoc i (a ++ b) d)
     ∙ broken-append i (a ++ b ++ d)

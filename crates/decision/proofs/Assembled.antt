@@ -11,7 +11,6 @@ use mathlib.Core.Option.{Option, none, some}
 use lib.ListN.{length, drop, length-append}
 use lib.Dec.{ltb}
 use Rattle.model.specs.Layout.{authenticated}
-use Rattle.model.specs.declared.Limit.{Limit}
 use Rattle.model.specs.declared.Terms.{Terms}
 use Rattle.model.specs.declared.Rule.{Rule}
 use Rattle.model.specs.declared.Rule.the-variants.{Standing, Descriptor, Verdict, Stamp, Absent, DataSize, Setting}
@@ -23,6 +22,7 @@ use Rattle.model.specs.Region.{maxData, recordBit, sound, entries, values, stan
 use Rattle.model.specs.Request.{Request, requestKey, timeBased, appends, withoutAppend, keyPK, userMode, wantedVerdicts, properAt, dataProper, stampToStore, later}
 use Rattle.model.specs.Change.{Change, nothing, remove, put, deletes, emptyAppend, equalTo, newData, laterOf, newStamp, newValue, changeOf, changeIn, step, steps, entrySizes, isErrorRecord, recordSizes, otherSizes}
 use Rattle.model.specs.Rules.{firstBroken, rule7, rule8, rule9, rule10, rule11, rule12, rule13, rule18, rule21, wantedOf, requestRules, standingRules, resultRules, itemRules, settingRules, roomRules}
+use Rattle.model.specs.Limits.{Limit}
 use Rattle.model.proofs.Looking.{change-cases}
 use Rattle.model.proofs.Requests.{broken-append, unbroken, record-append}
 use Rattle.model.proofs.Chunks.{sound-parts}

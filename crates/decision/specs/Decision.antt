@@ -2,7 +2,6 @@
 use Prim.Native.Nat.{ℕ}
 use mathlib.Core.List.{List, [], _∷_, _++_}
 use mathlib.Core.Option.{Option, none, some}
-use Rattle.model.specs.declared.Limit.{Limit}
 use Rattle.model.specs.declared.Terms.{Terms}
 use Rattle.model.specs.declared.Rule.{Rule}
 use Rattle.model.specs.Lists.{onSome}
@@ -11,6 +10,7 @@ use Rattle.model.specs.Region.{find}
 use Rattle.model.specs.Request.{Request, requestKey}
 use Rattle.model.specs.Change.{Change, nothing, remove, put, changeIn}
 use Rattle.model.specs.Rules.{firstBroken, itemRules, settingRules, roomRules}
+use Rattle.model.specs.Limits.{Limit}
 use Rattle.decision.specs.declared.Decision.{Decision}
 use Rattle.decision.specs.declared.Decision.the-variants.{Broken, Nothing, Remove, Put}
 

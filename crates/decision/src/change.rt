@@ -8,7 +8,7 @@ ghost use Rattle.model.specs.Name.{keyed};
 ghost use Rattle.model.specs.Entry.{headerSize, rounded};
 ghost use Rattle.model.specs.Region.{recordBit, entries, values, tailAt};
 ghost use Rattle.model.specs.Request.{timeBased, appends, withoutAppend, properAt};
-ghost use Rattle.model.specs.Limits.{limitsFor};
+ghost use Rattle.model.specs.Limits.{limitsIn};
 ghost use Rattle.model.specs.Change.{recordSizes, otherSizes};
 ghost use Rattle.model.specs.Rules.{firstBroken};
 ghost use Rattle.limits.specs.Broken.{brokenBy};
@@ -20,7 +20,6 @@ use crate::Judged;
 use crate::NewValue;
 use model::Layout;
 use model::Rule;
-use model::Setup;
 use model::Terms;
 use region::walk;
 use values::Found;
@@ -136,7 +135,8 @@ fn leaves(old: Found, attributes: u32, size: usize) -> bool
 
 // Whether a set breaks one of the rules for its name. Without rules nothing is looked at.
 pub fn forbids(
-    u: Setup,
+    limits: &[u8],
+    rules: u32,
     old: Found,
     name: &[u8],
     vendor: &[u8; 16],
@@ -144,15 +144,16 @@ pub fn forbids(
     kept: &[u8],
     proper: &[u8],
 ) -> bool
-    ensures { λ r. ⌜ r ≡ brokenBy (limitsFor u (keyed (now (name .entry)) (now (vendor .entry))))
+    ensures { λ r. ⌜ r ≡ brokenBy (limitsIn (now (limits .entry)) rules (keyed (now (name .entry)) (now (vendor .entry))))
         (leavesBy old attributes (length (now (proper .entry))))
         (now (kept .entry) ++ now (proper .entry)) ⌝ }
 {
-    if u.rules == 0 {
+    if rules == 0 {
         return false;
     }
     limits::breaks(
-        u,
+        limits,
+        rules,
         name,
         vendor,
         leaves(old, attributes, proper.len()),

@@ -8,7 +8,7 @@ ghost use Rattle.model.specs.Lists.{isSome};
 ghost use Rattle.model.specs.Name.{keyed};
 ghost use Rattle.model.specs.Region.{sound, entries, values, tailAt, added, replacing, standing, find};
 ghost use Rattle.model.specs.Request.{keyPK, wantedVerdicts, properOf};
-ghost use Rattle.model.specs.Limits.{limitsFor};
+ghost use Rattle.model.specs.Limits.{limitsIn};
 ghost use Rattle.model.specs.Change.{newValue};
 ghost use Rattle.model.specs.Rules.{firstBroken};
 ghost use Rattle.values.specs.Found.{foundOf, elseFound, oldData};
@@ -16,7 +16,6 @@ ghost use Rattle.policy.specs.Descriptor.{stampOf};
 ghost use Rattle.decision.specs.Decision.{requestOf, itemOf, decisionOf};
 ghost use Rattle.decision.specs.Parts.{judgedOf, stands, standingBy, verdictBy, newSize, valueBy};
 use model::Rule;
-use model::Setup;
 use model::Terms;
 use values::Found;
 use values::Places;
@@ -142,10 +141,10 @@ fn judge(
     }
 }
 
-// What a set comes to, by what is there of its name. Whether 21 is broken is asked first, when the table of rules is copied once at most, and reported in its place.
+// What a set comes to, by what is there of its name. Whether 21 is broken is asked first, and reported in its place.
 fn decide_over(
-    u: Setup,
     t: Terms,
+    limits: &[u8],
     region: &[u8],
     tail: usize,
     old: Found,
@@ -158,14 +157,14 @@ fn decide_over(
     requires { ⌜ length (now region) ≤ 28672 ⌝ }
     requires { ⌜ (tail ≡ tailAt (now region)) × (tail ≤ length (now region)) ⌝ }
     requires { ⌜ old ≡ foundOf (standing (keyed (now name) (now vendor)) (entries (now region))) ⌝ }
-    ensures { λ r. ⌜ r ≡ decisionOf (limitsFor u (keyed (now (name .entry)) (now (vendor .entry)))) t
+    ensures { λ r. ⌜ r ≡ decisionOf (limitsIn (now (limits .entry)) (t .rules) (keyed (now (name .entry)) (now (vendor .entry)))) t
         (requestOf (now (name .entry)) (now (vendor .entry)) (asking .attributes) (now (bytes .entry)) (asking .presence) (asking .verdict))
         (length (now (region .entry))) (values (entries (now (region .entry)))) ⌝ }
 {
     let attributes = asking.attributes;
     let proper = policy::proper(attributes, bytes);
     let kept = change::kept_data(region, old, policy::appends(attributes));
-    let forbidden = change::forbids(u, old, name, vendor, attributes, kept, proper);
+    let forbidden = change::forbids(limits, t.rules, old, name, vendor, attributes, kept, proper);
     let size = kept.len() + proper.len();
     let item = judge(t, region, old, name, vendor, asking, bytes, proper, size);
     change::roomed(
@@ -182,8 +181,8 @@ fn decide_over(
 
 // The decision on a set, by the region and the offset of its tail: the first broken rule, or the change by numbers.
 pub fn decide(
-    u: Setup,
     t: Terms,
+    limits: &[u8],
     region: &[u8],
     tail: usize,
     name: &[u8],
@@ -194,7 +193,7 @@ pub fn decide(
     requires { ⌜ sound (now region) ≡ true ⌝ }
     requires { ⌜ length (now region) ≤ 28672 ⌝ }
     requires { ⌜ (tail ≡ tailAt (now region)) × (tail ≤ length (now region)) ⌝ }
-    ensures { λ r. ⌜ (r .what ≡ decisionOf (limitsFor u (keyed (now (name .entry)) (now (vendor .entry)))) t
+    ensures { λ r. ⌜ (r .what ≡ decisionOf (limitsIn (now (limits .entry)) (t .rules) (keyed (now (name .entry)) (now (vendor .entry)))) t
         (requestOf (now (name .entry)) (now (vendor .entry)) (asking .attributes) (now (bytes .entry)) (asking .presence) (asking .verdict))
         (length (now (region .entry))) (values (entries (now (region .entry)))))
         × (r .places .added ≡ foundOf (added (keyed (now (name .entry)) (now (vendor .entry))) (entries (now (region .entry)))))
@@ -207,7 +206,7 @@ pub fn decide(
 {
     let places = lookup::places(region, name, vendor);
     let old = lookup::standing(places);
-    let what = decide_over(u, t, region, tail, old, name, vendor, asking, bytes);
+    let what = decide_over(t, limits, region, tail, old, name, vendor, asking, bytes);
     let value = change::value(region, old, asking.attributes, bytes);
     Decided {
         what,

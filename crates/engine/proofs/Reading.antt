@@ -4,7 +4,7 @@
 use Prim.Native.Nat.{ℕ, _+_, _≤_}
 use native.Mathlib.Nat.{min-le-left}
 use native.Mathlib.Omega.{arith}
-use mathlib.Core.Path.{_≡_, refl, sym, ap, ap₂, subst, _∙_}
+use mathlib.Core.Path.{_≡_, refl, sym, ap, subst, _∙_}
 use mathlib.Core.Bool.{Bool, true, false}
 use mathlib.Core.List.{List, [], _∷_}
 use mathlib.Core.Option.{Option, none, some}
@@ -17,8 +17,8 @@ use Rattle.model.specs.Name.{Key, wellNamed}
 use Rattle.model.specs.Entry.{Value}
 use Rattle.model.specs.Walk.{Entry, entryValue, placed}
 use Rattle.model.specs.Region.{entries, values, valuesOf, valuesIn}
-use Rattle.model.specs.Session.{countedPhase, atRuntime}
-use Rattle.model.specs.Rules.{firstBroken, rule3, rule3Next, rule11Read, rule14, valueToGet, valueToName, gotBytes, namedBytes, getBroken, nextBroken}
+use Rattle.model.specs.Session.{atRuntime}
+use Rattle.model.specs.Rules.{firstBroken, viewOf, rule3, rule3Next, rule11Read, rule14, valueToGet, valueToName, gotBytes, namedBytes, getBroken, nextBroken}
 use Rattle.model.specs.Answers.{ruleNumber, refusal, written, done, refused, outcome, getReply, nextReply}
 use Rattle.model.specs.Beside.{Gives}
 use Rattle.model.specs.Book as book
@@ -27,6 +27,7 @@ use Rattle.recovery.specs.Interface.{Returned}
 use Rattle.recovery.proofs.Interface.{reading-image}
 use Rattle.model.specs.Set.{refuse, make}
 use Rattle.model.specs.declared.Session.{Session}
+use Rattle.model.specs.declared.View.{View}
 use Rattle.model.specs.declared.Context.{Context}
 use Rattle.model.specs.Stores.{stores, reach}
 use Rattle.model.proofs.Failing.{ended-done}
@@ -143,25 +144,30 @@ read-as img bytes attributes buffer {found} {found′} {named} {named′} {got} 
     (subst (λ (x : Bool). Read img found bytes attributes buffer x got after) n h)
 
 -- the region that was cut
-pub region-get : (s : Session) (k : Key) (img r : List ℕ) (runtime : Bool) → r ≡ region img → runtime ≡ eqb (countedPhase (s .phase)) 2
-    → valueToGet runtime k (values (entries r)) ≡ valueToGet (atRuntime s) k (valuesOf img)
-unfolding valuesIn atRuntime
-region-get s k img r runtime p q =
-    ap₂ (λ (t : Bool) (x : List ℕ). valueToGet t k (values (entries x))) q p
-
-pub region-name : (phase : ℕ) (k : Key) (img r : List ℕ) (runtime : Bool) → r ≡ region img → runtime ≡ eqb (countedPhase phase) 2
-    → valueToName runtime k (values (entries r)) ≡ nextAt phase k img
+pub region-get : (runtime : Bool) (k : Key) (img r : List ℕ) → r ≡ region img → valueToGet runtime k (values (entries r)) ≡ valueToGet runtime k (valuesOf img)
 unfolding valuesIn
-region-name phase k img r runtime p q = ap₂ (λ (t : Bool) (x : List ℕ). valueToName t k (values (entries x))) q p
+region-get runtime k img r p = ap (λ (x : List ℕ). valueToGet runtime k (values (entries x))) p
 
--- ---- whole calls
+pub region-name : (runtime : Bool) (k : Key) (img r : List ℕ) → r ≡ region img → valueToName runtime k (values (entries r)) ≡ nextAt runtime k img
+unfolding valuesIn
+region-name runtime k img r p = ap (λ (x : List ℕ). valueToName runtime k (values (entries x))) p
 
-pub get-answered : (x : Context) (s : Session) (k : Key) (buffer img : List ℕ) {got : Got} {after : List ℕ}
-    → Read img (valueToGet (atRuntime s) k (valuesOf img)) gotBytes (λ v. v .attributes) buffer (wellNamed (k .name)) got after
+-- ---- whole calls, of every session that says what they are given
+
+-- whether the phase is runtime
+said : (s : Session) {v : View} → viewOf s ≡ v → v .runtime ≡ atRuntime s
+unfolding viewOf
+said s e = sym (ap (λ (x : View). x .runtime) e)
+
+pub get-answered : (x : Context) (v : View) (k : Key) (buffer img : List ℕ) {got : Got} {after : List ℕ}
+    → Read img (valueToGet (v .runtime) k (valuesOf img)) gotBytes (λ v. v .attributes) buffer (wellNamed (k .name)) got after
+    → (s : Session) → viewOf s ≡ v
     → Returned (book.get s k buffer) x img img (got .answer)
     × Gives (getReply s k buffer img) (got .size) (got .attributes) (got .needed) after
 unfolding planOf getReply getBroken rule3 readBroken replyOf
-get-answered x s k buffer img h =
+get-answered x v k buffer img {got} {after} r s e =
+    let h : Read img (valueToGet (atRuntime s) k (valuesOf img)) gotBytes (λ v. v .attributes) buffer (wellNamed (k .name)) got after =
+    subst (λ (t : Bool). Read img (valueToGet t k (valuesOf img)) gotBytes (λ v. v .attributes) buffer (wellNamed (k .name)) got after) (said s e) r in
     ((h .answer ∙ sym (no-stores x (getBroken s k buffer img) img), sym (reading-image x (book.get s k buffer) img refl)), (h .size, h .attributes, h .needed, h .buffer))
 
 -- a name has no attributes
@@ -175,10 +181,13 @@ no-attributes s k buffer img = go (nextBroken s k buffer img) (valueToName (atRu
     go none (some w) = refl
     go none none = refl
 
-pub next-answered : (x : Context) (s : Session) (k : Key) (buffer img : List ℕ) {got : Got} {after : List ℕ}
-    → Answered (nextBrokenAt (s .phase) k buffer img) (nextReplyAt (s .phase) k buffer img) got after
+pub next-answered : (x : Context) (v : View) (k : Key) (buffer img : List ℕ) {got : Got} {after : List ℕ}
+    → Answered (nextBrokenAt (v .runtime) k buffer img) (nextReplyAt (v .runtime) k buffer img) got after
+    → (s : Session) → viewOf s ≡ v
     → Returned (book.next s k buffer) x img img (got .answer)
     × Gives (nextReply s k buffer img) (got .size) 0 (got .needed) after
-unfolding planOf nextReply nextBroken rule3Next readBroken replyOf atRuntime
-next-answered x s k buffer img h =
+unfolding planOf nextReply nextBroken rule3Next readBroken replyOf
+next-answered x v k buffer img {got} {after} r s e =
+    let h : Answered (nextBrokenAt (atRuntime s) k buffer img) (nextReplyAt (atRuntime s) k buffer img) got after =
+    subst (λ (t : Bool). Answered (nextBrokenAt t k buffer img) (nextReplyAt t k buffer img) got after) (said s e) r in
     ((h .answer ∙ sym (no-stores x (nextBroken s k buffer img) img), sym (reading-image x (book.next s k buffer) img refl)), (h .size, sym (no-attributes s k buffer img), h .needed, h .buffer))

@@ -5,14 +5,13 @@ use mathlib.Core.Bool.{Bool, not, cond, _||_}
 use mathlib.Core.List.{List, [], _∷_, _++_}
 use mathlib.Core.Option.{Option, none, some}
 use lib.ListN.{length}
-use lib.Dec.{eqb, ltb}
+use lib.Dec.{ltb}
 use Rattle.model.specs.Lists.{same, onSome}
 use Rattle.model.specs.Image.{blocks, region, work}
 use Rattle.model.specs.Name.{Key, wellNamed, emptyName}
 use Rattle.model.specs.Entry.{Value}
 use Rattle.model.specs.Region.{tailAt, valuesOf}
 use Rattle.model.specs.Work.{usedRecords}
-use Rattle.model.specs.Session.{countedPhase}
 use Rattle.model.specs.Rules.{firstBroken, imageRules, rule11Read, rule14, namedBytes, valueToName}
 use Rattle.model.specs.Answers.{ruleNumber, Reply, refusal, written, answerOf, done, refused}
 use Rattle.model.specs.declared.Rule.{Rule}
@@ -56,19 +55,19 @@ unfoldable pub replyTo : List ℕ → ℕ → List ℕ → Reply
 replyTo bytes attributes buffer =
     onSome (shortOf bytes buffer) (λ rule. refusal rule (length bytes) buffer) (written bytes attributes buffer)
 
--- of next-name, at a phase: the value found, the rule broken, the reply
-abbrev pub nextAt : ℕ → Key → List ℕ → Option Value
-nextAt phase k img = valueToName (eqb (countedPhase phase) 2) k (valuesOf img)
+-- of next-name, at runtime or not: the value found, the rule broken, the reply
+abbrev pub nextAt : Bool → Key → List ℕ → Option Value
+nextAt runtime k img = valueToName runtime k (valuesOf img)
 
 abbrev pub nextNamed : Key → Bool
 nextNamed k = wellNamed (k .name) || same (k .name) emptyName
 
-abbrev pub nextBrokenAt : ℕ → Key → List ℕ → List ℕ → Option Rule
-nextBrokenAt phase k buffer img = readBroken img (nextNamed k) (nextAt phase k img) namedBytes buffer
+abbrev pub nextBrokenAt : Bool → Key → List ℕ → List ℕ → Option Rule
+nextBrokenAt runtime k buffer img = readBroken img (nextNamed k) (nextAt runtime k img) namedBytes buffer
 
-abbrev pub nextReplyAt : ℕ → Key → List ℕ → List ℕ → Reply
-nextReplyAt phase k buffer img =
-    replyOf (nextBrokenAt phase k buffer img) (nextAt phase k img) namedBytes (λ v. 0) buffer
+abbrev pub nextReplyAt : Bool → Key → List ℕ → List ℕ → Reply
+nextReplyAt runtime k buffer img =
+    replyOf (nextBrokenAt runtime k buffer img) (nextAt runtime k img) namedBytes (λ v. 0) buffer
 
 -- what is given back when a rule is broken
 abbrev pub refusedGot : Rule → ℕ → Got

@@ -1,4 +1,5 @@
-// The calls that read: get and next-name. They make no stores, so n never stops them, and they write the front of the buffer and no more.
+// The calls that read: get and next-name. They make no stores, so n never stops them, and they write the front of the buffer and no more. What they ensure holds of every
+// session that says what they are given.
 ghost use mathlib.Core.Path.{_≡_};
 ghost use mathlib.Core.Bool.{_||_};
 ghost use mathlib.Core.List.{_++_};
@@ -7,7 +8,8 @@ ghost use lib.ListN.{length};
 ghost use Rattle.model.specs.Lists.{same, overlay};
 ghost use Rattle.model.specs.Name.{keyed, wellNamed, emptyName};
 ghost use Rattle.model.specs.Region.{entries, values};
-ghost use Rattle.model.specs.Rules.{gotBytes, namedBytes, valueToGet, valueToName};
+ghost use Rattle.model.specs.declared.Session.{Session};
+ghost use Rattle.model.specs.Rules.{viewOf, gotBytes, namedBytes, valueToGet, valueToName};
 ghost use Rattle.model.specs.Answers.{getReply, nextReply};
 ghost use Rattle.model.specs.Beside.{Gives};
 ghost use Rattle.model.specs.Book as book;
@@ -19,7 +21,7 @@ use model::Context;
 use model::Got;
 use model::Named;
 use model::Rule;
-use model::Session;
+use model::View;
 use region::walk;
 use values::Found;
 
@@ -152,24 +154,25 @@ fn name_from(region: &[u8], runtime: bool, name: &[u8], vendor: &[u8; 16], buffe
 // A get: the data of the value of a name and GUID. Rules 1, 2, 3, 11 and 14.
 pub fn get(
     c: Context,
-    s: Session,
+    view: View,
     image: &[u8],
     name: &[u8],
     vendor: &[u8; 16],
     buffer: &mut [u8],
 ) -> Got
-    ensures { λ r. ⌜ Returned
+    ensures { λ r. ⌜ ((s : Session) → viewOf s ≡ view
+        → Returned
         (book.get s (keyed (now (name .entry)) (now (vendor .entry))) (now (buffer .entry)))
         c (now (image .entry)) (now (image .entry)) (r .answer)
         × Gives
         (getReply s (keyed (now (name .entry)) (now (vendor .entry))) (now (buffer .entry)) (now (image .entry)))
-        (r .size) (r .attributes) (r .needed) (now (buffer .exit)) ⌝ }
+        (r .size) (r .attributes) (r .needed) (now (buffer .exit))) ⌝ }
 {
     let opened = open(image, slices::is_named(name));
     match opened {
         Check::Ready(b, _, _) => get_from(
             slices::cut(image, 0, layout::BLOCK * b),
-            session::at_runtime(s.phase),
+            view.runtime,
             name,
             vendor,
             buffer,
@@ -188,18 +191,24 @@ fn is_next_named(name: &[u8]) -> bool
     query::is_empty_name(name)
 }
 
-// What next-name answers, at a phase.
-fn name_behind(phase: u32, image: &[u8], name: &[u8], vendor: &[u8; 16], buffer: &mut [u8]) -> Got
+// What next-name answers, at runtime or not.
+fn name_behind(
+    runtime: bool,
+    image: &[u8],
+    name: &[u8],
+    vendor: &[u8; 16],
+    buffer: &mut [u8],
+) -> Got
     ensures { λ r. ⌜ Answered
-        (nextBrokenAt phase (keyed (now (name .entry)) (now (vendor .entry))) (now (buffer .entry)) (now (image .entry)))
-        (nextReplyAt phase (keyed (now (name .entry)) (now (vendor .entry))) (now (buffer .entry)) (now (image .entry)))
+        (nextBrokenAt runtime (keyed (now (name .entry)) (now (vendor .entry))) (now (buffer .entry)) (now (image .entry)))
+        (nextReplyAt runtime (keyed (now (name .entry)) (now (vendor .entry))) (now (buffer .entry)) (now (image .entry)))
         r (now (buffer .exit)) ⌝ }
 {
     let opened = open(image, is_next_named(name));
     match opened {
         Check::Ready(b, _, _) => name_from(
             slices::cut(image, 0, layout::BLOCK * b),
-            session::at_runtime(phase),
+            runtime,
             name,
             vendor,
             buffer,
@@ -211,20 +220,21 @@ fn name_behind(phase: u32, image: &[u8], name: &[u8], vendor: &[u8; 16], buffer:
 // A next-name: the GUID and name of the value behind a name and GUID. Rules 1, 2, 3, 11 and 14.
 pub fn next_name(
     c: Context,
-    s: Session,
+    view: View,
     image: &[u8],
     name: &[u8],
     vendor: &[u8; 16],
     buffer: &mut [u8],
 ) -> Named
-    ensures { λ r. ⌜ Returned
+    ensures { λ r. ⌜ ((s : Session) → viewOf s ≡ view
+        → Returned
         (book.next s (keyed (now (name .entry)) (now (vendor .entry))) (now (buffer .entry)))
         c (now (image .entry)) (now (image .entry)) (r .answer)
         × Gives
         (nextReply s (keyed (now (name .entry)) (now (vendor .entry))) (now (buffer .entry)) (now (image .entry)))
-        (r .size) 0 (r .needed) (now (buffer .exit)) ⌝ }
+        (r .size) 0 (r .needed) (now (buffer .exit))) ⌝ }
 {
-    let got = name_behind(s.phase, image, name, vendor, buffer);
+    let got = name_behind(view.runtime, image, name, vendor, buffer);
     let answer = got.answer;
     Named {
         answer,

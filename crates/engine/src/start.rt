@@ -1,15 +1,12 @@
 // Start-up: what an interrupted compaction left is finished, and what a stopped or cut call left behind is tidied up, so that calls find the image ready.
-ghost use mathlib.Core.Path.{_≡_};
-ghost use Rattle.model.specs.Session.{freshSession};
+ghost use Rattle.model.specs.declared.Setup.{Setup};
 ghost use Rattle.model.specs.StartUp.{startUpPlan};
 ghost use Rattle.model.specs.Book as book;
 ghost use Rattle.recovery.specs.Interface.{Returned};
 ghost use Rattle.plan.specs.Planned.{Kept, Plans};
 use image::Start;
+use model::Answer;
 use model::Context;
-use model::Session;
-use model::Setup;
-use model::Started;
 use plan::Planned;
 
 // The plan of a start-up: rules 1 and 2, then "if pending, resume at the erase of the region. Then .." the rest.
@@ -24,19 +21,12 @@ pub fn plan_start_up(image: &[u8], content: &mut [u8; layout::CONTENT]) -> Plann
     }
 }
 
-// A start-up, planned, then carried out up to n or to a store that fails: it is given custom mode, R, H and rules for settings and makes a fresh session, also when it is refused or stopped.
-pub fn start_up(
-    c: Context,
-    image: &mut [u8],
-    setup: Setup,
-    content: &mut [u8; layout::CONTENT],
-) -> Started
-    ensures { λ r. ⌜ Returned (book.startUp setup) c (now (image .entry)) (now (image .exit)) (r .answer)
-        × (r .session ≡ freshSession setup)
+// A start-up, planned, then carried out up to n or to a store that fails. What it is given (custom mode, R, H and rules for settings) goes into the session, which its
+// caller makes, also when it is refused or stopped.
+pub fn start_up(c: Context, image: &mut [u8], content: &mut [u8; layout::CONTENT]) -> Answer
+    ensures { λ r. ⌜ ((setup : Setup) → Returned (book.startUp setup) c (now (image .entry)) (now (image .exit)) r)
         × Kept (startUpPlan (now (image .entry))) (now (content .entry)) (now (content .exit)) ⌝ }
 {
-    let session = Session::fresh(setup);
     let planned = plan_start_up(image, content);
-    let answer = flash::carry_out(image, planned, content, c);
-    Started { answer, session }
+    flash::carry_out(image, planned, content, c)
 }

@@ -1,10 +1,14 @@
-// The calls that store: set and format. Each is planned by a function that is lent the image shared and knows no n, and then carried out up to n.
+// The calls that store: set and format. Each is planned by a function that is lent the image shared and knows no n, and then carried out up to n. Of a session a set is
+// given what it says to it: there is one that says so, and what a set ensures holds of each.
 ghost use mathlib.Core.Path.{_≡_};
 ghost use Prim.Native.Nat.{_≤_};
 ghost use lib.ListN.{length};
+ghost use Rattle.model.specs.declared.Session.{Session};
+ghost use Rattle.model.specs.Name.{keyed};
 ghost use Rattle.model.specs.StartUp.{formatPlan};
 ghost use Rattle.model.specs.Stores.{Bytes};
 ghost use Rattle.model.specs.Answers.{answerOf, outcome, imageAfter};
+ghost use Rattle.model.specs.Beside.{Says};
 ghost use Rattle.model.specs.Book as book;
 ghost use Rattle.model.specs.Book.{setPlan, Sized};
 ghost use Rattle.recovery.specs.Interface.{Returned};
@@ -21,7 +25,7 @@ use image::Check;
 use model::Answer;
 use model::Context;
 use model::Rule;
-use model::Session;
+use model::Terms;
 use plan::Planned;
 use planner::Standing;
 
@@ -60,32 +64,48 @@ fn plan_put(
     )
 }
 
-// A set over an image that is ready, of b blocks, with this tail and so many used records: rules 3 to 13, 17, 18 and 21, then what it does to the values.
-fn plan_ready(
-    s: Session,
-    image: &[u8],
+// What a check found of an image that is ready: its blocks, the offset of its tail, and how many records are used.
+struct Ready {
     b: usize,
     tail: usize,
     used: usize,
+}
+
+// A set over an image that is ready: rules 3 to 13, 17, 18 and 21, then what it does to the values.
+fn plan_ready(
+    terms: Terms,
+    limits: &[u8],
+    image: &[u8],
+    ready: Ready,
     name: &[u8],
     vendor: &[u8; 16],
     asking: Asking,
     bytes: &[u8],
     content: &mut [u8],
 ) -> Planned
-    requires { ⌜ IsReady (now image) b tail used
+    requires { ⌜ IsReady (now image) (ready .b) (ready .tail) (ready .used)
         × Bytes (now image)
-        × Sized (book.set s (requestOf (now name) (now vendor) (asking .attributes) (now bytes) (asking .presence) (asking .verdict)))
-        × (length (now content) ≡ 28672) ⌝ }
-    ensures { λ r. ⌜ Plans
+        × ((s : Session) → Sized (book.set s (requestOf (now name) (now vendor) (asking .attributes) (now bytes) (asking .presence) (asking .verdict))))
+        × (length (now content) ≡ 28672)
+        × ((s : Session) × Says s (keyed (now name) (now vendor)) terms (now limits)) ⌝ }
+    ensures { λ r. ⌜ ((s : Session) → Says s (keyed (now (name .entry)) (now (vendor .entry))) terms (now (limits .entry))
+        → Plans
         (setPlan s
         (requestOf (now (name .entry)) (now (vendor .entry)) (asking .attributes) (now (bytes .entry)) (asking .presence) (asking .verdict))
         (now (image .entry)))
-        (now (image .entry)) (now (content .entry)) (now (content .exit)) r ⌝ }
+        (now (image .entry)) (now (content .entry)) (now (content .exit)) r) ⌝ }
 {
-    let terms = session::terms(s, name, vendor);
-    let region = slices::cut(image, 0, layout::BLOCK * b);
-    let d = decision::decide(s.setup, terms, region, tail, name, vendor, asking, bytes);
+    let region = slices::cut(image, 0, layout::BLOCK * ready.b);
+    let d = decision::decide(
+        terms,
+        limits,
+        region,
+        ready.tail,
+        name,
+        vendor,
+        asking,
+        bytes,
+    );
     let what = d.what;
     let places = d.places;
     let value = d.value;
@@ -97,9 +117,9 @@ fn plan_ready(
             image,
             region,
             Standing {
-                b,
-                tail,
-                used,
+                b: ready.b,
+                tail: ready.tail,
+                used: ready.used,
                 places,
             },
             name,
@@ -128,36 +148,34 @@ fn guid(vendor: &[u8; 16])
 
 // The plan of a set, a delete or an append: rules 1 to 13, 17, 18 and 21, and its operations.
 pub fn plan_set(
-    s: Session,
+    terms: Terms,
+    limits: &[u8],
     image: &[u8],
     name: &[u8],
     vendor: &[u8; 16],
-    attributes: u32,
+    asking: Asking,
     bytes: &[u8],
-    presence: u32,
-    verdict: u32,
     content: &mut [u8; layout::CONTENT],
 ) -> Planned
-    ensures { λ r. ⌜ Plans
-        (setPlan s (requestOf (now (name .entry)) (now (vendor .entry)) attributes (now (bytes .entry)) presence verdict) (now (image .entry)))
-        (now (image .entry)) (now (content .entry)) (now (content .exit)) r ⌝ }
+    requires { ⌜ ((s : Session) × Says s (keyed (now name) (now vendor)) terms (now limits)) ⌝ }
+    ensures { λ r. ⌜ ((s : Session) → Says s (keyed (now (name .entry)) (now (vendor .entry))) terms (now (limits .entry))
+        → Plans
+        (setPlan s
+        (requestOf (now (name .entry)) (now (vendor .entry)) (asking .attributes) (now (bytes .entry)) (asking .presence) (asking .verdict))
+        (now (image .entry)))
+        (now (image .entry)) (now (content .entry)) (now (content .exit)) r) ⌝ }
 {
     guid(vendor);
     let check = image::check_call(image);
     match check {
         Check::Ready(b, tail, used) => plan_ready(
-            s,
+            terms,
+            limits,
             image,
-            b,
-            tail,
-            used,
+            Ready { b, tail, used },
             name,
             vendor,
-            Asking {
-                attributes,
-                presence,
-                verdict,
-            },
+            asking,
             bytes,
             content,
         ),
@@ -168,34 +186,27 @@ pub fn plan_set(
 // A set, a delete or an append: planned, then carried out up to n, or to a store that fails.
 pub fn set(
     c: Context,
-    s: Session,
+    terms: Terms,
+    limits: &[u8],
     image: &mut [u8],
     name: &[u8],
     vendor: &[u8; 16],
-    attributes: u32,
+    asking: Asking,
     bytes: &[u8],
-    presence: u32,
-    verdict: u32,
     content: &mut [u8; layout::CONTENT],
 ) -> Answer
-    ensures { λ r. ⌜ Returned
-        (book.set s (requestOf (now (name .entry)) (now (vendor .entry)) attributes (now (bytes .entry)) presence verdict))
+    requires { ⌜ ((s : Session) × Says s (keyed (now name) (now vendor)) terms (now limits)) ⌝ }
+    ensures { λ r. ⌜ ((s : Session) → Says s (keyed (now (name .entry)) (now (vendor .entry))) terms (now (limits .entry))
+        → Returned
+        (book.set s (requestOf (now (name .entry)) (now (vendor .entry)) (asking .attributes) (now (bytes .entry)) (asking .presence) (asking .verdict)))
         c (now (image .entry)) (now (image .exit)) r
         × Kept
-        (setPlan s (requestOf (now (name .entry)) (now (vendor .entry)) attributes (now (bytes .entry)) presence verdict) (now (image .entry)))
-        (now (content .entry)) (now (content .exit)) ⌝ }
+        (setPlan s
+        (requestOf (now (name .entry)) (now (vendor .entry)) (asking .attributes) (now (bytes .entry)) (asking .presence) (asking .verdict))
+        (now (image .entry)))
+        (now (content .entry)) (now (content .exit))) ⌝ }
 {
-    let planned = plan_set(
-        s,
-        image,
-        name,
-        vendor,
-        attributes,
-        bytes,
-        presence,
-        verdict,
-        content,
-    );
+    let planned = plan_set(terms, limits, image, name, vendor, asking, bytes, content);
     flash::carry_out(image, planned, content, c)
 }
 

@@ -8,9 +8,8 @@ use mathlib.Core.Bool.{true, false, and-false, or-false}
 use mathlib.Core.List.{List, [], _∷_, _++_}
 use lib.ListN.{length, take, getD, length-append}
 use borrow.Author.Tests.{eqb-true, ne-eqb, le-leb, lt-leb}
-use Rattle.model.specs.declared.Limit.{Limit}
 use Rattle.model.specs.Lists.{part, among}
-use Rattle.model.specs.Limits.{little, allowed, widths, meets}
+use Rattle.model.specs.Limits.{Limit, little, allowed, widths, meets}
 
 little-none : (n : ℕ) → little (take n []) ≡ 0
 unfolding little

@@ -1,28 +1,26 @@
 -- Rule 21 by whether data would stand, and which: whatever a set that does not delete asks for, what it leaves under its name, if anything, has the data that it would
--- store; of an equal set they are those that stand, and an empty append adds none. And the rules for a name, as a loop over the table meets them.
+-- store; of an equal set they are those that stand, and an empty append adds none. And the rules for a name and the numbers of a rule, by their places.
 -- Assumes nothing.
-use Prim.Native.Nat.{ℕ, min}
+use Prim.Native.Nat.{ℕ, min, _+_, _*_}
 use native.Mathlib.Omega.{arith}
-use mathlib.Core.Path.{_≡_, refl, ap, fun-ext}
+use mathlib.Core.Path.{_≡_, refl, ap, fun-ext, _∙_}
 use mathlib.Core.Bool.{Bool, true, false, cond, not, _&&_, _||_}
-use mathlib.Core.List.{List, [], _∷_, append-nil}
+use mathlib.Core.List.{List, [], _∷_, map, append-nil}
 use mathlib.Core.Option.{Option, none, some}
-use lib.ListN.{length, take}
+use lib.ListN.{length}
 use lib.Dec.{eqb}
 use borrow.Author.Tests.{eqb-true, not-true}
-use Rattle.model.specs.declared.Limit.{Limit}
-use Rattle.model.specs.declared.Setup.{Setup}
-use Rattle.model.specs.Lists.{same, any, keep, isSome, onSome}
+use Rattle.model.specs.Lists.{same, any, range, keep, isSome, onSome, u32At, numbersAt}
 use Rattle.model.specs.Name.{Key}
 use Rattle.model.specs.Entry.{Value}
 use Rattle.model.specs.Session.{isYes}
 use Rattle.model.specs.Request.{Request, requestKey, appends, timeBased, dataProper}
-use Rattle.model.specs.Limits.{isFor, limitSpace, limitsFor, listed, meets}
+use Rattle.model.specs.Limits.{Limit, limitAt, isFor, limitSpace, limitsIn, listed, meets}
 use Rattle.model.specs.Change.{nothing, remove, put, deletes, emptyAppend, equalTo, newData, newValue, changeOf, leaves}
 use Rattle.model.specs.Rules.{rule21}
 use Rattle.model.proofs.Tests.{and-split, same-eq}
-use Rattle.limits.specs.Broken.{breaksIt, brokenBy, breaksFor, brokenAmong, leavesSome}
-use Rattle.limits.proofs.Tables.{anyFrom, from-start}
+use Rattle.model.proofs.Tables.{anyFrom, from-start, any-map, take-range}
+use Rattle.limits.specs.Broken.{breaksIt, brokenBy, breaksFor, leavesSome}
 
 -- ---- what a set leaves
 
@@ -88,39 +86,24 @@ any-keep p f (a ∷ l) = go (p a) (any-keep p f l)
     go true i = ap (λ (b : Bool). f a || b) i
     go false i = i
 
-pub by-name : (u : Setup) (k : Key) (stands : Bool) (bytes : List ℕ)
-    → brokenBy (limitsFor u k) stands bytes ≡ brokenAmong (u .limits) (u .rules) k stands bytes
-unfolding brokenBy limitsFor breaksFor brokenAmong
-by-name u k stands bytes = any-keep (λ t. isFor t k) (breaksIt stands bytes) (take (min (u .rules) limitSpace) (u .limits))
+-- the rules in use of a table that are for a name: one is broken just if that at one of the places in use is for it and broken
+pub by-places : (table : List ℕ) (rules : ℕ) (k : Key) (stands : Bool) (bytes : List ℕ)
+    → brokenBy (limitsIn table rules k) stands bytes ≡ anyFrom (λ i. breaksFor k stands bytes (limitAt table i)) (min rules 32) 0
+unfolding brokenBy limitsIn breaksFor
+by-places table rules k stands bytes =
+    any-keep (λ t. isFor t k) (breaksIt stands bytes) (map (limitAt table) (range 0 (min rules limitSpace)))
+    ∙ any-map (λ t. isFor t k && breaksIt stands bytes t) (limitAt table) (range 0 (min rules limitSpace))
+    ∙ from-start (λ i. isFor (limitAt table i) k && breaksIt stands bytes (limitAt table i)) (min rules limitSpace)
 
 -- without rules none is broken
-pub none-used : (u : Setup) (k : Key) (stands : Bool) (bytes : List ℕ) → u .rules ≡ 0 → brokenBy (limitsFor u k) stands bytes ≡ false
-unfolding brokenBy limitsFor
-none-used u k stands bytes h = rw h
+pub none-used : (table : List ℕ) (rules : ℕ) (k : Key) (stands : Bool) (bytes : List ℕ) → rules ≡ 0 → brokenBy (limitsIn table rules k) stands bytes ≡ false
+unfolding brokenBy limitsIn
+none-used table rules k stands bytes h = rw h
 
-pub by-table : (limits : List Limit) (count : ℕ) (k : Key) (stands : Bool) (bytes : List ℕ)
-    → brokenAmong limits count k stands bytes ≡ anyFrom (breaksFor k stands bytes) limits (min count 32) 0
-unfolding brokenAmong
-by-table limits count k stands bytes = from-start (breaksFor k stands bytes) limits (min count 32)
-
-pub by-list : (numbers : List ℕ) (count n : ℕ) → listed numbers count n ≡ anyFrom (eqb n) numbers (min count 8) 0
-unfolding listed
-by-list numbers count n = from-start (eqb n) numbers (min count 8)
-
--- what an array of rules holds past its end, as the code's proofs read it
-abbrev pub noLimit : Limit
-noLimit = record {
-  size = 0;
-  least = 0;
-  most = 0;
-  fixed = 0;
-  at = 0;
-  width = 0;
-  ranged = 0;
-  low = 0;
-  high = 0;
-  count = 0;
-  numbers = [];
-  name = [];
-  vendor = [];
-}
+-- a number is listed just if it is at one of the places in use
+pub by-list : (t : List ℕ) (count n : ℕ) → listed (numbersAt t 40 8) count n ≡ anyFrom (λ i. eqb n (u32At t (40 + 4 * i))) (min count 8) 0
+unfolding listed numbersAt
+by-list t count n =
+    ap (λ (l : List ℕ). any (eqb n) l) (take-range (λ i. u32At t (40 + 4 * i)) 0 8 (min count 8) (omega arith))
+    ∙ any-map (eqb n) (λ i. u32At t (40 + 4 * i)) (range 0 (min count 8))
+    ∙ from-start (λ i. eqb n (u32At t (40 + 4 * i))) (min count 8)

@@ -1,16 +1,15 @@
 -- Rule 21 as the code tries it: by whether data would stand, and which.
-use Prim.Native.Nat.{ℕ, min}
+use Prim.Native.Nat.{ℕ}
 use mathlib.Core.Bool.{Bool, not, _&&_, _||_}
 use mathlib.Core.List.{List}
 use mathlib.Core.Option.{Option}
-use lib.ListN.{length, take}
-use Rattle.model.specs.declared.Limit.{Limit}
+use lib.ListN.{length}
 use Rattle.model.specs.Lists.{any, isSome}
 use Rattle.model.specs.Name.{Key}
 use Rattle.model.specs.Entry.{Value}
 use Rattle.model.specs.Session.{isYes}
 use Rattle.model.specs.Request.{Request, dataProper}
-use Rattle.model.specs.Limits.{isFor, limitSpace, meets}
+use Rattle.model.specs.Limits.{Limit, isFor, meets}
 use Rattle.model.specs.Change.{deletes, emptyAppend}
 
 -- a rule is broken by a set: it is read-only, or data would stand and do not meet it
@@ -24,10 +23,6 @@ brokenBy ls stands bytes = any (breaksIt stands bytes) ls
 -- a rule is for a name, and broken
 unfoldable pub breaksFor : Key → Bool → List ℕ → Limit → Bool
 breaksFor k stands bytes t = isFor t k && breaksIt stands bytes t
-
--- one of those in use of a table is
-unfoldable pub brokenAmong : List Limit → ℕ → Key → Bool → List ℕ → Bool
-brokenAmong limits count k stands bytes = any (breaksFor k stands bytes) (take (min count limitSpace) limits)
 
 -- a value would stand after a set: it does not delete, and is not an empty append where none stands
 unfoldable pub leavesSome : Request → Option Value → Bool

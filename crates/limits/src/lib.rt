@@ -1,20 +1,47 @@
-// The rules for settings: whether a set breaks one that is for its name. The data that would stand are lent in two parts, the old ones of an append and the call's own,
-// and are never put together.
+// The rules for settings: whether a set breaks one that is for its name. A rule is read where it is in the table. The data that would stand are lent in two parts, the
+// old ones of an append and the call's own, and are never put together.
 ghost use mathlib.Core.Path.{_≡_};
 ghost use mathlib.Core.Bool.{true};
 ghost use mathlib.Core.List.{_++_};
 ghost use Prim.Native.Nat.{_<_};
 ghost use lib.ListN.{getD};
-ghost use Rattle.model.specs.Lists.{part, among};
+ghost use Rattle.model.specs.Lists.{part, among, numbersAt};
 ghost use Rattle.model.specs.Name.{keyed};
-ghost use Rattle.model.specs.Limits.{isFor, limitsFor, little, listed, allowed, widths, meets};
-ghost use Rattle.limits.specs.Broken.{brokenBy, breaksFor, brokenAmong};
-use model::Limit;
-use model::Setup;
+ghost use Rattle.model.specs.Limits.{limitOf, isFor, limitsIn, little, listed, allowed, widths, meets};
+ghost use Rattle.limits.specs.Broken.{brokenBy, breaksFor};
 
-// Whether a number is one of those in use of a list. More than eight are ignored.
-fn is_listed(numbers: [u32; 8], count: u32, n: u32) -> bool
-    ensures { λ r. ⌜ r ≡ listed numbers count n ⌝ }
+// The bytes of a rule, and the offsets of its fields.
+const RULE: usize = 216;
+
+const SIZE: usize = 0;
+
+const LEAST: usize = 4;
+
+const MOST: usize = 8;
+
+const FIXED: usize = 12;
+
+const AT: usize = 16;
+
+const WIDTH: usize = 20;
+
+const RANGED: usize = 24;
+
+const LOW: usize = 28;
+
+const HIGH: usize = 32;
+
+const COUNT: usize = 36;
+
+const NUMBERS: usize = 40;
+
+const NAME: usize = 72;
+
+const VENDOR: usize = 200;
+
+// Whether a number is one of those in use of a rule's list. More than eight are ignored.
+fn is_listed(t: &[u8], count: u32, n: u32) -> bool
+    ensures { λ r. ⌜ r ≡ listed (numbersAt (now (t .entry)) 40 8) count n ⌝ }
 {
     let used = count as usize;
     let mut i: usize = 0;
@@ -22,7 +49,7 @@ fn is_listed(numbers: [u32; 8], count: u32, n: u32) -> bool
         if used <= i {
             return false;
         }
-        if numbers[i] == n {
+        if layout::u32_at(t, NUMBERS + 4 * i) == n {
             return true;
         }
         i += 1;
@@ -31,17 +58,16 @@ fn is_listed(numbers: [u32; 8], count: u32, n: u32) -> bool
 }
 
 // Whether a rule allows a number in its field.
-fn is_allowed(t: Limit, n: u32) -> bool
-    ensures { λ r. ⌜ r ≡ allowed t n ⌝ }
+fn is_allowed(t: &[u8], n: u32) -> bool
+    ensures { λ r. ⌜ r ≡ allowed (limitOf (now (t .entry))) n ⌝ }
 {
-    if t.ranged == 0 {
-        let numbers = t.numbers;
-        return is_listed(numbers, t.count, n);
+    if layout::u32_at(t, RANGED) == 0 {
+        return is_listed(t, layout::u32_at(t, COUNT), n);
     }
-    if n < t.low {
+    if n < layout::u32_at(t, LOW) {
         return false;
     }
-    n <= t.high
+    n <= layout::u32_at(t, HIGH)
 }
 
 fn wide(x: u8) -> u32
@@ -98,56 +124,57 @@ fn field(old: &[u8], own: &[u8], at: u32, width: u32) -> u32
 }
 
 // Whether data meet a rule: their size, and the field in them.
-fn meets(t: Limit, old: &[u8], own: &[u8]) -> bool
-    ensures { λ r. ⌜ r ≡ meets t (now (old .entry) ++ now (own .entry)) ⌝ }
+fn meets(t: &[u8], old: &[u8], own: &[u8]) -> bool
+    ensures { λ r. ⌜ r ≡ meets (limitOf (now (t .entry))) (now (old .entry) ++ now (own .entry)) ⌝ }
 {
     let n = old.len() + own.len();
-    if n < t.least as usize {
+    if n < layout::u32_at(t, LEAST) as usize {
         return false;
     }
-    if (t.most as usize) < n {
+    if (layout::u32_at(t, MOST) as usize) < n {
         return false;
     }
-    if !is_width(t.width) {
+    let width = layout::u32_at(t, WIDTH);
+    if !is_width(width) {
         return false;
     }
-    if n < t.at as usize + t.width as usize {
+    let at = layout::u32_at(t, AT);
+    if n < at as usize + width as usize {
         return false;
     }
-    is_allowed(t, field(old, own, t.at, t.width))
+    is_allowed(t, field(old, own, at, width))
 }
 
 // Whether a rule is for a name: most are told apart by their length.
-fn is_for(t: Limit, name: &[u8], vendor: &[u8; 16]) -> bool
-    ensures { λ r. ⌜ r ≡ isFor t (keyed (now (name .entry)) (now (vendor .entry))) ⌝ }
+fn is_for(t: &[u8], name: &[u8], vendor: &[u8; 16]) -> bool
+    ensures { λ r. ⌜ r ≡ isFor (limitOf (now (t .entry))) (keyed (now (name .entry)) (now (vendor .entry))) ⌝ }
 {
-    let size = t.size as usize;
-    if size != name.len() {
+    let size = layout::u32_at(t, SIZE) as usize;
+    if slices::LONGEST_NAME < size {
         return false;
     }
-    let listed = t.name;
-    if !slices::equal(slices::cut(&listed, 0, size), name) {
+    let room = slices::cut(t, NAME, slices::LONGEST_NAME);
+    if !slices::equal(slices::cut(room, 0, size), name) {
         return false;
     }
-    let guid = t.vendor;
-    slices::equal(&guid, vendor)
+    slices::equal(slices::cut(t, VENDOR, 16), vendor)
 }
 
 // Whether a rule is for a name and broken by a set of it: read-only refuses every one, and the data, if any would stand, must meet the rest.
 fn breaks_one(
-    t: Limit,
+    t: &[u8],
     name: &[u8],
     vendor: &[u8; 16],
     stands: bool,
     old: &[u8],
     own: &[u8],
 ) -> bool
-    ensures { λ r. ⌜ r ≡ breaksFor (keyed (now (name .entry)) (now (vendor .entry))) stands (now (old .entry) ++ now (own .entry)) t ⌝ }
+    ensures { λ r. ⌜ r ≡ breaksFor (keyed (now (name .entry)) (now (vendor .entry))) stands (now (old .entry) ++ now (own .entry)) (limitOf (now (t .entry))) ⌝ }
 {
     if !is_for(t, name, vendor) {
         return false;
     }
-    if t.fixed != 0 {
+    if layout::u32_at(t, FIXED) != 0 {
         return true;
     }
     if !stands {
@@ -156,10 +183,10 @@ fn breaks_one(
     !meets(t, old, own)
 }
 
-// Whether one of the rules in use of a table is for a name and broken. More than 32 are ignored.
-fn breaks_any(
-    limits: [Limit; 32],
-    count: u32,
+// Whether a set of a name breaks one of the rules in use of a table that are for it. More than 32 are ignored.
+pub fn breaks(
+    limits: &[u8],
+    rules: u32,
     name: &[u8],
     vendor: &[u8; 16],
     stands: bool,
@@ -167,34 +194,19 @@ fn breaks_any(
     own: &[u8],
 ) -> bool
     ensures { λ r.
-        ⌜ r ≡ brokenAmong limits count (keyed (now (name .entry)) (now (vendor .entry))) stands (now (old .entry) ++ now (own .entry)) ⌝ }
+        ⌜ r ≡ brokenBy (limitsIn (now (limits .entry)) rules (keyed (now (name .entry)) (now (vendor .entry)))) stands (now (old .entry) ++ now (own .entry)) ⌝ }
 {
-    let used = count as usize;
+    let used = rules as usize;
     let mut i: usize = 0;
     while i < 32 {
         if used <= i {
             return false;
         }
-        if breaks_one(limits[i], name, vendor, stands, old, own) {
+        let rule = slices::cut(limits, RULE * i, RULE);
+        if breaks_one(rule, name, vendor, stands, old, own) {
             return true;
         }
         i += 1;
     }
     false
-}
-
-// Whether a set of a name breaks a rule for it.
-pub fn breaks(
-    u: Setup,
-    name: &[u8],
-    vendor: &[u8; 16],
-    stands: bool,
-    old: &[u8],
-    own: &[u8],
-) -> bool
-    ensures { λ r.
-        ⌜ r ≡ brokenBy (limitsFor u (keyed (now (name .entry)) (now (vendor .entry)))) stands (now (old .entry) ++ now (own .entry)) ⌝ }
-{
-    let limits = u.limits;
-    breaks_any(limits, u.rules, name, vendor, stands, old, own)
 }

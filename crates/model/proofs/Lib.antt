@@ -7,6 +7,8 @@ pub mod Pages
 pub mod Failing
 -- Boolean tests, and tests of equal lists and names
 pub mod Tests
+-- Tables by their places, as a loop meets them
+pub mod Tables
 -- One segment of an image under stores within it
 pub mod Segments
 -- The three parts of an image

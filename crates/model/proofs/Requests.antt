@@ -12,6 +12,7 @@ use lib.ListN.{length, take, replicate, length-append, length-take}
 use lib.Dec.{eqb, leb}
 use borrow.Author.Tests.{ltb-false, leb-true, eqb-true, eqb-false, ne-eqb, not-false}
 use Rattle.model.specs.declared.Session.{Session}
+use Rattle.model.specs.declared.Terms.{Terms}
 use Rattle.model.specs.declared.Rule.{Rule}
 use Rattle.model.specs.Layout.{authenticated}
 use Rattle.model.specs.Lists.{allFF, among, isSome, onSome, orElse}
@@ -21,8 +22,9 @@ use Rattle.model.specs.Entry.{Value, keyOf}
 use Rattle.model.specs.Region.{maxData, storedAttributes, recordBit, tail, sound, clean, cleanIn, valuesOf, valuesIn, find}
 use Rattle.model.specs.Work.{idle, readyForCall, readyIn, readyForStartUp}
 use Rattle.model.specs.Request.{Request, requestKey, stampSize, timeBased, appends, withoutAppend, dataProper, stampToStore, later, properAt, rightDescriptor}
+use Rattle.model.specs.Limits.{Limit, limitsFor}
 use Rattle.model.specs.Change.{nothing, remove, put, deletes, emptyAppend, equalTo, newData, laterOf, newStamp, newValue, changeOf, changeIn, step, steps, spaceOf}
-use Rattle.model.specs.Rules.{firstBroken, rule1, rule2In, rule2StartUp, rule3, rule4, rule8, rule11, rule12, rule13, rule17, termsOf, imageRulesIn, requestRules, standingRules, resultRules, itemRules, settingRules, roomRules, setBroken, getBroken, nextBroken, startUpBroken}
+use Rattle.model.specs.Rules.{firstBroken, rule1, rule2In, rule2StartUp, rule3, rule4, rule8, rule11, rule12, rule13, rule17, termsOf, imageRules, imageRulesIn, requestRules, standingRules, resultRules, itemRules, settingRules, roomRules, setBroken, getBroken, nextBroken, startUpBroken}
 use Rattle.model.specs.Answers.{ruleNumber}
 use Rattle.model.specs.Beside.{Valid}
 use Rattle.model.proofs.Encode.{AllValid, sound-valid, sound-fits}
@@ -228,30 +230,34 @@ stamp-length r h = go (timeBased (r .attributes)) (rightDescriptor (r .bytes)) r
 
 -- ---- a set that breaks no rule
 
-module _ (s : Session) (r : Request) (img : List ℕ) (accepted : setBroken s r img ≡ none) where
-  pub set-length : rightLength img ≡ true
-  unfolding setBroken imageRulesIn rule1
-  set-length = not-false (rightLength img) (unbroken _ 1 accepted)
+-- its rules, under terms and with the rules for its name
+abbrev pub setRules : Terms → List Limit → Request → List ℕ → List (Rule × Bool)
+setRules t ls r img =
+    imageRules img
+    ++ itemRules t r (valuesOf img)
+    ++ settingRules ls r (find (requestKey r) (valuesOf img))
+    ++ roomRules t (regionSize img) (changeIn r (valuesOf img) ∷ []) (valuesOf img)
 
-  pub set-ready : readyForCall img ≡ true
-  unfolding setBroken imageRulesIn rule2In
-  set-ready = not-false (readyForCall img) (unbroken _ 2 accepted)
+module _ (t : Terms) (ls : List Limit) (r : Request) (img : List ℕ) (accepted : firstBroken (setRules t ls r img) ≡ none) where
+  kept-length : rightLength img ≡ true
+  unfolding imageRulesIn rule1
+  kept-length = not-false (rightLength img) (unbroken _ 1 accepted)
 
-  pub put-key : (v : Value) → changeIn r (valuesOf img) ≡ put v → keyOf v ≡ requestKey r
-  unfolding changeIn
-  put-key v c = put-named r (find (requestKey r) (valuesOf img)) v c
+  kept-ready : readyForCall img ≡ true
+  unfolding imageRulesIn rule2In
+  kept-ready = not-false (readyForCall img) (unbroken _ 2 accepted)
 
   -- the old stamp is 16 bytes, since the region is sound
   old-stamp : (v : Value) → find (requestKey r) (valuesOf img) ≡ some v → length (v .stamp) ≡ 16
   old-stamp v e =
-      find-holds Valid (AllValid authenticated) (λ w ws h. h) (requestKey r) (valuesOf img) (image-valid img set-length set-ready) v e .stamp
+      find-holds Valid (AllValid authenticated) (λ w ws h. h) (requestKey r) (valuesOf img) (image-valid img kept-length kept-ready) v e .stamp
 
-  pub put-is-valid : (v : Value) → changeIn r (valuesOf img) ≡ put v → length (r .vendor) ≡ 16 → Valid v
-  unfolding setBroken imageRulesIn itemRules requestRules standingRules resultRules rule3 rule12 changeIn newValue
-  put-is-valid v c g =
+  pub kept-valid : (v : Value) → changeIn r (valuesOf img) ≡ put v → length (r .vendor) ≡ 16 → Valid v
+  unfolding imageRulesIn itemRules requestRules standingRules resultRules rule3 rule12 changeIn newValue
+  kept-valid v c g =
       let p = puts r (find (requestKey r) (valuesOf img)) v c in
       let n : rule3 (requestKey r) ≡ false = unbroken _ 3 accepted in
-      let q : rule4 (termsOf s (requestKey r) .runtime) (r .attributes) ≡ false = unbroken _ 4 accepted in
+      let q : rule4 (t .runtime) (r .attributes) ≡ false = unbroken _ 4 accepted in
       let d : rule8 (r .attributes) (r .bytes) ≡ false = unbroken _ 8 accepted in
       let e : rule17 (requestKey r) (r .attributes) ≡ false = unbroken _ 17 accepted in
       let h : rule12 (changeIn r (valuesOf img)) ≡ false = unbroken _ 12 accepted in
@@ -262,28 +268,64 @@ module _ (s : Session) (r : Request) (img : List ℕ) (accepted : setBroken s r 
         vendor = g;
         stamp = new-stamp (λ (x : List ℕ). length x ≡ 16) r (find (requestKey r) (valuesOf img)) (stamp-length r d) old-stamp;
         stampless = λ e. absurd (true≢false e);
-        attributes = put-attributes (termsOf s (requestKey r) .runtime) (r .attributes) (length (dataProper r)) q (p .kept);
+        attributes = put-attributes (t .runtime) (r .attributes) (length (dataProper r)) q (p .kept);
         recorded = recorded-put (requestKey r) (r .attributes) (length (dataProper r)) e (p .kept);
         some-data = some-new r (find (requestKey r) (valuesOf img)) (some-proper (r .attributes) (length (dataProper r)) (p .kept) (p .adds));
         few-data = rw (p .made) at few;
       })
 
-  pub remove-present : (k : Key) → changeIn r (valuesOf img) ≡ remove k → isSome (find k (valuesOf img)) ≡ true
-  unfolding setBroken imageRulesIn itemRules requestRules standingRules resultRules rule11 changeIn
-  remove-present k c =
+  kept-present : (k : Key) → changeIn r (valuesOf img) ≡ remove k → isSome (find k (valuesOf img)) ≡ true
+  unfolding imageRulesIn itemRules requestRules standingRules resultRules rule11 changeIn
+  kept-present k c =
       let h : rule11 (changeIn r (valuesOf img)) (find (requestKey r) (valuesOf img)) ≡ false = unbroken _ 11 accepted in
       rw (removes r (find (requestKey r) (valuesOf img)) k c) (not-false (isSome (find (requestKey r) (valuesOf img))) (rw c at h))
 
   -- all values fit after it
+  kept-room : spaceOf (steps (changeIn r (valuesOf img) ∷ []) (valuesOf img)) ≤ regionSize img
+  unfolding imageRulesIn itemRules requestRules standingRules resultRules settingRules roomRules
+  kept-room =
+      let h : rule13 t (regionSize img) (changeIn r (valuesOf img) ∷ []) (valuesOf img) ≡ false = unbroken _ 13 accepted in
+      room-after t (regionSize img) (changeIn r (valuesOf img) ∷ []) (valuesOf img) h (image-fits img kept-length kept-ready)
+
+  pub kept-fits : (v : Value) → changeIn r (valuesOf img) ≡ put v → spaceOf (step (put v) (valuesOf img)) ≤ regionSize img
+  unfolding steps
+  kept-fits v c = rw c at kept-room
+
+-- in a session
+module _ (s : Session) (r : Request) (img : List ℕ) (accepted : setBroken s r img ≡ none) where
+  abbrev its : Terms
+  its = termsOf s (requestKey r)
+
+  abbrev rules : List Limit
+  rules = limitsFor (s .setup) (requestKey r)
+
+  pub set-length : rightLength img ≡ true
+  unfolding setBroken
+  set-length = kept-length its rules r img accepted
+
+  pub set-ready : readyForCall img ≡ true
+  unfolding setBroken
+  set-ready = kept-ready its rules r img accepted
+
+  pub put-key : (v : Value) → changeIn r (valuesOf img) ≡ put v → keyOf v ≡ requestKey r
+  unfolding changeIn newValue
+  put-key v c = ap keyOf (puts r (find (requestKey r) (valuesOf img)) v c .made)
+
+  pub put-is-valid : (v : Value) → changeIn r (valuesOf img) ≡ put v → length (r .vendor) ≡ 16 → Valid v
+  unfolding setBroken
+  put-is-valid = kept-valid its rules r img accepted
+
+  pub remove-present : (k : Key) → changeIn r (valuesOf img) ≡ remove k → isSome (find k (valuesOf img)) ≡ true
+  unfolding setBroken
+  remove-present = kept-present its rules r img accepted
+
   set-room : spaceOf (steps (changeIn r (valuesOf img) ∷ []) (valuesOf img)) ≤ regionSize img
-  unfolding setBroken imageRulesIn itemRules requestRules standingRules resultRules settingRules roomRules
-  set-room =
-      let h : rule13 (termsOf s (requestKey r)) (regionSize img) (changeIn r (valuesOf img) ∷ []) (valuesOf img) ≡ false = unbroken _ 13 accepted in
-      room-after (termsOf s (requestKey r)) (regionSize img) (changeIn r (valuesOf img) ∷ []) (valuesOf img) h (image-fits img set-length set-ready)
+  unfolding setBroken
+  set-room = kept-room its rules r img accepted
 
   pub put-fits : (v : Value) → changeIn r (valuesOf img) ≡ put v → spaceOf (step (put v) (valuesOf img)) ≤ regionSize img
-  unfolding steps
-  put-fits v c = rw c at set-room
+  unfolding setBroken
+  put-fits = kept-fits its rules r img accepted
 
   pub set-fitting : length (r .vendor) ≡ 16 → Fitting (changeIn r (valuesOf img) ∷ []) (valuesOf img) (regionSize img)
   set-fitting g =

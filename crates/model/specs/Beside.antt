@@ -7,6 +7,7 @@ use lib.ListN.{length, drop}
 use lib.Dec.{leb, ltb}
 use Rattle.model.specs.declared.Layout.{Layout}
 use Rattle.model.specs.declared.Session.{Session}
+use Rattle.model.specs.declared.Terms.{Terms}
 use Rattle.model.specs.Layout.{authenticated, headerLength, isStamped}
 use Rattle.model.specs.Lists.{among}
 use Rattle.model.specs.Name.{Key, wellNamed, recordName}
@@ -14,6 +15,7 @@ use Rattle.model.specs.Entry.{Value, keyOf, noStamp, readHeaderIn}
 use Rattle.model.specs.Walk.{Entry, walk}
 use Rattle.model.specs.Region.{storedAttributes, recordBit, maxData}
 use Rattle.model.specs.Session.{lockSpace, nameSpace, withLock}
+use Rattle.model.specs.Rules.{termsOf}
 use Rattle.model.specs.Answers.{Reply}
 
 -- the entries of a region from an offset on, as a loop over them meets them
@@ -26,6 +28,10 @@ from = fromIn authenticated
 -- one more lock where a place is free and the name fits it; else the session stays
 unfoldable pub oneMoreLock : Session → Key → Session
 oneMoreLock s k = cond (ltb (s .count) lockSpace && leb (length (k .name)) nameSpace) (withLock s k) s
+
+-- what a session says to a set of a name: these terms, and this table of rules for settings
+abbrev pub Says : Session → Key → Terms → List ℕ → Type 0
+Says s k t table = (termsOf s k ≡ t) × (s .setup .limits ≡ table)
 
 -- what a value must be for its entry to be sound, and to be read back, in a form
 pub record ValidIn (y : Layout) (v : Value) : Type 0 where

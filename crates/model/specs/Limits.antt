@@ -1,14 +1,54 @@
 -- 02 (e), "Settings that must make sense": the rules for settings that stand in a session, and when data meet one. Whether a set breaks one is rule 21.
 use Prim.Native.Nat.{ℕ, _+_, _*_, min}
 use mathlib.Core.Bool.{Bool, cond, _&&_}
-use mathlib.Core.List.{List, [], _∷_}
+use mathlib.Core.List.{List, [], _∷_, map}
 use lib.ListN.{length, take}
 use lib.Dec.{leb}
-use Rattle.model.specs.declared.Limit.{Limit}
 use Rattle.model.specs.declared.Setup.{Setup}
-use Rattle.model.specs.Lists.{part, keep, among}
+use Rattle.model.specs.Lists.{part, range, keep, among, u32At, numbersAt}
 use Rattle.model.specs.Name.{Key, keyed, sameKey}
 use Rattle.model.specs.Session.{isYes, nameSpace}
+
+-- a rule: "for a variable, by name and GUID, a smallest and largest size, read-only or not, and at a byte offset a field of 1, 2 or 4 bytes that must be in a list of up
+-- to eight numbers or between two numbers"; of the name's bytes the first `size` are the name, of the numbers the first `count` are in use, and 0 is no, anything else yes
+pub record Limit : Type 0 where
+  pub size : ℕ
+  pub least : ℕ
+  pub most : ℕ
+  pub fixed : ℕ
+  pub at : ℕ
+  pub width : ℕ
+  pub ranged : ℕ
+  pub low : ℕ
+  pub high : ℕ
+  pub count : ℕ
+  pub numbers : List ℕ
+  pub name : List ℕ
+  pub vendor : List ℕ
+
+-- by its bytes, and the one at a place of a table: 216 bytes, numbers of four, then 128 bytes for the name and the GUID
+abbrev pub limitSize : ℕ
+limitSize = 216
+
+unfoldable pub limitOf : List ℕ → Limit
+limitOf s = record {
+  size = u32At s 0;
+  least = u32At s 4;
+  most = u32At s 8;
+  fixed = u32At s 12;
+  at = u32At s 16;
+  width = u32At s 20;
+  ranged = u32At s 24;
+  low = u32At s 28;
+  high = u32At s 32;
+  count = u32At s 36;
+  numbers = numbersAt s 40 8;
+  name = part 72 nameSpace s;
+  vendor = part 200 16 s;
+}
+
+abbrev pub limitAt : List ℕ → ℕ → Limit
+limitAt table i = limitOf (part (limitSize * i) limitSize table)
 
 -- "for a variable, by name and GUID": the name is as long as its size says
 abbrev pub limitKey : Limit → Key
@@ -22,8 +62,11 @@ isFor t k = leb (t .size) nameSpace && sameKey (limitKey t) k
 abbrev pub limitSpace : ℕ
 limitSpace = 32
 
-unfoldable pub limitsFor : Setup → Key → List Limit
-limitsFor u k = keep (λ t. isFor t k) (take (min (u .rules) limitSpace) (u .limits))
+unfoldable pub limitsIn : List ℕ → ℕ → Key → List Limit
+limitsIn table rules k = keep (λ t. isFor t k) (map (limitAt table) (range 0 (min rules limitSpace)))
+
+abbrev pub limitsFor : Setup → Key → List Limit
+limitsFor u k = limitsIn (u .limits) (u .rules) k
 
 -- a field's number: multi-byte fields are little-endian
 unfoldable pub little : List ℕ → ℕ

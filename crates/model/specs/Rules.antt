@@ -6,9 +6,9 @@ use mathlib.Core.Option.{Option, none, some}
 use lib.ListN.{length}
 use lib.Dec.{eqb, leb, ltb}
 use Rattle.model.specs.declared.Layout.{Layout}
-use Rattle.model.specs.declared.Limit.{Limit}
 use Rattle.model.specs.declared.Session.{Session}
 use Rattle.model.specs.declared.Terms.{Terms}
+use Rattle.model.specs.declared.View.{View}
 use Rattle.model.specs.declared.Rule.{Rule}
 use Rattle.model.specs.declared.Rule.the-variants.{Length, Unready, Name, Attributes, KeyAttributes, Locked, Standing, Descriptor, Verdict, Stamp, Absent, DataSize, Room, Buffer, LockPhase, LockSpace, RecordName, RecordSpace, Setting}
 use Rattle.model.specs.Layout.{authenticated}
@@ -20,7 +20,7 @@ use Rattle.model.specs.Region.{maxData, storedAttributes, recordBit, val
 use Rattle.model.specs.Work.{readyIn, readyForStartUp}
 use Rattle.model.specs.Session.{isYes, inBoot, atRuntime, customMode, reserved, countedLocks, lockSpace, locked}
 use Rattle.model.specs.Request.{Request, requestKey, runtimeAccess, timeBased, appends, withoutAppend, isKeyName, userMode, wantedVerdicts, rightDescriptor, stampToStore, later}
-use Rattle.model.specs.Limits.{limitsFor, meets}
+use Rattle.model.specs.Limits.{Limit, limitsFor, meets}
 use Rattle.model.specs.Change.{Change, nothing, remove, put, changeOf, changeIn, steps, leaves, spaceOf, isErrorRecord, recordSizes, otherSizes}
 
 -- "The first broken is the answer": of rules in checking order, each with whether it is broken
@@ -136,7 +136,8 @@ rule15 s = not (inBoot s)
 unfoldable pub rule16 : Session → Key → Bool
 rule16 s k = leb lockSpace (countedLocks s) && not (locked s k)
 
--- what a session says to a set of a name: whether the phase is runtime, whether the name is barred by rule 6, custom mode, the bytes kept back, and H
+-- what a session says to a set of a name: whether the phase is runtime, whether the name is barred by rule 6, custom mode, the bytes kept back, H, and how many rules
+-- for settings are in use
 unfoldable pub termsOf : Session → Key → Terms
 termsOf s k = record {
   runtime = atRuntime s;
@@ -144,7 +145,12 @@ termsOf s k = record {
   custom = customMode s;
   reserve = reserved s;
   records = s .setup .records;
+  rules = s .setup .rules;
 }
+
+-- and to a get and a next-name: whether the phase is runtime
+unfoldable pub viewOf : Session → View
+viewOf s = record { runtime = atRuntime s }
 
 -- "Sets, deletes among them, meet 1 to 13", with 17, 21 and 18 in their places: the image, the call itself, what stands, the result, the rules for its name, room
 unfoldable pub imageRulesIn : Layout → List ℕ → List (Rule × Bool)

@@ -7,7 +7,6 @@ use mathlib.Core.Bool.{Bool, false, not, _||_}
 use mathlib.Core.List.{List, [], _∷_}
 use mathlib.Core.Option.{Option, none}
 use lib.ListN.{length}
-use Rattle.model.specs.declared.Limit.{Limit}
 use Rattle.model.specs.declared.Session.{Session}
 use Rattle.model.specs.declared.Context.{Context}
 use Rattle.model.specs.Entry.{Value}
@@ -15,7 +14,7 @@ use Rattle.model.specs.Lists.{onSome}
 use Rattle.model.specs.Region.{valuesOf, find}
 use Rattle.model.specs.Session.{isYes}
 use Rattle.model.specs.Request.{Request, requestKey}
-use Rattle.model.specs.Limits.{limitsFor, meets}
+use Rattle.model.specs.Limits.{Limit, limitsFor, meets}
 use Rattle.model.specs.Change.{Change, changeIn, steps, leaves}
 use Rattle.model.specs.Rules.{rule21, imageRulesIn, requestRules, standingRules, resultRules, itemRules, settingRules, setBroken}
 use Rattle.model.specs.Stores.{Store, stores, applyAll}

@@ -11,7 +11,6 @@ use mathlib.Core.Option.{Option, none, some}
 use lib.ListN.{length, take, drop, length-append, take-append-drop}
 use lib.Dec.{eqb, leb, ltb}
 use borrow.Author.Tests.{le-leb}
-use Rattle.model.specs.declared.Limit.{Limit}
 use Rattle.model.specs.declared.Rule.{Rule}
 use Rattle.model.specs.declared.Rule.the-variants as rule
 use Rattle.model.specs.Lists.{isEmpty}
@@ -24,6 +23,7 @@ use Rattle.model.specs.Set.{Plan, refuse, make}
 use Rattle.model.specs.StartUp.{startUpPlan, startUpStores}
 use Rattle.model.specs.Answers.{ruleNumber, storesOf, decided}
 use Rattle.model.specs.Book.{Call, set, callBroken, planOf, setPlan, Sized, entered, bookAfter}
+use Rattle.model.specs.Limits.{Limit}
 use Rattle.model.proofs.Stores.{after-all, stores-append}
 use Rattle.plan.specs.declared.HostOp.{HostOp}
 use Rattle.plan.specs.declared.HostPlan.{HostPlan}

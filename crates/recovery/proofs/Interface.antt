@@ -9,7 +9,6 @@ use mathlib.Core.List.{List, []}
 use lib.Dec.{leb}
 use lib.Seq.{take-nil}
 use Rattle.model.specs.declared.Layout.{Layout}
-use Rattle.model.specs.declared.Limit.{Limit}
 use Rattle.model.specs.declared.Setup.{Setup}
 use Rattle.model.specs.declared.Session.{Session}
 use Rattle.model.specs.declared.Answer.the-variants.{Done}
@@ -23,7 +22,7 @@ use Rattle.model.specs.Entry.{Value}
 use Rattle.model.specs.Region.{valuesOf, find}
 use Rattle.model.specs.Session.{locked, countedPhase, withPhase, movedTo, withLock, lockedSession, kept, freshSession}
 use Rattle.model.specs.Request.{requestKey}
-use Rattle.model.specs.Limits.{limitsFor}
+use Rattle.model.specs.Limits.{Limit, limitsFor}
 use Rattle.model.specs.Rules.{lockBroken}
 use Rattle.model.specs.Stores.{stores, after, applyAll}
 use Rattle.model.specs.Set.{refuse, make}
@@ -117,7 +116,7 @@ kept-setup (lock-asked {s} i k) = lock-setup s k ∙ kept-setup i
 
 -- and the rules among it are kept as they were given
 kept-limits : (setup : Setup) (k : Key) → limitsFor (kept setup) k ≡ limitsFor setup k
-unfolding limitsFor kept
+unfolding kept
 kept-limits setup k = refl
 
 pub session-limits : {setup : Setup} {s : Session} → InSession setup s → (k : Key) → limitsFor (s .setup) k ≡ limitsFor setup k

@@ -1,7 +1,7 @@
 -- Laws that the proofs of this crate's functions cite.
--- What a session says by its numbers
+-- What a session says by its parts
 pub mod Phases
--- The places of the lock list from one on
+-- The places of the lock list
 pub mod Places
 -- A lock by its tests in their order
 pub mod Locking

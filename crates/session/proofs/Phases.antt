@@ -1,26 +1,27 @@
--- What a session says by its numbers, in the words of the contracts of `in_boot`, `at_runtime` and `reserved`: the definitions, written out; and the two tests
--- of a phase, which counts as 2 where it is above.
+-- What a session says by its parts: the definitions, written out; and the two tests of a phase, which counts as 2 where it is above.
 -- Assumes nothing.
 use Prim.Native.Nat.{ℕ, min}
 use native.Mathlib.Omega.{arith}
 use mathlib.Core.Path.{_≡_, refl}
-use mathlib.Core.Bool.{Bool, true, false, cond}
+use mathlib.Core.Bool.{Bool, true, false}
 use lib.Dec.{eqb, leb}
 use borrow.Author.Tests.{eq-eqb, ne-eqb, eqb-true, eqb-false, leb-true, leb-false}
 use Rattle.model.specs.declared.Session.{Session}
-use Rattle.model.specs.Session.{countedPhase, countedReserve, inBoot, atRuntime, reserved}
+use Rattle.model.specs.Name.{Key}
+use Rattle.model.specs.Session.{countedPhase, inBoot, atRuntime, customMode, reserved}
+use Rattle.model.specs.Rules.{rule6, termsOf, viewOf}
+use Rattle.session.specs.Said.{barredBy, termsBy, viewBy}
+use Rattle.session.proofs.Places.{locked-held}
 
-pub boot-phase : (s : Session) → inBoot s ≡ eqb (countedPhase (s .phase)) 0
-unfolding inBoot
-boot-phase s = refl
+pub terms-said : (s : Session) (k : Key)
+    → termsOf s k
+    ≡ termsBy (s .phase) (s .setup .custom) (s .setup .reserve) (s .setup .records) (s .setup .rules) (barredBy (s .phase) (s .count) (s .sizes) (s .locks) k)
+unfolding termsOf termsBy barredBy rule6 inBoot atRuntime customMode reserved
+terms-said s k = rw (locked-held s k)
 
-pub runtime-phase : (s : Session) → atRuntime s ≡ eqb (countedPhase (s .phase)) 2
-unfolding atRuntime
-runtime-phase s = refl
-
-pub reserved-numbers : (s : Session) → reserved s ≡ cond (eqb (countedPhase (s .phase)) 2) (countedReserve (s .setup .reserve)) 0
-unfolding reserved atRuntime
-reserved-numbers s = refl
+pub view-said : (s : Session) → viewOf s ≡ viewBy (s .phase)
+unfolding viewOf viewBy atRuntime
+view-said s = refl
 
 pub boot-test : (p : ℕ) → eqb (countedPhase p) 0 ≡ eqb p 0
 boot-test p = go (eqb p 0) refl

@@ -1,18 +1,19 @@
-// What a session says of a call: its phase, its reserve and its locks; and the lock call.
+// What a session says to a call, by its parts: its phase, its reserve and its locks; and the lock call.
 ghost use mathlib.Core.Path.{_≡_};
 ghost use mathlib.Core.Bool.{cond};
 ghost use Prim.Native.Nat.{_≤_, _<_};
 ghost use lib.Dec.{eqb};
 ghost use Rattle.model.specs.Name.{keyed};
 ghost use Rattle.model.specs.Session.{countedPhase, countedReserve};
-ghost use Rattle.model.specs.Rules.{rule6, termsOf};
 ghost use Rattle.model.specs.Answers.{answerOf, lockOutcome, lockSession};
 ghost use Rattle.session.specs.Places.{holds, heldFrom};
+ghost use Rattle.session.specs.Said.{barredBy, termsBy, viewBy};
 use model::Answer;
 use model::Listed;
 use model::Rule;
 use model::Session;
 use model::Terms;
+use model::View;
 
 // Whether the phase is boot.
 pub fn in_boot(phase: u32) -> bool
@@ -58,9 +59,9 @@ fn is_place(locks: &[u8], place: usize, size: usize, name: &[u8], vendor: &[u8])
     slices::equal(guid, vendor)
 }
 
-// Whether a name is locked: one of the places in use of a lock list holds it. A count above 16 is 16. The list alone is handed over, without the rest of its session.
-fn is_locked(used: u32, sizes: [u32; 16], locks: [u8; 2304], name: &[u8], vendor: &[u8; 16]) -> bool
-    ensures { λ r. ⌜ r ≡ heldFrom sizes locks used (keyed (now (name .entry)) (now (vendor .entry))) 0 ⌝ }
+// Whether a name is locked: one of the places in use of a lock list holds it. A count above 16 is 16.
+fn is_locked(used: u32, sizes: [u32; 16], locks: &[u8], name: &[u8], vendor: &[u8; 16]) -> bool
+    ensures { λ r. ⌜ r ≡ heldFrom sizes (now (locks .entry)) used (keyed (now (name .entry)) (now (vendor .entry))) 0 ⌝ }
 {
     let count = used as usize;
     let mut i = 0;
@@ -68,7 +69,7 @@ fn is_locked(used: u32, sizes: [u32; 16], locks: [u8; 2304], name: &[u8], vendor
         if count <= i {
             return false;
         }
-        if is_place(&locks, i, sizes[i] as usize, name, vendor) {
+        if is_place(locks, i, sizes[i] as usize, name, vendor) {
             return true;
         }
         i += 1;
@@ -77,27 +78,42 @@ fn is_locked(used: u32, sizes: [u32; 16], locks: [u8; 2304], name: &[u8], vendor
 }
 
 // Rule 6: the name is locked and the phase is not boot. In the boot phase the list is not looked through.
-fn is_barred(s: Session, name: &[u8], vendor: &[u8; 16]) -> bool
-    ensures { λ r. ⌜ r ≡ rule6 s (keyed (now (name .entry)) (now (vendor .entry))) ⌝ }
+pub fn is_barred(
+    phase: u32,
+    used: u32,
+    sizes: [u32; 16],
+    locks: &[u8],
+    name: &[u8],
+    vendor: &[u8; 16],
+) -> bool
+    ensures { λ r. ⌜ r ≡ barredBy phase used sizes (now (locks .entry)) (keyed (now (name .entry)) (now (vendor .entry))) ⌝ }
 {
-    if in_boot(s.phase) {
+    if in_boot(phase) {
         return false;
     }
-    let sizes = s.sizes;
-    let locks = s.locks;
-    is_locked(s.count, sizes, locks, name, vendor)
+    is_locked(used, sizes, locks, name, vendor)
 }
 
-// What a session says to a set of a name.
-pub fn terms(s: Session, name: &[u8], vendor: &[u8; 16]) -> Terms
-    ensures { λ r. ⌜ r ≡ termsOf s (keyed (now (name .entry)) (now (vendor .entry))) ⌝ }
+// What a session says to a set of a name, by its numbers and whether a lock bars the name.
+pub fn terms(phase: u32, custom: u32, reserve: u32, records: u32, rules: u32, barred: bool) -> Terms
+    ensures { λ r. ⌜ r ≡ termsBy phase custom reserve records rules barred ⌝ }
 {
     Terms {
-        runtime: at_runtime(s.phase),
-        barred: is_barred(s, name, vendor),
-        custom: s.setup.custom != 0,
-        reserve: reserved(s.phase, s.setup.reserve),
-        records: s.setup.records,
+        runtime: at_runtime(phase),
+        barred,
+        custom: custom != 0,
+        reserve: reserved(phase, reserve),
+        records,
+        rules,
+    }
+}
+
+// What a session says to a get and a next-name.
+pub fn view(phase: u32) -> View
+    ensures { λ r. ⌜ r ≡ viewBy phase ⌝ }
+{
+    View {
+        runtime: at_runtime(phase),
     }
 }
 
@@ -122,8 +138,7 @@ pub fn lock(s: Session, name: &[u8], vendor: &[u8; 16]) -> Listed
         };
     }
     let sizes = s.sizes;
-    let locks = s.locks;
-    if is_locked(s.count, sizes, locks, name, vendor) {
+    if is_locked(s.count, sizes, &s.locks, name, vendor) {
         return Listed {
             answer: Answer::Done(0),
             session: s,

@@ -1,11 +1,10 @@
 -- A row of a table of cases: an image and a call, and what document 01 says of them, which is what holds with w = 1 and no dead byte; and what the rows are
 -- made of.
 -- Assumes nothing.
-use Prim.Native.Nat.{ℕ, _-_}
+use Prim.Native.Nat.{ℕ, _-_, _/_, _%_}
 use mathlib.Core.Path.{_≡_}
-use mathlib.Core.List.{List, [], _∷_, _++_}
+use mathlib.Core.List.{List, [], _∷_, _++_, map}
 use lib.ListN.{length, replicate}
-use Rattle.model.specs.declared.Limit.{Limit}
 use Rattle.model.specs.declared.Setup.{Setup}
 use Rattle.model.specs.declared.Session.{Session}
 use Rattle.model.specs.declared.Context.{Context}
@@ -60,9 +59,14 @@ computed = tt
 
 -- ---- what the rows are made of; every byte is written out here, and none is taken from the definitions
 
--- what a start-up is given: custom mode, R, H, and rules for settings, so many of them in use; and without such rules
-abbrev pub givenRules : ℕ → ℕ → ℕ → ℕ → List Limit → Setup
-givenRules custom reserve h n limits = record { custom = custom; reserve = reserve; records = h; rules = n; limits = limits }
+-- bytes one part after another
+abbrev pub joint : List (List ℕ) → List ℕ
+joint [] = []
+joint (part ∷ parts) = part ++ joint parts
+
+-- what a start-up is given: custom mode, R, H, and rules for settings, each by its bytes, so many of them in use; and without such rules
+abbrev pub givenRules : ℕ → ℕ → ℕ → ℕ → List (List ℕ) → Setup
+givenRules custom reserve h n limits = record { custom = custom; reserve = reserve; records = h; rules = n; limits = joint limits }
 
 abbrev pub given : ℕ → ℕ → ℕ → Setup
 given custom reserve h = givenRules custom reserve h 0 []
@@ -216,7 +220,7 @@ named a b c d =
 
 -- ---- rules for settings
 
--- what a rule wants of a field: an offset, a width, and a number between two or in a list, of which so many are in use
+-- what a rule wants of a field: an offset, a width, and a number between two or in a list of eight, of which so many are in use
 pub record Field : Type 0 where
   pub at : ℕ
   pub width : ℕ
@@ -229,32 +233,36 @@ pub record Field : Type 0 where
 abbrev pub between : ℕ → ℕ → ℕ → ℕ → Field
 between at width low high = record { at = at; width = width; ranged = 1; low = low; high = high; count = 0; numbers = zeros 8 }
 
--- a rule: the size of its name, which stands in 128 bytes, and its GUID; smallest and largest size, read-only or not, the field
-abbrev pub rule : ℕ → List ℕ → List ℕ → ℕ → ℕ → ℕ → Field → Limit
-rule size name vendor least most fixed field = record {
-  size = size;
-  least = least;
-  most = most;
-  fixed = fixed;
-  at = field .at;
-  width = field .width;
-  ranged = field .ranged;
-  low = field .low;
-  high = field .high;
-  count = field .count;
-  numbers = field .numbers;
-  name = name ++ zeros (128 - length name);
-  vendor = vendor;
-}
+-- a number in four bytes, low byte first
+abbrev number : ℕ → List ℕ
+number n = n % 256 ∷ n / 256 % 256 ∷ n / 65536 % 256 ∷ n / 16777216 ∷ []
+
+-- a rule, 216 bytes: the size of its name, smallest and largest size, read-only or not, the field, and its name, which is in 128 bytes, and GUID
+abbrev pub rule : ℕ → List ℕ → List ℕ → ℕ → ℕ → ℕ → Field → List ℕ
+rule size name vendor least most fixed field =
+    number size
+    ++ number least
+    ++ number most
+    ++ number fixed
+    ++ number (field .at)
+    ++ number (field .width)
+    ++ number (field .ranged)
+    ++ number (field .low)
+    ++ number (field .high)
+    ++ number (field .count)
+    ++ joint (map number (field .numbers))
+    ++ name
+    ++ zeros (128 - length name)
+    ++ vendor
 
 -- a rule for RATE, of a field
-abbrev pub wanting : Field → Limit
+abbrev pub wanting : Field → List ℕ
 wanting field = rule 10 rate guid 1 2048 0 field
 
 -- RATE's data are 64 00 00 00, the number 100, which breaks this one
-abbrev pub below : Limit
+abbrev pub below : List ℕ
 below = wanting (between 0 4 0 99)
 
 -- rules in the boot phase, all of them in use
-abbrev pub under : List Limit → Session
+abbrev pub under : List (List ℕ) → Session
 under limits = sessionOf 0 (givenRules 0 0 0 (length limits) limits)

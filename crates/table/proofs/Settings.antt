@@ -5,7 +5,6 @@ use Prim.Native.Nat.{ℕ}
 use mathlib.Core.Path.{_≡_, refl}
 use mathlib.Core.List.{List, [], _∷_, _++_}
 use lib.ListN.{length, replicate}
-use Rattle.model.specs.declared.Limit.{Limit}
 use Rattle.model.specs.Session.{freshSession}
 use Rattle.model.specs.Answers.{done}
 use Rattle.model.specs.Book.{Call, set}
@@ -21,25 +20,25 @@ abbrev anyByte : Field
 anyByte = between 0 1 0 255
 
 -- a rule for RATE, of sizes; one that is read-only; one of a field, which the number 100 meets
-abbrev sized : ℕ → ℕ → Limit
+abbrev sized : ℕ → ℕ → List ℕ
 sized least most = rule 10 rate guid least most 0 anyByte
 
-abbrev readOnly : Limit
+abbrev readOnly : List ℕ
 readOnly = rule 10 rate guid 1 2048 1 anyByte
 
-abbrev from : Limit
+abbrev from : List ℕ
 from = wanting (between 0 4 100 200)
 
 -- RATE is set
-abbrev rating : List Limit → ℕ → List ℕ → Call
+abbrev rating : List (List ℕ) → ℕ → List ℕ → Call
 rating limits attributes bytes = settingIn (under limits) rate guid attributes bytes
 
 -- four bytes of data break a rule
-abbrev breaks : Limit → List ℕ → Row
+abbrev breaks : List ℕ → List ℕ → Row
 breaks limit bytes = refuses empty 28 (rating (limit ∷ []) 0x07 bytes) 21
 
 -- they meet it, and come in
-abbrev meets : Limit → List ℕ → Row
+abbrev meets : List ℕ → List ℕ → Row
 meets limit bytes = rated (under (limit ∷ [])) bytes
 
 -- 01 02 03 04
@@ -129,8 +128,9 @@ eighth-holds : Holds eighth
 unfolding computed
 eighth-holds = held eighth refl refl tt tt refl refl
 
+-- what comes after the eight is none of them: the first bytes of the rule's name
 abbrev ninth : Row
-ninth = breaks (wanting (oneOf 0 4 9 (seven ++ (8 ∷ 100 ∷ [])))) (four 0x64)
+ninth = breaks (wanting (oneOf 0 4 9 (seven ++ (8 ∷ [])))) (0x52 ∷ 0x00 ∷ 0x41 ∷ 0x00 ∷ [])
 
 ninth-holds : Holds ninth
 unfolding computed
@@ -313,10 +313,10 @@ bothMet-holds = held bothMet refl refl tt tt refl refl
 -- ---- "for a variable, by name and GUID": a rule says nothing of another one
 
 -- a rule that any data break
-abbrev forbidding : List ℕ → List ℕ → Limit
+abbrev forbidding : List ℕ → List ℕ → List ℕ
 forbidding name vendor = rule (length name) name vendor 1 2048 0 (between 0 0 0 0)
 
-abbrev other : Limit
+abbrev other : List ℕ
 other = forbidding (0x41 ∷ 0x00 ∷ 0x00 ∷ 0x00 ∷ []) guid
 
 abbrev otherName : Row
@@ -337,7 +337,7 @@ otherGuid-holds = held otherGuid refl refl tt tt refl refl
 abbrev long : List ℕ
 long = replicate 126 0x41 ++ zeros 2
 
-abbrev appendingTo : List ℕ → Limit → Call
+abbrev appendingTo : List ℕ → List ℕ → Call
 appendingTo name limit = settingIn (under (limit ∷ [])) name guid 0x47 []
 
 abbrev longName : Row
@@ -616,7 +616,7 @@ unfolding computed
 recordMeets-holds = held recordMeets refl refl tt tt refl refl
 
 -- and before 13: H leaves no room for any other value
-abbrev roomless : Limit → Call
+abbrev roomless : List ℕ → Call
 roomless limit = settingIn (sessionOf 0 (givenRules 0 0 0xFFFFFFFF 1 (limit ∷ []))) rate guid 0x07 (four 0x64)
 
 abbrev roomBreaks : Row

@@ -1,4 +1,4 @@
--- `capi::vs_start_up` meets its contract: it is the engine's, with the answer in numbers. Assumes nothing.
+-- `capi::vs_start_up` meets its contract: it is the engine's, with the answer in numbers, and a fresh session. Assumes nothing.
 use Rattle.model.specs.StartUp.{startUpPlan}
 use Rattle.model.specs.Book.{planOf}
 use mathlib.Core.Path.{ap, _∙_}
@@ -10,7 +10,9 @@ use Rattle.capi.proofs.vs_start_up.Tie as tie
 returns : tie.Need-returns
 unfolding planOf startUpPlan
 returns c =
-    let e = c .before .before .before .before .start-up .ensures in (c .numbers .ensures ∙ ap numbersOf (e .0 .0), e .1, e .0 .1, e .2)
+    let e = c .before .before .before .before .start-up .ensures in
+    let r = e .0 (c .before .before .before .before .before .before .before .before .args .setup) in
+    (c .numbers .ensures ∙ ap numbersOf (r .0), c .before .fresh .ensures, r .1, e .1)
 
 pub vs-start-up-spec : {M : Type 1} → statement M
-vs-start-up-spec = tie.close (tie.spec (λ c κs. search needs) (λ c κs. search needs) (λ c. search needs) returns)
+vs-start-up-spec = tie.close (tie.spec (λ c κs. search needs) (λ c κs. search needs) (λ c κs. search needs) (λ c. search needs) returns)

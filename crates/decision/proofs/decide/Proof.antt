@@ -4,7 +4,7 @@ use lib.ListN.{length}
 use denote.Ref.{now}
 use Rattle.model.specs.Name.{keyed}
 use Rattle.model.specs.Region.{entries, values, added, replacing, standing}
-use Rattle.model.specs.Limits.{limitsFor}
+use Rattle.model.specs.Limits.{limitsIn}
 use Rattle.values.specs.Found.{elseFound}
 use Rattle.values.specs.declared.Found.{Found}
 use Rattle.values.proofs.Finds.{found-else}
@@ -19,8 +19,8 @@ use Rattle.decision.proofs.decide.Tie as tie
 decide-over-requires : tie.Need-decide-over-requires
 unfolding standing
 decide-over-requires c κs =
-    let a = c .before .before .before .before .before .before .args in
-    let p = c .before .before .before .before .before .before .pre in
+    let a = c .before .before .before .before .before .before .before .args in
+    let p = c .before .before .before .before .before .before .before .pre in
     let es = entries (now (a .region)) in
     let k = keyed (now (a .name)) (now (a .vendor)) in
     let l = c .before .places .ensures in
@@ -29,8 +29,8 @@ decide-over-requires c κs =
 returns : tie.Need-returns
 unfolding standing
 returns c =
-    let a = c .before .before .before .before .before .before .before .before .args in
-    let p = c .before .before .before .before .before .before .before .before .pre in
+    let a = c .before .before .before .before .before .before .before .before .before .args in
+    let p = c .before .before .before .before .before .before .before .before .before .pre in
     let r = now (a .region) in
     let es = entries r in
     let k = keyed (now (a .name)) (now (a .vendor)) in
@@ -44,7 +44,7 @@ returns c =
       l .0,
       l .1,
       λ e. ap (λ (f : Found). valueBy r (now (a .name)) (now (a .vendor)) (now (a .bytes)) f (c .value .result)) (sym here)
-          ∙ value-here (a .t) q r (p .0) found old (put-formed (limitsFor (a .u) k) (a .t) q (length r) (values es) (sym over ∙ e)) (c .value .result) (c .value .ensures),
+          ∙ value-here (a .t) q r (p .0) found old (put-formed (limitsIn (now (a .limits)) (a .t .rules) k) (a .t) q (length r) (values es) (sym over ∙ e)) (c .value .result) (c .value .ensures),
     )
 
 pub decide-spec : {M : Type 1} → statement M

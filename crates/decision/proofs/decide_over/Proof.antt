@@ -6,11 +6,10 @@ use mathlib.Core.List.{List, [], _++_}
 use mathlib.Core.Path.{_≡_, sym, ap, ap₂, _∙_}
 use lib.ListN.{length}
 use denote.Ref.{now}
-use Rattle.model.specs.declared.Limit.{Limit}
 use Rattle.model.specs.Name.{keyed}
 use Rattle.model.specs.Entry.{headerSize, rounded}
 use Rattle.model.specs.Region.{recordBit, entries, values}
-use Rattle.model.specs.Limits.{limitsFor}
+use Rattle.model.specs.Limits.{Limit, limitsIn}
 use Rattle.model.specs.Rules.{firstBroken}
 use Rattle.limits.specs.Broken.{brokenBy}
 use Rattle.values.specs.Found.{oldData}
@@ -27,7 +26,7 @@ use Rattle.decision.proofs.decide_over.Tie as tie
 judge-requires : tie.Need-judge-requires
 unfolding newSize keptData
 judge-requires c κs =
-    let m = c .before .before .before .before .before .before .before in
+    let m = c .before .before .before .before .before .before .before .before in
     let a = m .args in
     let p = m .pre in
     let kept = c .before .kept-data .ensures ∙ ap (λ (t : Bool). cond t (oldData (now (a .region)) (a .old)) []) (c .before .before .appends .ensures) in
@@ -36,7 +35,7 @@ judge-requires c κs =
 roomed-requires : tie.Need-roomed-requires
 unfolding newSize keptData
 roomed-requires c κs =
-    let m = c .before .before .before .before .before .before .before .before .before in
+    let m = c .before .before .before .before .before .before .before .before .before .before in
     let a = m .args in
     let p = m .pre in
     let r = now (a .region) in
@@ -54,14 +53,14 @@ roomed-requires c κs =
 returns : tie.Need-returns
 unfolding newSize keptData
 returns c =
-    let m = c .before .before .before .before .before .before .before .before .before .before in
+    let m = c .before .before .before .before .before .before .before .before .before .before .before in
     let a = m .args in
     let p = m .pre in
     let r = now (a .region) in
     let k = keyed (now (a .name)) (now (a .vendor)) in
     let b = a .asking .attributes in
     let q = requestOf (now (a .name)) (now (a .vendor)) b (now (a .bytes)) (a .asking .presence) (a .asking .verdict) in
-    let ls : List Limit = limitsFor (a .u) k in
+    let ls : List Limit = limitsIn (now (a .limits)) (a .t .rules) k in
     let kept = c .before .before .before .before .kept-data .ensures ∙ ap (λ (t : Bool). cond t (oldData r (a .old)) []) (c .before .before .before .before .before .appends .ensures) in
     let proper = c .before .before .before .before .before .before .proper .ensures in
     let size : List ℕ → List ℕ → ℕ = λ x y. rounded (headerSize + length (now (a .name)) + (length x + length y)) in

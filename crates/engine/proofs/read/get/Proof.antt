@@ -6,7 +6,6 @@ use lib.ListN.{length}
 use denote.Ref.{now}
 use Rattle.model.specs.Name.{keyed}
 use Rattle.model.specs.Region.{entries, values, valuesOf}
-use Rattle.model.specs.Session.{atRuntime}
 use Rattle.model.specs.Rules.{gotBytes, valueToGet}
 use Rattle.engine.proofs.Opened.{opens, refuses}
 use Rattle.engine.proofs.Reading.{read-found, read-refused, read-as, region-get, get-answered}
@@ -23,24 +22,24 @@ mul-cut c =
 
 get-from-requires : tie.Need-get-from-requires
 get-from-requires c κs =
-    let img = now (c .before .before .before .before .before .before .before .before .before .before .before .args .image) in
-    let t = c .before .before .before .before .opened .given in
-    let o = opens img (c .before .before .before .before .before .before .before .is-named .result) (sym (c .before .before .before .before .before .before .«open» .ensures) ∙ t .1) in
-    let n = ap length (c .before .before .cut .ensures ∙ o .ready .cut) in
+    let img = now (c .before .before .before .before .before .before .before .before .before .before .args .image) in
+    let t = c .before .before .before .opened .given in
+    let o = opens img (c .before .before .before .before .before .before .is-named .result) (sym (c .before .before .before .before .before .«open» .ensures) ∙ t .1) in
+    let n = ap length (c .before .cut .ensures ∙ o .ready .cut) in
     omega (arith, o .ready .few, o .ready .long)
 
 returns : tie.Need-returns
 returns c =
-    let a = c .before .before .before .before .before .before .before .before .before .before .before .before .before .before .args in
+    let a = c .before .before .before .before .before .before .before .before .before .before .before .before .before .args in
     let img = now (a .image) in
-    let r = now (c .before .before .before .before .before .cut .result) in
+    let r = now (c .before .before .before .before .cut .result) in
     let k = keyed (now (a .name)) (now (a .vendor)) in
-    let t = c .before .before .before .before .before .before .before .opened .given in
-    let o = opens img (c .before .before .before .before .before .before .before .before .before .before .is-named .result) (sym (c .before .before .before .before .before .before .before .before .before .«open» .ensures) ∙ t .1) in
-    let found = valueToGet (c .before .before .before .before .at-runtime .result) k (values (entries r)) in
+    let t = c .before .before .before .before .before .before .opened .given in
+    let o = opens img (c .before .before .before .before .before .before .before .before .before .is-named .result) (sym (c .before .before .before .before .before .before .before .before .«open» .ensures) ∙ t .1) in
+    let found = valueToGet (a .view .runtime) k (values (entries r)) in
     let here = read-found img found gotBytes (λ v. v .attributes) (now (a .buffer)) o (c .before .before .get-from .ensures) in
-    let value = region-get (a .s) k img r (c .before .before .before .before .at-runtime .result) (c .before .before .before .before .before .cut .ensures ∙ o .ready .cut) (c .before .before .before .before .at-runtime .ensures) in
-    get-answered (a .c) (a .s) k (now (a .buffer)) img (read-as img gotBytes (λ v. v .attributes) (now (a .buffer)) value (c .before .before .before .before .before .before .before .before .before .before .is-named .ensures) here)
+    let value = region-get (a .view .runtime) k img r (c .before .before .before .before .cut .ensures ∙ o .ready .cut) in
+    get-answered (a .c) (a .view) k (now (a .buffer)) img (read-as img gotBytes (λ v. v .attributes) (now (a .buffer)) value (c .before .before .before .before .before .before .before .before .before .is-named .ensures) here)
 
 returns-2 : tie.Need-returns-2
 returns-2 c =
@@ -49,9 +48,9 @@ returns-2 c =
     let k = keyed (now (a .name)) (now (a .vendor)) in
     let t = c .before .before .opened2 .given in
     let x = refuses img (t .0 .0) (c .before .before .before .before .before .is-named .result) (sym (c .before .before .before .before .«open» .ensures) ∙ t .1) in
-    let value = valueToGet (atRuntime (a .s)) k (valuesOf img) in
+    let value = valueToGet (a .view .runtime) k (valuesOf img) in
     rw (c .refused .ensures)
-    (get-answered (a .c) (a .s) k (now (a .buffer)) img
+    (get-answered (a .c) (a .view) k (now (a .buffer)) img
     (read-as img gotBytes (λ v. v .attributes) (now (a .buffer)) refl (c .before .before .before .before .before .is-named .ensures) (read-refused img value gotBytes (λ v. v .attributes) (now (a .buffer)) x)))
 
 pub get-spec : {M : Type 1} → statement M
@@ -62,7 +61,6 @@ get-spec =
     (λ c κs. search needs)
     (λ c. search needs)
     mul-cut
-    (λ c κs. search needs)
     (λ c κs. search needs)
     get-from-requires
     (λ c. search needs)

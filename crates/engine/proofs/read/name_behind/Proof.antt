@@ -23,24 +23,24 @@ mul-cut c =
 
 name-from-requires : tie.Need-name-from-requires
 name-from-requires c κs =
-    let img = now (c .before .before .before .before .before .before .before .before .before .before .before .args .image) in
-    let t = c .before .before .before .before .opened .given in
-    let o = opens img (c .before .before .before .before .before .before .before .is-next-named .result) (sym (c .before .before .before .before .before .before .«open» .ensures) ∙ t .1) in
-    let n = ap length (c .before .before .cut .ensures ∙ o .ready .cut) in
+    let img = now (c .before .before .before .before .before .before .before .before .before .before .args .image) in
+    let t = c .before .before .before .opened .given in
+    let o = opens img (c .before .before .before .before .before .before .is-next-named .result) (sym (c .before .before .before .before .before .«open» .ensures) ∙ t .1) in
+    let n = ap length (c .before .cut .ensures ∙ o .ready .cut) in
     omega (arith, o .ready .few, o .ready .long)
 
 returns : tie.Need-returns
 returns c =
-    let a = c .before .before .before .before .before .before .before .before .before .before .before .before .before .before .args in
+    let a = c .before .before .before .before .before .before .before .before .before .before .before .before .before .args in
     let img = now (a .image) in
-    let r = now (c .before .before .before .before .before .cut .result) in
+    let r = now (c .before .before .before .before .cut .result) in
     let k = keyed (now (a .name)) (now (a .vendor)) in
-    let t = c .before .before .before .before .before .before .before .opened .given in
-    let o = opens img (c .before .before .before .before .before .before .before .before .before .before .is-next-named .result) (sym (c .before .before .before .before .before .before .before .before .before .«open» .ensures) ∙ t .1) in
-    let found = valueToName (c .before .before .before .before .at-runtime .result) k (values (entries r)) in
+    let t = c .before .before .before .before .before .before .opened .given in
+    let o = opens img (c .before .before .before .before .before .before .before .before .before .is-next-named .result) (sym (c .before .before .before .before .before .before .before .before .«open» .ensures) ∙ t .1) in
+    let found = valueToName (a .runtime) k (values (entries r)) in
     let here = read-found img found namedBytes (λ v. 0) (now (a .buffer)) o (c .before .before .name-from .ensures) in
-    let value = region-name (a .phase) k img r (c .before .before .before .before .at-runtime .result) (c .before .before .before .before .before .cut .ensures ∙ o .ready .cut) (c .before .before .before .before .at-runtime .ensures) in
-    read-as img namedBytes (λ v. 0) (now (a .buffer)) value (c .before .before .before .before .before .before .before .before .before .before .is-next-named .ensures) here
+    let value = region-name (a .runtime) k img r (c .before .before .before .before .cut .ensures ∙ o .ready .cut) in
+    read-as img namedBytes (λ v. 0) (now (a .buffer)) value (c .before .before .before .before .before .before .before .before .before .is-next-named .ensures) here
 
 returns-2 : tie.Need-returns-2
 returns-2 c =
@@ -50,7 +50,7 @@ returns-2 c =
     let t = c .before .before .opened2 .given in
     let x = refuses img (t .0 .0) (c .before .before .before .before .before .is-next-named .result) (sym (c .before .before .before .before .«open» .ensures) ∙ t .1) in
     rw (c .refused .ensures)
-    (read-as img namedBytes (λ v. 0) (now (a .buffer)) refl (c .before .before .before .before .before .is-next-named .ensures) (read-refused img (nextAt (a .phase) k img) namedBytes (λ v. 0) (now (a .buffer)) x))
+    (read-as img namedBytes (λ v. 0) (now (a .buffer)) refl (c .before .before .before .before .before .is-next-named .ensures) (read-refused img (nextAt (a .runtime) k img) namedBytes (λ v. 0) (now (a .buffer)) x))
 
 pub name-behind-spec : {M : Type 1} → statement M
 name-behind-spec =
@@ -60,7 +60,6 @@ name-behind-spec =
     (λ c κs. search needs)
     (λ c. search needs)
     mul-cut
-    (λ c κs. search needs)
     (λ c κs. search needs)
     name-from-requires
     (λ c. search needs)

@@ -10,7 +10,7 @@ use Rattle.engine.proofs.read.next_name.Tie as tie
 returns : tie.Need-returns
 returns c =
     let a = c .before .before .before .before .before .before .before .args in
-    next-answered (a .c) (a .s) (keyed (now (a .name)) (now (a .vendor))) (now (a .buffer)) (now (a .image)) (c .before .before .name-behind .ensures)
+    next-answered (a .c) (a .view) (keyed (now (a .name)) (now (a .vendor))) (now (a .buffer)) (now (a .image)) (c .before .before .name-behind .ensures)
 
 pub next-name-spec : {M : Type 1} → statement M
 next-name-spec =

@@ -7,38 +7,36 @@ use Rattle.engine.proofs.write.plan_ready.Tie as tie
 
 decide-requires : tie.Need-decide-requires
 decide-requires c κs =
-    region-asked (c .before .before .before .before .before .before .pre .0) (c .cut .ensures)
+    region-asked (c .before .before .before .before .before .before .before .pre .0) (c .cut .ensures)
 
 delete-requires : tie.Need-delete-requires
-delete-requires c κs =
-    remove-asked _ _ _ _ _ _ _ _ (c .before .before .before .before .before .before .before .before .before .before .before .pre .0) (c .before .before .before .before .before .cut .ensures) (c .before .before .before .before .before .before .terms .ensures) (c .before .before .before .before .decide .ensures)
+delete-requires c κs = remove-asked _ _ _ _ _ _ _ _ _ (c .before .before .before .before .before .before .before .before .before .before .before .before .pre .0) (c .before .before .before .before .before .cut .ensures) (c .before .before .before .before .decide .ensures)
 
 plan-put-requires : tie.Need-plan-put-requires
 plan-put-requires c κs =
-    let p = c .before .before .before .before .before .before .before .before .before .before .before .before .pre in
-    (put-asked _ _ _ _ _ _ _ _ (p .0) (c .before .before .before .before .before .before .cut .ensures) (c .before .before .before .before .before .before .before .terms .ensures) (c .before .before .before .before .before .decide .ensures) (c .before .enum-told3 .given .1), p .3)
+    let p = c .before .before .before .before .before .before .before .before .before .before .before .before .before .pre in
+    (put-asked _ _ _ _ _ _ _ _ _ (p .0) (c .before .before .before .before .before .before .cut .ensures) (c .before .before .before .before .before .decide .ensures) (c .before .enum-told3 .given .1), p .3)
 
 returns : tie.Need-returns
 returns c =
-    refused-plans _ _ _ _ (c .refuse .ensures) (set-refused _ _ _ _ _ _ _ _ (c .before .before .before .before .before .before .before .before .before .before .before .before .before .pre .0) (c .before .before .before .before .before .before .before .cut .ensures) (c .before .before .before .before .before .before .before .before .terms .ensures) (c .before .before .before .before .before .before .decide .ensures) (c .before .before .what .given .1))
+    λ s h. refused-plans _ _ _ _ (c .refuse .ensures) (set-refused _ _ _ _ _ _ _ _ _ (c .before .before .before .before .before .before .before .before .before .before .before .before .before .before .pre .0) (c .before .before .before .before .before .before .before .cut .ensures) (c .before .before .before .before .before .before .decide .ensures) s h (c .before .before .what .given .1))
 
 returns-2 : tie.Need-returns-2
 returns-2 c =
-    nothing-plans _ _ _ _ (c .before .nothing .ensures) (c .accept .ensures) (set-nothing _ _ _ _ _ _ _ _ (c .before .before .before .before .before .before .before .before .before .before .before .before .before .pre .0) (c .before .before .before .before .before .before .before .cut .ensures) (c .before .before .before .before .before .before .before .before .terms .ensures) (c .before .before .before .before .before .before .decide .ensures) (c .before .before .enum-told .given .1))
+    λ s h. nothing-plans _ _ _ _ (c .before .nothing .ensures) (c .accept .ensures) (set-nothing _ _ _ _ _ _ _ _ _ (c .before .before .before .before .before .before .before .before .before .before .before .before .before .before .pre .0) (c .before .before .before .before .before .before .before .cut .ensures) (c .before .before .before .before .before .before .decide .ensures) s h (c .before .before .enum-told .given .1))
 
 returns-3 : tie.Need-returns-3
 returns-3 c =
-    remove-plans _ _ _ _ _ _ _ _ (c .before .before .before .before .before .before .before .before .before .before .before .before .before .pre .0) (c .before .before .before .before .before .before .before .cut .ensures) (c .before .before .before .before .before .before .before .before .terms .ensures) (c .before .before .before .before .before .before .decide .ensures) (c .before .before .enum-told2 .given .1) (c .before .before .before .before .before .before .before .before .before .before .before .before .before .pre .1) (c .before .before .before .before .before .before .before .before .before .before .before .before .before .pre .2) _ _ (c .before .delete .ensures) (c .accept2 .ensures)
+    λ s h. remove-plans _ _ _ _ _ _ _ _ _ (c .before .before .before .before .before .before .before .before .before .before .before .before .before .before .pre .0) (c .before .before .before .before .before .before .before .cut .ensures) (c .before .before .before .before .before .before .decide .ensures) s h (c .before .before .enum-told2 .given .1) (c .before .before .before .before .before .before .before .before .before .before .before .before .before .before .pre .1) (c .before .before .before .before .before .before .before .before .before .before .before .before .before .before .pre .2 s) _ _ (c .before .delete .ensures) (c .accept2 .ensures)
 
 returns-4 : tie.Need-returns-4
 returns-4 c =
-    put-plans _ _ _ _ _ _ _ _ (c .before .before .before .before .before .before .before .before .before .before .before .before .before .before .before .pre .0) (c .before .before .before .before .before .before .before .before .before .cut .ensures) (c .before .before .before .before .before .before .before .before .before .before .terms .ensures) (c .before .before .before .before .before .before .before .before .decide .ensures) (c .before .before .before .before .enum-told3 .given .1) (c .before .before .before .before .before .before .before .before .before .before .before .before .before .before .before .pre .1) (c .before .before .before .before .before .before .before .before .before .before .before .before .before .before .before .pre .2) _ (c .before .before .plan-put .ensures)
+    λ s h. put-plans _ _ _ _ _ _ _ _ _ (c .before .before .before .before .before .before .before .before .before .before .before .before .before .before .before .before .pre .0) (c .before .before .before .before .before .before .before .before .before .cut .ensures) (c .before .before .before .before .before .before .before .before .decide .ensures) s h (c .before .before .before .before .enum-told3 .given .1) (c .before .before .before .before .before .before .before .before .before .before .before .before .before .before .before .before .pre .1) (c .before .before .before .before .before .before .before .before .before .before .before .before .before .before .before .before .pre .2 s) _ (c .before .before .plan-put .ensures)
 
 pub plan-ready-spec : {M : Type 1} → statement M
 plan-ready-spec =
     tie.close
     (tie.spec
-    (λ c κs. search needs)
     (λ c. search needs)
     (λ c κs. search needs)
     decide-requires

@@ -5,10 +5,16 @@ use borrow.Author.Needs.{needs}
 use Rattle.engine.proofs.write.set.Statement.{statement}
 use Rattle.engine.proofs.write.set.Tie as tie
 
+plan-set-requires : tie.Need-plan-set-requires
+plan-set-requires c κs = c .before .before .before .before .before .before .pre
+
+carry-out-requires : tie.Need-carry-out-requires
+carry-out-requires c κs = c .before .before .before .plan-set .ensures (c .before .before .before .before .before .before .before .before .before .before .pre .0) (c .before .before .before .before .before .before .before .before .before .before .pre .1) .ready
+
 returns : tie.Need-returns
 returns c =
-    let a = c .before .before .before .before .before .before .before .before .before .before .before .before .args in
-    (planned-end (a .c) (now (a .image)) (c .before .before .before .before .before .before .plan-set .ensures .same) (c .before .before .carry-out .ensures), c .before .before .before .before .before .before .plan-set .ensures .kept)
+    let a = c .before .before .before .before .before .before .before .before .before .before .before .before .before .args in
+    λ s h. let p = c .before .before .before .before .before .before .plan-set .ensures s h in (planned-end (a .c) (now (a .image)) (p .same) (c .before .before .carry-out .ensures), p .kept)
 
 pub set-spec : {M : Type 1} → statement M
-set-spec = tie.close (tie.spec (λ c κs. search needs) (λ c κs. search needs) (λ c. search needs) returns)
+set-spec = tie.close (tie.spec plan-set-requires carry-out-requires (λ c. search needs) returns)
