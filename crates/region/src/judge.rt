@@ -283,7 +283,8 @@ fn given_up() -> Pass
 }
 
 // One pass over the entries: each is sound by itself, and no name with its GUID has two 3F or two 3E entries. An entry whose mark is not noted is the first of its
-// name. After too many looks among the entries before it gives up. The inner loop passes usual entries whose marks are not noted, as nearly all are; at any other it stops, and the code after it judges that one.
+// name. The inner loop passes usual entries whose marks are not noted, as nearly all are; at any other it stops, and the code after it judges that one. Where too many
+// bytes would have to be passed in looking back, it gives up.
 fn scan_by_marks(y: Layout, region: &[u8]) -> Pass
     ensures { λ r. ⌜ (r .known ≡ true → r .scan ≡ scanOf y (now (region .entry))) ⌝ }
 {

@@ -2,8 +2,7 @@
 // name and GUID; then each live entry is looked up in it. The place that is found is a function of state, name and GUID, so of two entries that have them in common only
 // one finds itself there. That the table is sorted is not proved, and not needed: an entry that does not find itself is looked for among those before it.
 ghost use mathlib.Core.Path.{_≡_};
-ghost use mathlib.Core.Bool.{_&&_};
-ghost use Prim.Native.Nat.{_+_, _<_, _≤_};
+ghost use Prim.Native.Nat.{_<_, _≤_};
 ghost use lib.ListN.{length, getD};
 ghost use Rattle.region.specs.Judge.{scanOf};
 ghost use Rattle.region.specs.Walk.{entryAs};
@@ -18,9 +17,10 @@ use model::Layout;
 // How many offsets the table holds. Seven blocks hold 716 of the smallest entries in the plain form, and 421 in the form in which calls store.
 const PLACES: usize = 720;
 
-// What stands where none is entered. No entry of seven blocks begins there.
+// What is at a place where none is entered. No entry of seven blocks begins there.
 const NOWHERE: u16 = 0xFFFF;
 
+// A table in which none is entered.
 fn no_offsets() -> [u16; 720] {
     [NOWHERE; 720]
 }
@@ -126,7 +126,7 @@ fn is_same(y: Layout, region: &[u8], at: usize, state: u8, key: &[u8]) -> bool {
     false
 }
 
-// Enters an entry in a table of so many if it is live, and tells how many there are then. Of a doubled name the first stays. A name that ends past the region, which is not
+// Enters an entry in a table of so many if it is live, and answers how many there are then. Of a doubled name the first stays. A name that ends past the region, which is not
 // sound, is not entered: by its size it would come before others, and by its bytes after them.
 fn enter(
     y: Layout,
