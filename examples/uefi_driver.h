@@ -34,7 +34,7 @@ DRIVER_API uint64_t driver_request_to_lock(const void *name, const void *vendor)
  * With EFI_DEVICE_ERROR the part is not readable, was never formatted, or is damaged; then every service returns that. */
 uint64_t driver_power_on(const vs_setup *setup);
 
-/* Once, when the device is made: all variables are lost. */
+/* Once, when the device is made: all variables are lost. driver_power_on comes next. */
 uint64_t driver_format(void);
 
 /* The two events: the first ends the boot phase for locks, the second begins run time. */
