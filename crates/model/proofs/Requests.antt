@@ -308,8 +308,8 @@ module _ (s : Session) (r : Request) (img : List ℕ) (accepted : setBroken s r 
   set-ready = kept-ready its rules r img accepted
 
   pub put-key : (v : Value) → changeIn r (valuesOf img) ≡ put v → keyOf v ≡ requestKey r
-  unfolding changeIn newValue
-  put-key v c = ap keyOf (puts r (find (requestKey r) (valuesOf img)) v c .made)
+  unfolding changeIn
+  put-key v c = put-named r (find (requestKey r) (valuesOf img)) v c
 
   pub put-is-valid : (v : Value) → changeIn r (valuesOf img) ≡ put v → length (r .vendor) ≡ 16 → Valid v
   unfolding setBroken

@@ -5,3 +5,7 @@ pub mod Phases
 pub mod Places
 -- A lock by its tests in their order
 pub mod Locking
+-- A session renewed in place
+pub mod Fresh
+-- One more lock in place
+pub mod Enlisting

@@ -21,7 +21,7 @@ use Rattle.model.proofs.Tests.{and-split}
 use Rattle.model.proofs.Locks.{lock-fits}
 
 -- a well-formed name fits a place
-named-fits : (name : List ℕ) → wellNamed name ≡ true → length name ≤ 128
+pub named-fits : (name : List ℕ) → wellNamed name ≡ true → length name ≤ 128
 unfolding wellNamed
 named-fits name h =
     leb-true (length name) 128 (and-split (leb 4 (length name)) (leb (length name) 128) (and-split (leb 4 (length name) && leb (length name) 128) (zeroEnded name) h .0) .1)

@@ -2,14 +2,17 @@
 -- Assumes nothing.
 use Prim.Native.Nat.{ℕ, min}
 use native.Mathlib.Omega.{arith}
-use mathlib.Core.Path.{_≡_, refl}
+use mathlib.Core.Path.{_≡_, refl, sym}
 use mathlib.Core.Bool.{Bool, true, false}
+use mathlib.Core.List.{List}
 use lib.Dec.{eqb, leb}
 use borrow.Author.Tests.{eq-eqb, ne-eqb, eqb-true, eqb-false, leb-true, leb-false}
 use Rattle.model.specs.declared.Session.{Session}
+use Rattle.model.specs.Lists.{part, u32At, numbersAt}
 use Rattle.model.specs.Name.{Key}
 use Rattle.model.specs.Session.{countedPhase, inBoot, atRuntime, customMode, reserved}
 use Rattle.model.specs.Rules.{rule6, termsOf, viewOf}
+use Rattle.model.specs.Lent.{setupOf, sessionOf}
 use Rattle.session.specs.Said.{barredBy, termsBy, viewBy}
 use Rattle.session.proofs.Places.{locked-held}
 
@@ -22,6 +25,17 @@ terms-said s k = rw (locked-held s k)
 pub view-said : (s : Session) → viewOf s ≡ viewBy (s .phase)
 unfolding viewOf viewBy atRuntime
 view-said s = refl
+
+-- and one in its host's memory
+pub terms-lent : (s : List ℕ) (k : Key)
+    → termsBy (u32At s 0) (u32At s 4) (u32At s 8) (u32At s 12) (u32At s 16) (barredBy (u32At s 0) (u32At s 6932) (numbersAt s 6936 16) (part 7000 2304 s) k)
+    ≡ termsOf (sessionOf s) k
+unfolding sessionOf setupOf
+terms-lent s k = sym (terms-said (sessionOf s) k)
+
+pub view-lent : (s : List ℕ) → viewBy (u32At s 0) ≡ viewOf (sessionOf s)
+unfolding sessionOf
+view-lent s = sym (view-said (sessionOf s))
 
 pub boot-test : (p : ℕ) → eqb (countedPhase p) 0 ≡ eqb p 0
 boot-test p = go (eqb p 0) refl

@@ -15,6 +15,8 @@ use model::Session;
 use model::Terms;
 use model::View;
 
+pub mod lent;
+
 // Whether the phase is boot.
 pub fn in_boot(phase: u32) -> bool
     ensures { λ r. ⌜ r ≡ eqb (countedPhase phase) 0 ⌝ }
@@ -75,6 +77,13 @@ fn is_locked(used: u32, sizes: [u32; 16], locks: &[u8], name: &[u8], vendor: &[u
         i += 1;
     }
     false
+}
+
+// The same, with the list by value: a lock has its session by value, and with the list behind a reference the compiler would keep one more copy of the session.
+fn is_listed(used: u32, sizes: [u32; 16], locks: [u8; 2304], name: &[u8], vendor: &[u8; 16]) -> bool
+    ensures { λ r. ⌜ r ≡ heldFrom sizes locks used (keyed (now (name .entry)) (now (vendor .entry))) 0 ⌝ }
+{
+    is_locked(used, sizes, &locks, name, vendor)
 }
 
 // Rule 6: the name is locked and the phase is not boot. In the boot phase the list is not looked through.
@@ -138,7 +147,8 @@ pub fn lock(s: Session, name: &[u8], vendor: &[u8; 16]) -> Listed
         };
     }
     let sizes = s.sizes;
-    if is_locked(s.count, sizes, &s.locks, name, vendor) {
+    let locks = s.locks;
+    if is_listed(s.count, sizes, locks, name, vendor) {
         return Listed {
             answer: Answer::Done(0),
             session: s,
