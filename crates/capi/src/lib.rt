@@ -3,11 +3,15 @@
 ghost use mathlib.Core.Path.{_≡_};
 ghost use Rattle.model.specs.Layout.{authenticated, plain};
 ghost use Rattle.model.specs.Name.{keyed};
-ghost use Rattle.model.specs.Session.{freshSession, movedTo};
+ghost use Rattle.model.specs.Image.{regionSize};
+ghost use Rattle.model.specs.Region.{recordBit, valuesOf};
+ghost use Rattle.model.specs.Session.{atRuntime, reserved, freshSession, movedTo};
+ghost use Rattle.model.specs.Query.{storageFor, remainingFor, largestFor, queryOutcome, queryGives};
 ghost use Rattle.model.specs.StartUp.{startUpPlan, formatPlan};
 ghost use Rattle.model.specs.Beside.{Gives};
 ghost use Rattle.model.specs.Answers.{answerOf, outcome, imageAfter, getReply, nextReply, lockOutcome, lockSession};
 ghost use Rattle.model.specs.Move.{moveAnswer, imageMoved};
+ghost use Rattle.model.specs.Lent.{sessionOf};
 ghost use Rattle.decision.specs.Decision.{requestOf};
 ghost use Rattle.model.specs.Book as book;
 ghost use Rattle.model.specs.Book.{setPlan, getPlan, nextPlan};
@@ -21,9 +25,11 @@ use image::Check;
 use model::Answer;
 use model::Context;
 use model::Layout;
+use model::Queried;
 use model::Session;
 use model::Setup;
 use plan::HostPlan;
+use session::lent;
 
 // An answer in numbers: 0 done, 1 stopped, 2 refused; the rule if refused, else 0; the number of stores if done, else 0.
 #[repr(C)]
@@ -48,6 +54,15 @@ pub struct Reply {
     pub size: u32,
     pub attributes: u32,
     pub needed: u32,
+}
+
+// What a query gives back: the bytes that all values of a class may take, those that a new one may take, and how many bytes its name and data may have; 0 if refused.
+#[repr(C)]
+pub struct Room {
+    pub answer: Answered,
+    pub storage: u32,
+    pub remaining: u32,
+    pub largest: u32,
 }
 
 // What a lock gives back.
@@ -103,6 +118,41 @@ pub extern "C" fn vs_check(image: &[u8]) -> Checked
             tail: 0,
         },
     }
+}
+
+// What a query has found, in numbers.
+fn roomed(q: Queried) -> Room
+    ensures { λ r. ⌜ (r .answer ≡ numbersOf (answerOf (q .answer))) × (r .storage ≡ q .storage) × (r .remaining ≡ q .remaining) × (r .largest ≡ q .largest) ⌝ }
+{
+    let answer = q.answer;
+    Room {
+        answer: numbers(answer),
+        storage: q.storage,
+        remaining: q.remaining,
+        largest: q.largest,
+    }
+}
+
+#[no_mangle]
+pub extern "C" fn vs_query(
+    context: Context,
+    session: Session,
+    image: &[u8],
+    attributes: u32,
+) -> Room
+    ensures { λ r. ⌜ (r .answer ≡ numbersOf (queryOutcome (atRuntime session) attributes (now (image .entry))))
+        × (r .storage ≡ queryGives (atRuntime session) attributes (now (image .entry))
+        (storageFor (recordBit attributes) (session .setup .records) (reserved session) (regionSize (now (image .entry)))))
+        × (r .remaining ≡ queryGives (atRuntime session) attributes (now (image .entry))
+        (remainingFor (recordBit attributes) (session .setup .records) (reserved session) (regionSize (now (image .entry))) (valuesOf (now (image .entry)))))
+        × (r .largest ≡ queryGives (atRuntime session) attributes (now (image .entry))
+        (largestFor
+        (remainingFor (recordBit attributes) (session .setup .records) (reserved session) (regionSize (now (image .entry))) (valuesOf (now (image .entry)))))) ⌝ }
+{
+    let runtime = session::at_runtime(session.phase);
+    let reserve = session::reserved(session.phase, session.setup.reserve);
+    let q = engine::room::query(runtime, session.setup.records, reserve, image, attributes);
+    roomed(q)
 }
 
 #[no_mangle]
@@ -384,4 +434,241 @@ pub extern "C" fn vs_to_plain(image: &[u8], target: &mut [u8]) -> Answered
 {
     let answer = convert::move_values(Layout::authenticated(), Layout::plain(), image, target);
     numbers(answer)
+}
+
+// The calls that have their session in the host's memory.
+
+#[no_mangle]
+pub extern "C" fn vs_session_fresh(session: &mut [u8; lent::SESSION])
+    ensures { λ _. ⌜ sessionOf (now (session .exit)) ≡ freshSession (sessionOf (now (session .entry)) .setup) ⌝ }
+{
+    lent::renew(session);
+}
+
+#[no_mangle]
+pub extern "C" fn vs_phase_lent(session: &mut Session, phase: u32)
+    ensures { λ _. ⌜ now (session .exit) ≡ movedTo (now (session .entry)) phase ⌝ }
+{
+    *session = (*session).moved_to(phase);
+}
+
+#[no_mangle]
+pub extern "C" fn vs_lock_lent(
+    session: &mut [u8; lent::SESSION],
+    name: &[u8],
+    vendor: &[u8; 16],
+) -> Answered
+    ensures { λ r. ⌜ (r ≡ numbersOf (lockOutcome (sessionOf (now (session .entry))) (keyed (now (name .entry)) (now (vendor .entry)))))
+        × (sessionOf (now (session .exit)) ≡ lockSession (sessionOf (now (session .entry))) (keyed (now (name .entry)) (now (vendor .entry)))) ⌝ }
+{
+    let told = lent::lock(session, name, vendor);
+    numbers(told)
+}
+
+#[no_mangle]
+pub extern "C" fn vs_get_lent(
+    context: Context,
+    session: &[u8; lent::SESSION],
+    image: &[u8],
+    name: &[u8],
+    vendor: &[u8; 16],
+    buffer: &mut [u8],
+) -> Reply
+    ensures { λ r. ⌜ (r .answer
+        ≡ numbersOf (outcome context
+        (getPlan (sessionOf (now (session .entry))) (keyed (now (name .entry)) (now (vendor .entry))) (now (buffer .entry)) (now (image .entry)))
+        (now (image .entry))))
+        × Gives
+        (getReply (sessionOf (now (session .entry))) (keyed (now (name .entry)) (now (vendor .entry))) (now (buffer .entry)) (now (image .entry)))
+        (r .size) (r .attributes) (r .needed) (now (buffer .exit)) ⌝ }
+{
+    let view = lent::view(session);
+    let told = engine::read::get(context, view, image, name, vendor, buffer);
+    let answer = told.answer;
+    Reply {
+        answer: numbers(answer),
+        size: told.size,
+        attributes: told.attributes,
+        needed: told.needed,
+    }
+}
+
+#[no_mangle]
+pub extern "C" fn vs_next_name_lent(
+    context: Context,
+    session: &[u8; lent::SESSION],
+    image: &[u8],
+    name: &[u8],
+    vendor: &[u8; 16],
+    buffer: &mut [u8],
+) -> Reply
+    ensures { λ r. ⌜ (r .answer
+        ≡ numbersOf (outcome context
+        (nextPlan (sessionOf (now (session .entry))) (keyed (now (name .entry)) (now (vendor .entry))) (now (buffer .entry)) (now (image .entry)))
+        (now (image .entry))))
+        × Gives
+        (nextReply (sessionOf (now (session .entry))) (keyed (now (name .entry)) (now (vendor .entry))) (now (buffer .entry)) (now (image .entry)))
+        (r .size) (r .attributes) (r .needed) (now (buffer .exit)) ⌝ }
+{
+    let view = lent::view(session);
+    let told = engine::read::next_name(context, view, image, name, vendor, buffer);
+    let answer = told.answer;
+    Reply {
+        answer: numbers(answer),
+        size: told.size,
+        attributes: 0,
+        needed: told.needed,
+    }
+}
+
+#[no_mangle]
+pub extern "C" fn vs_set_lent(
+    context: Context,
+    session: &[u8; lent::SESSION],
+    image: &mut [u8],
+    name: &[u8],
+    vendor: &[u8; 16],
+    attributes: u32,
+    bytes: &[u8],
+    presence: u32,
+    verdict: u32,
+    content: &mut [u8; layout::CONTENT],
+) -> Answered
+    ensures { λ r. ⌜ (r
+        ≡ numbersOf (outcome context
+        (setPlan (sessionOf (now (session .entry))) (requestOf (now (name .entry)) (now (vendor .entry)) attributes (now (bytes .entry)) presence verdict) (now (image .entry)))
+        (now (image .entry))))
+        × (now (image .exit)
+        ≡ imageAfter context
+        (setPlan (sessionOf (now (session .entry))) (requestOf (now (name .entry)) (now (vendor .entry)) attributes (now (bytes .entry)) presence verdict) (now (image .entry)))
+        (now (image .entry)))
+        × Kept
+        (setPlan (sessionOf (now (session .entry))) (requestOf (now (name .entry)) (now (vendor .entry)) attributes (now (bytes .entry)) presence verdict) (now (image .entry)))
+        (now (content .entry))
+        (now (content .exit)) ⌝ }
+{
+    let terms = lent::terms(session, name, vendor);
+    let limits = lent::limits(session);
+    let asking = Asking {
+        attributes,
+        presence,
+        verdict,
+    };
+    let told = engine::write::set(
+        context,
+        terms,
+        limits,
+        image,
+        name,
+        vendor,
+        asking,
+        bytes,
+        content,
+    );
+    numbers(told)
+}
+
+#[no_mangle]
+pub extern "C" fn vs_start_up_lent(
+    context: Context,
+    image: &mut [u8],
+    session: &mut [u8; lent::SESSION],
+    content: &mut [u8; layout::CONTENT],
+) -> Answered
+    ensures { λ r. ⌜ (r ≡ numbersOf (outcome context (startUpPlan (now (image .entry))) (now (image .entry))))
+        × (sessionOf (now (session .exit)) ≡ freshSession (sessionOf (now (session .entry)) .setup))
+        × (now (image .exit) ≡ imageAfter context (startUpPlan (now (image .entry))) (now (image .entry)))
+        × Kept (startUpPlan (now (image .entry))) (now (content .entry)) (now (content .exit)) ⌝ }
+{
+    lent::renew(session);
+    let told = engine::start::start_up(context, image, content);
+    numbers(told)
+}
+
+#[no_mangle]
+pub extern "C" fn vs_plan_set_lent(
+    session: &[u8; lent::SESSION],
+    image: &[u8],
+    name: &[u8],
+    vendor: &[u8; 16],
+    attributes: u32,
+    bytes: &[u8],
+    presence: u32,
+    verdict: u32,
+    content: &mut [u8; layout::CONTENT],
+) -> HostPlan
+    ensures { λ r. ⌜ PlannedFor
+        (book.set (sessionOf (now (session .entry))) (requestOf (now (name .entry)) (now (vendor .entry)) attributes (now (bytes .entry)) presence verdict))
+        (now (image .entry))
+        (now (content .exit))
+        r
+        × Kept
+        (setPlan (sessionOf (now (session .entry))) (requestOf (now (name .entry)) (now (vendor .entry)) attributes (now (bytes .entry)) presence verdict) (now (image .entry)))
+        (now (content .entry))
+        (now (content .exit))
+        × Numbered
+        (setPlan (sessionOf (now (session .entry))) (requestOf (now (name .entry)) (now (vendor .entry)) attributes (now (bytes .entry)) presence verdict) (now (image .entry)))
+        (now (image .entry))
+        (now (content .entry))
+        (now (content .exit))
+        r ⌝ }
+{
+    let terms = lent::terms(session, name, vendor);
+    let limits = lent::limits(session);
+    let asking = Asking {
+        attributes,
+        presence,
+        verdict,
+    };
+    let told = engine::write::plan_set(terms, limits, image, name, vendor, asking, bytes, content);
+    plan::in_numbers(told)
+}
+
+#[no_mangle]
+pub extern "C" fn vs_query_lent(
+    context: Context,
+    session: &[u8; lent::SESSION],
+    image: &[u8],
+    attributes: u32,
+) -> Room
+    ensures { λ r. ⌜ (r .answer ≡ numbersOf (queryOutcome (atRuntime (sessionOf (now (session .entry)))) attributes (now (image .entry))))
+        × (r .storage ≡ queryGives (atRuntime (sessionOf (now (session .entry)))) attributes (now (image .entry))
+        (storageFor (recordBit attributes) (sessionOf (now (session .entry)) .setup .records) (reserved (sessionOf (now (session .entry)))) (regionSize (now (image .entry)))))
+        × (r .remaining ≡ queryGives (atRuntime (sessionOf (now (session .entry)))) attributes (now (image .entry))
+        (remainingFor (recordBit attributes) (sessionOf (now (session .entry)) .setup .records) (reserved (sessionOf (now (session .entry))))
+        (regionSize (now (image .entry))) (valuesOf (now (image .entry)))))
+        × (r .largest ≡ queryGives (atRuntime (sessionOf (now (session .entry)))) attributes (now (image .entry))
+        (largestFor
+        (remainingFor (recordBit attributes) (sessionOf (now (session .entry)) .setup .records) (reserved (sessionOf (now (session .entry))))
+        (regionSize (now (image .entry))) (valuesOf (now (image .entry)))))) ⌝ }
+{
+    let view = lent::view(session);
+    let records = lent::records(session);
+    let reserve = lent::reserved(session);
+    let q = engine::room::query(view.runtime, records, reserve, image, attributes);
+    roomed(q)
+}
+
+// A lock, with its answer in numbers.
+fn asked(session: Session, name: &[u8], vendor: &[u8; 16]) -> Listed
+    ensures { λ r. ⌜ (r .answer ≡ numbersOf (lockOutcome session (keyed (now (name .entry)) (now (vendor .entry)))))
+        × (r .session ≡ lockSession session (keyed (now (name .entry)) (now (vendor .entry)))) ⌝ }
+{
+    let told = session::lock(session, name, vendor);
+    let answer = told.answer;
+    let session = told.session;
+    Listed {
+        answer: numbers(answer),
+        session,
+    }
+}
+
+// A lock over a mutable `Session`: not exported, since it copies the session. A host has `vs_lock_lent`, over the session's bytes.
+pub fn lock_over(session: &mut Session, name: &[u8], vendor: &[u8; 16]) -> Answered
+    ensures { λ r. ⌜ (r ≡ numbersOf (lockOutcome (now (session .entry)) (keyed (now (name .entry)) (now (vendor .entry)))))
+        × (now (session .exit) ≡ lockSession (now (session .entry)) (keyed (now (name .entry)) (now (vendor .entry)))) ⌝ }
+{
+    let l = asked(*session, name, vendor);
+    *session = l.session;
+    l.answer
 }

@@ -22,7 +22,10 @@
 //                  is none), and the table is given with every start-up from there on, with that number of rules, as one of zeros and 0 are before
 // Numbers are little-endian; a field past the script's end counts as zeros or empty. Before the first format the image has no bytes, and before the first move
 // the target has none.
+ghost use mathlib.Core.Path.{_≡_};
 ghost use Prim.Native.Nat.{_<_, _^_};
+ghost use Rattle.model.specs.Name.{keyed};
+ghost use Rattle.model.specs.Rules.{termsOf};
 ghost use Rattle.io.specs.Counts.{Counts};
 use crate::fields;
 use crate::print;
@@ -105,7 +108,9 @@ fn start_up(c: Context, step: &[u8], image: &mut [u8], ruled: Setup) -> Session 
 }
 
 // What a session says to a set of a name.
-fn terms(s: Session, name: &[u8], vendor: &[u8; 16]) -> Terms {
+fn terms(s: Session, name: &[u8], vendor: &[u8; 16]) -> Terms
+    ensures { λ r. ⌜ termsOf s (keyed (now (name .entry)) (now (vendor .entry))) ≡ r ⌝ }
+{
     let sizes = s.sizes;
     let barred = session::is_barred(s.phase, s.count, sizes, &s.locks, name, vendor);
     session::terms(
