@@ -1,7 +1,9 @@
 /* Calls of every exported function, random ones and those at the edges, and one line of what came of them: how many were done, stopped and refused, by how many
  * rules, and a hash of every answer and of all that the calls left. It is the same on every machine and by every compiler; tools/targets-test compares.
  *
- *   calls [COUNT]      40,000 if no number is given, enough to break every rule; exit status 1 if some rule is not broken then
+ * Calls that take a session by value are made a second time with the session lent, on a copy of all that they write, and must do the same.
+ *
+ *   calls [COUNT]      40,000 if no number is given, enough to break every rule; exit status 1 if some rule is not broken then, or two forms differ
  */
 #include <stdio.h>
 #include <stdlib.h>
@@ -67,6 +69,8 @@ static vs_answer answered(vs_answer answer)
 /* ---- arguments */
 
 static uint8_t image[VS_LARGEST_IMAGE], other[VS_LARGEST_IMAGE], content[VS_CONTENT], name[NAMED], vendor[16], data[DATA], buffer[DATA];
+static uint8_t twin_image[VS_LARGEST_IMAGE], twin_content[VS_CONTENT], twin_buffer[DATA]; /* what the same call has with its session lent */
+static unsigned long differences;
 static size_t length, name_len, data_len;
 static vs_session session;
 static vs_setup setup;
@@ -184,6 +188,23 @@ static size_t given(void) { return below(200) == 0 ? length - 1 - below(length) 
 
 /* ---- the calls */
 
+static void twins(void)
+{
+    memcpy(twin_image, image, length);
+    memcpy(twin_content, content, sizeof content);
+    memcpy(twin_buffer, buffer, sizeof buffer);
+}
+
+static int same_answer(vs_answer one, vs_answer two) { return one.kind == two.kind && one.rule == two.rule && one.stores == two.stores; }
+
+/* Both forms have done the same. */
+static void alike(int answered)
+{
+    differences += !answered || memcmp(twin_image, image, length) != 0 || memcmp(twin_content, content, sizeof content) != 0 || memcmp(twin_buffer, buffer, sizeof buffer) != 0;
+}
+
+static void alike_sessions(const vs_session *one, const vs_session *two) { differences += memcmp(one, two, sizeof *one) != 0; }
+
 static void stored(vs_answer answer)
 {
     answered(answer);
@@ -205,8 +226,13 @@ static void start_up(void)
 {
     choose_setup();
     vs_context context = choose_context();
-    vs_started started = vs_start_up(context, image, given(), setup, content);
-    session = started.session;
+    size_t size = given();
+    twins();
+    session.setup = setup;
+    vs_answer lent = vs_start_up_lent(context, twin_image, size, &session, twin_content);
+    vs_started started = vs_start_up(context, image, size, setup, content);
+    alike(same_answer(started.answer, lent));
+    alike_sessions(&started.session, &session);
     mix_bytes(&session, sizeof session);
     stored(started.answer);
 }
@@ -218,11 +244,17 @@ static void set(void)
     choose_data(attributes);
     uint32_t presence = ONE_OF(0, 0, 1, 7), verdict = ONE_OF(VS_BY_NONE, VS_BY_PK, VS_BY_KEK, VS_BY_PAYLOAD, VS_BY_CREATOR, 5);
     vs_context context = choose_context();
-    stored(vs_set(context, session, image, given(), name, name_len, vendor, attributes, data, data_len, presence, verdict, content));
+    size_t size = given();
+    twins();
+    vs_answer lent = vs_set_lent(context, &session, twin_image, size, name, name_len, vendor, attributes, data, data_len, presence, verdict, twin_content);
+    vs_answer answer = vs_set(context, session, image, size, name, name_len, vendor, attributes, data, data_len, presence, verdict, content);
+    alike(same_answer(answer, lent));
+    stored(answer);
 }
 
-static void replied(vs_reply reply)
+static void replied(vs_reply reply, vs_reply lent)
 {
+    alike(same_answer(reply.answer, lent.answer) && reply.size == lent.size && reply.attributes == lent.attributes && reply.needed == lent.needed);
     answered(reply.answer);
     mix(reply.size);
     mix(reply.attributes);
@@ -233,9 +265,27 @@ static void replied(vs_reply reply)
 static void get(void)
 {
     choose_name();
-    size_t size = below(3) == 0 ? below(20) : DATA;
+    size_t size = below(3) == 0 ? below(20) : DATA, image_size;
     vs_context context = choose_context();
-    replied(vs_get(context, session, image, given(), name, name_len, vendor, buffer, size));
+    image_size = given();
+    twins();
+    vs_reply lent = vs_get_lent(context, &session, twin_image, image_size, name, name_len, vendor, twin_buffer, size);
+    replied(vs_get(context, session, image, image_size, name, name_len, vendor, buffer, size), lent);
+}
+
+static void query(void)
+{
+    uint32_t attributes = choose_attributes();
+    vs_context context = choose_context();
+    size_t image_size = given();
+    twins();
+    vs_room lent = vs_query_lent(context, &session, twin_image, image_size, attributes);
+    vs_room room = vs_query(context, session, image, image_size, attributes);
+    alike(same_answer(room.answer, lent.answer) && room.storage == lent.storage && room.remaining == lent.remaining && room.largest == lent.largest);
+    answered(room.answer);
+    mix(room.storage);
+    mix(room.remaining);
+    mix(room.largest);
 }
 
 static void next_name(void)
@@ -243,9 +293,12 @@ static void next_name(void)
     choose_name();
     name_len = below(4) == 0 ? 2 : name_len;
     name[0] = name_len == 2 ? 0 : name[0];
-    size_t size = below(3) == 0 ? below(VS_LARGEST_NAMED) : VS_LARGEST_NAMED;
+    size_t size = below(3) == 0 ? below(VS_LARGEST_NAMED) : VS_LARGEST_NAMED, image_size;
     vs_context context = choose_context();
-    replied(vs_next_name(context, session, image, given(), name, name_len, vendor, buffer, size));
+    image_size = given();
+    twins();
+    vs_reply lent = vs_next_name_lent(context, &session, twin_image, image_size, name, name_len, vendor, twin_buffer, size);
+    replied(vs_next_name(context, session, image, image_size, name, name_len, vendor, buffer, size), lent);
 }
 
 static void planned(vs_plan plan)
@@ -266,7 +319,12 @@ static void plan_set(void)
     uint32_t attributes = choose_attributes();
     choose_data(attributes);
     uint32_t presence = ONE_OF(0, 1), verdict = ONE_OF(VS_BY_NONE, VS_BY_PK, VS_BY_PAYLOAD, 5);
-    planned(vs_plan_set(session, image, given(), name, name_len, vendor, attributes, data, data_len, presence, verdict, content));
+    size_t size = given();
+    twins();
+    vs_plan lent = vs_plan_set_lent(&session, twin_image, size, name, name_len, vendor, attributes, data, data_len, presence, verdict, twin_content);
+    vs_plan plan = vs_plan_set(session, image, size, name, name_len, vendor, attributes, data, data_len, presence, verdict, content);
+    alike(plan.rule == lent.rule && plan.deciding == lent.deciding && memcmp(plan.operations, lent.operations, sizeof plan.operations) == 0);
+    planned(plan);
 }
 
 static void plan_start_up(void) { planned(vs_plan_start_up(image, given(), content)); }
@@ -288,7 +346,8 @@ static void lock(void)
         choose_name();
         name[0] = (uint8_t)(name[0] ^ (left > 1 ? left : 0));
         vs_listed listed = vs_lock(session, name, name_len, vendor);
-        session = listed.session;
+        differences += !same_answer(listed.answer, vs_lock_lent(&session, name, name_len, vendor));
+        alike_sessions(&listed.session, &session);
         answered(listed.answer);
         mix_bytes(&session, sizeof session);
     }
@@ -296,14 +355,20 @@ static void lock(void)
 
 static void phase(void)
 {
-    session = vs_phase(session, ONE_OF(0, 0, 1, 1, 2, 3));
+    uint32_t to = ONE_OF(0, 0, 1, 1, 2, 3);
+    vs_session moved = vs_phase(session, to);
+    vs_phase_lent(&session, to);
+    alike_sessions(&moved, &session);
     mix_bytes(&session, sizeof session);
 }
 
 static void session_new(void)
 {
     choose_setup();
-    session = vs_session_new(setup);
+    session.setup = setup;
+    vs_session_fresh(&session);
+    vs_session made = vs_session_new(setup);
+    alike_sessions(&made, &session);
     mix_bytes(&session, sizeof session);
 }
 
@@ -329,7 +394,7 @@ static void call(void)
     static const struct {
         void (*made)(void);
         uint32_t share;
-    } calls[] = {{set, 34}, {get, 18}, {next_name, 12}, {plan_set, 10}, {start_up, 8}, {check, 3}, {plan_start_up, 3}, {lock, 4},
+    } calls[] = {{set, 33}, {get, 16}, {query, 3}, {next_name, 12}, {plan_set, 10}, {start_up, 8}, {check, 3}, {plan_start_up, 3}, {lock, 4},
                  {phase, 2}, {session_new, 1}, {plan_format, 1}, {move, 2}, {format, 1}, {damage, 1}};
     uint64_t chosen = below(100);
     for (size_t i = 0; i < sizeof calls / sizeof calls[0]; i++) {
@@ -360,7 +425,7 @@ int main(int argc, char **argv)
     for (size_t rule = 1; rule < RULES; rule++) {
         rules += broken[rule] > 0;
     }
-    printf("%lu calls: %llu done, %llu stopped, %llu refused by %lu rules; hash %016llX\n", count, (unsigned long long)kinds[VS_DONE],
-           (unsigned long long)kinds[VS_STOPPED], (unsigned long long)kinds[VS_REFUSED], rules, (unsigned long long)hash);
-    return count >= COUNT && rules < 22;
+    printf("%lu calls: %llu done, %llu stopped, %llu refused by %lu rules; hash %016llX; %lu with another outcome if the session is lent\n", count,
+           (unsigned long long)kinds[VS_DONE], (unsigned long long)kinds[VS_STOPPED], (unsigned long long)kinds[VS_REFUSED], rules, (unsigned long long)hash, differences);
+    return differences > 0 || (count >= COUNT && rules < 22);
 }

@@ -162,6 +162,30 @@ static void uefi(void)
     told(vs_uefi_answer(set(0)) == VS_EFI_INVALID_PARAMETER && vs_uefi_text(VS_SETTING)[0] == 'i');
 }
 
+/* The session lent: a start-up makes it fresh in place, with the setup that is in it, and calls only read it. */
+static void lent(void)
+{
+    static vs_session mine;
+    const uint8_t data[4] = {7};
+    mine.setup = setup;
+    mine.phase = VS_RUNTIME;
+    vs_session_fresh(&mine);
+    told(mine.phase == VS_BOOT && mine.count == 0 && mine.setup.rules == 1);
+    mine.phase = VS_RUNTIME;
+    told(done(vs_start_up_lent(no_limit, image, IMAGE, &mine, content), 0) && mine.phase == VS_BOOT && mine.setup.rules == 1);
+    told(done(vs_set_lent(no_limit, &mine, image, IMAGE, rate, sizeof rate, vendor, PLAIN, data, sizeof data, 0, VS_BY_NONE, content), 77) && rate_is(7));
+    vs_reply reply = vs_get_lent(no_limit, &mine, image, IMAGE, rate, sizeof rate, vendor, buffer, sizeof buffer);
+    told(done(reply.answer, 0) && reply.size == 4 && buffer[0] == 7);
+    reply = vs_next_name_lent(no_limit, &mine, image, IMAGE, rate, sizeof rate, vendor, buffer, sizeof buffer);
+    told(refused(reply.answer, VS_ABSENT));
+    vs_plan plan = vs_plan_set_lent(&mine, image, IMAGE, rate, sizeof rate, vendor, PLAIN, data, 3, 0, VS_BY_NONE, content);
+    told(plan.rule == VS_SETTING);
+    told(done(vs_lock_lent(&mine, rate, sizeof rate, vendor), 0) && mine.count == 1);
+    vs_phase_lent(&mine, VS_AFTER_END_OF_DXE);
+    told(mine.phase == VS_AFTER_END_OF_DXE && refused(vs_lock_lent(&mine, rate, sizeof rate, vendor), VS_LOCK_PHASE) && mine.count == 1);
+    told(refused(vs_set_lent(no_limit, &mine, image, IMAGE, rate, sizeof rate, vendor, PLAIN, data, sizeof data, 0, VS_BY_NONE, content), VS_LOCKED));
+}
+
 /* Linux's call exit, and where a program begins: the stack is aligned as for a call, with the 32 bytes that a callee of the Microsoft convention may use. */
 #if defined(__x86_64__)
 #define EXIT(status) __asm__ volatile("syscall" : : "a"(60ul), "D"((uint64_t)(status)) : "rcx", "r11", "memory")
@@ -189,6 +213,7 @@ void run(void)
     names();
     uefi();
     locked();
+    lent();
     EXIT(first_wrong);
     __builtin_unreachable();
 }

@@ -13,8 +13,8 @@
 
 #include "varstore_uefi.h"
 
-#if VS_INTERFACE != 6
-#error "this host knows the operations of interface 6"
+#if VS_INTERFACE != 7
+#error "this host knows the operations of interface 7"
 #endif
 
 static const vs_context no_limit = {.limit = VS_NO_LIMIT};
@@ -45,11 +45,11 @@ static void print_name(const uint8_t *name, size_t size)
 static int print_value(const vs_session *session, const uint8_t *image, size_t length, const uint8_t *named, size_t size)
 {
     uint8_t data[VS_LARGEST_DATA];
-    vs_reply asked = vs_get(no_limit, *session, image, length, named + 16, size - 16, named, data, 0);
+    vs_reply asked = vs_get_lent(no_limit, session, image, length, named + 16, size - 16, named, data, 0);
     if (asked.answer.kind != VS_REFUSED || asked.answer.rule != VS_BUFFER) {
         return told("size", asked.answer) | 1;
     }
-    vs_reply got = vs_get(no_limit, *session, image, length, named + 16, size - 16, named, data, asked.needed);
+    vs_reply got = vs_get_lent(no_limit, session, image, length, named + 16, size - 16, named, data, asked.needed);
     if (told("get", got.answer)) {
         return 1;
     }
@@ -70,7 +70,7 @@ static int list_of(const uint8_t *vendor, const vs_session *session, const uint8
     size_t size = 16 + 2;
     for (;;) {
         uint8_t next[VS_LARGEST_NAMED];
-        vs_reply reply = vs_next_name(no_limit, *session, image, length, named + 16, size - 16, named, next, sizeof next);
+        vs_reply reply = vs_next_name_lent(no_limit, session, image, length, named + 16, size - 16, named, next, sizeof next);
         if (reply.answer.kind == VS_REFUSED && reply.answer.rule == VS_ABSENT) {
             return 0;
         }
@@ -103,7 +103,8 @@ static int list_file(const char *path)
     }
     printf("%u block%s, free from %u\n", (unsigned)checked.blocks, checked.blocks == 1 ? "" : "s", (unsigned)checked.tail);
     static vs_session session;
-    session = vs_session_new(setup);
+    session.setup = setup;
+    vs_session_fresh(&session);
     return list(&session, image, length);
 }
 
@@ -283,7 +284,8 @@ static vs_answer format(void)
 static vs_answer power_on(vs_session *session)
 {
     memcpy(image, part.bytes, PART);
-    *session = vs_session_new(setup);
+    session->setup = setup;
+    vs_session_fresh(session);
     vs_plan plan = vs_plan_start_up(image, PART, content);
     return carry_out(&plan);
 }
@@ -308,7 +310,7 @@ static vs_answer set_of(const uint8_t *vendor, const vs_session *session, const 
 {
     uint8_t name[VS_LARGEST_NAME];
     size_t name_size = utf16(text, name);
-    vs_plan plan = vs_plan_set(*session, image, PART, name, name_size, vendor, attributes, data, size, 0, VS_BY_NONE, content);
+    vs_plan plan = vs_plan_set_lent(session, image, PART, name, name_size, vendor, attributes, data, size, 0, VS_BY_NONE, content);
     return carry_out(&plan);
 }
 
@@ -331,7 +333,7 @@ static int rate(const vs_session *session)
 {
     uint8_t name[VS_LARGEST_NAME], data[4];
     size_t name_size = utf16("RATE", name);
-    vs_reply got = vs_get(no_limit, *session, image, PART, name, name_size, our_vendor, data, sizeof data);
+    vs_reply got = vs_get_lent(no_limit, session, image, PART, name, name_size, our_vendor, data, sizeof data);
     return got.answer.kind == VS_DONE ? data[0] : -1;
 }
 
@@ -394,7 +396,7 @@ static vs_answer tried(const vs_session *session, const char *text, const void *
     uint8_t name[VS_LARGEST_NAME];
     size_t name_size = utf16(text, name);
     memcpy(copy, image, PART);
-    return vs_set(known, *session, copy, PART, name, name_size, our_vendor, PLAIN, data, size, 0, VS_BY_NONE, content);
+    return vs_set_lent(known, session, copy, PART, name, name_size, our_vendor, PLAIN, data, size, 0, VS_BY_NONE, content);
 }
 
 /* A byte dies where the next entry would begin: sets in the tail are refused, and what stands remains. */
@@ -570,7 +572,7 @@ static int story(void)
 {
     static const uint64_t after[] = {0, 1, 2000, 4097, 4098, 4099, 6000, 8196, 8197}, in[] = {1, 2000, 4098, 4099, 6000, 8196, 8197};
     static uint8_t full[PART];
-    static vs_session session; /* not on the stack, where each call has a copy of it */
+    static vs_session session; /* not on the stack: it is large */
     first_calls(&session);
     fill(&session);
     memcpy(full, part.bytes, PART);

@@ -8,7 +8,8 @@
  *
  * The caller's frame is measured, not reckoned: the same caller calls, on a stack of the same kind, a function that only returns. So are the copies: each rule is
  * known by its bytes, and two that stand as far apart as in the table tell where it was; a call may have written over the others.
- * Exit status 1 if a call takes more of its own, or in all, than it may, or makes more than one copy of the table.
+ * Exit status 1 if a call takes more of its own, or in all, than it may, or makes more than one copy of the table; one with its session in the host's memory may make
+ * none, and take 4,096 bytes in all, or 6,144 where it writes.
  *
  *   stack
  */
@@ -19,7 +20,7 @@
 
 #include "varstore.h"
 
-enum { BLOCKS = 7, IMAGE = VS_LARGEST_IMAGE, STACK = 1 << 18, PAINT = 0xC5, ADDRESS = 8, OWN = 6 * 1024, ALL = 20 * 1024, LOCK = 28 * 1024, PLAIN = VS_NV | VS_BOOT_ACCESS };
+enum { BLOCKS = 7, IMAGE = VS_LARGEST_IMAGE, STACK = 1 << 18, PAINT = 0xC5, ADDRESS = 8, OWN = 6 * 1024, ALL = 23 * 1024, LOCK = 28 * 1024, READS = 4 * 1024, WRITES = 6 * 1024, PLAIN = VS_NV | VS_BOOT_ACCESS };
 
 static const vs_context no_limit = {.limit = VS_NO_LIMIT};
 static vs_setup setup; /* no custom mode, no reserve, no bytes for error records, and as many rules as there may be */
@@ -34,7 +35,17 @@ static ucontext_t here, there;
 
 /* It stands for any function, and touches nothing: a result that goes by memory is where the first argument says. */
 void only_returns(void);
+/* On x86-64 a call pushes its return address. ABOVE is from a frame's address up to where it began. */
+#if defined(__x86_64__)
+enum { PUSHED = 8, ABOVE = 8 };
 __asm__(".text\nonly_returns:\n\tmov %rdi, %rax\n\tret\n");
+#elif defined(__aarch64__)
+enum { PUSHED = 0, ABOVE = 16 };
+__asm__(".text\nonly_returns:\n\tret\n");
+#else
+enum { PUSHED = 0, ABOVE = 8 };
+__asm__(".text\nonly_returns:\n\tret\n");
+#endif
 static volatile int replaced;
 #define CALL(function) (replaced ? (__typeof__(function) *)only_returns : (function))
 
@@ -101,9 +112,9 @@ static uint8_t name[6];
 static uint32_t attributes;
 static size_t size;
 
-/* Where a caller's frame begins: below its own return address, which stands above the saved frame pointer. */
+/* Where a caller's frame begins: below its own return address, if that is on the stack. */
 static uint8_t *begin;
-static void enter(void) { begin = (uint8_t *)__builtin_frame_address(0) + ADDRESS; }
+static void enter(void) { begin = (uint8_t *)__builtin_frame_address(0) + ABOVE; }
 
 /* The callers. */
 static void check(void) { answer = CALL(vs_check)(image, IMAGE).answer; }
@@ -127,6 +138,25 @@ static void set(void)
 static void plan_set(void)
 {
     plan = CALL(vs_plan_set)(session, image, IMAGE, name, sizeof name, vendor, attributes, zeros, size, 0, VS_BY_NONE, content);
+}
+
+static void session_fresh(void) { CALL(vs_session_fresh)(&session); }
+static void phase_lent(void) { CALL(vs_phase_lent)(&session, VS_RUNTIME); }
+static void lock_lent(void) { answer = CALL(vs_lock_lent)(&session, name, sizeof name, vendor); }
+static void query(void) { answer = CALL(vs_query)(no_limit, session, image, IMAGE, PLAIN).answer; }
+static void query_lent(void) { answer = CALL(vs_query_lent)(no_limit, &session, image, IMAGE, PLAIN).answer; }
+static void get_lent(void) { answer = CALL(vs_get_lent)(no_limit, &session, image, IMAGE, name, sizeof name, vendor, buffer, sizeof buffer).answer; }
+static void next_lent(void) { answer = CALL(vs_next_name_lent)(no_limit, &session, image, IMAGE, zeros, 2, vendor, buffer, sizeof buffer).answer; }
+static void start_up_lent(void) { answer = CALL(vs_start_up_lent)(no_limit, image, IMAGE, &session, content); }
+
+static void set_lent(void)
+{
+    answer = CALL(vs_set_lent)(no_limit, &session, image, IMAGE, name, sizeof name, vendor, attributes, zeros, size, 0, VS_BY_NONE, content);
+}
+
+static void plan_set_lent(void)
+{
+    plan = CALL(vs_plan_set_lent)(&session, image, IMAGE, name, sizeof name, vendor, attributes, zeros, size, 0, VS_BY_NONE, content);
 }
 
 /* The bytes of the stack that a caller and what it calls have used. */
@@ -172,36 +202,52 @@ typedef struct {
     unsigned i; /* of a set: the name's number, attributes, size */
     uint32_t attributes;
     size_t size;
+    size_t lent; /* with its session in the host's memory: the bytes that it may take in all */
 } measured;
 
 static const measured calls[] = {
-    {"vs_check", check, 0, 0, ANSWER, 0, 0, 0},
-    {"vs_session_new", new_session, 0, 0, ANSWER, 0, 0, 0},
-    {"vs_phase", phase, 0, 0, ANSWER, 0, 0, 0},
-    {"vs_lock", lock, 0, 0, LISTED, 0, 0, 0},
-    {"vs_get", get, 0, 0, ANSWER, 0, 0, 0},
-    {"vs_next_name", next_name, 0, 0, ANSWER, 0, 0, 0},
-    {"vs_set in the tail", set, 0, 60, ANSWER, FREE, PLAIN, 1},
-    {"vs_set that deletes", set, 0, 1, ANSWER, FIRST, 0, 0},
-    {"vs_set that compacts", set, 1000, 50000, ANSWER, FIRST, PLAIN, 1000},
-    {"vs_set that appends and compacts", set, 2048, 50000, ANSWER, FIRST, PLAIN | VS_APPEND, 1024},
-    {"vs_format", format, 0, 15, ANSWER, 0, 0, 0},
-    {"vs_start_up that compacts", start_up, 0, 50000, STARTED, 0, 0, 0},
-    {"vs_plan_set in the tail", plan_set, 0, 60, PLANNED, FREE, PLAIN, 1},
-    {"vs_plan_set that deletes", plan_set, 0, 1, PLANNED, FIRST, 0, 0},
-    {"vs_plan_set that compacts", plan_set, 1000, 50000, PLANNED, FIRST, PLAIN, 1000},
-    {"vs_plan_set, appends and compacts", plan_set, 2048, 50000, PLANNED, FIRST, PLAIN | VS_APPEND, 1024},
-    {"vs_plan_format", plan_format, 0, 15, PLANNED, 0, 0, 0},
-    {"vs_plan_start_up that compacts", plan_start_up, 0, 50000, PLANNED, 0, 0, 0},
-    {"vs_to_plain", to_plain, 0, 0, ANSWER, 0, 0, 0},
-    {"vs_from_plain", from_plain, 0, 0, ANSWER, 0, 0, 0},
+    {"vs_check", check, 0, 0, ANSWER, 0, 0, 0, 0},
+    {"vs_session_new", new_session, 0, 0, ANSWER, 0, 0, 0, 0},
+    {"vs_phase", phase, 0, 0, ANSWER, 0, 0, 0, 0},
+    {"vs_lock", lock, 0, 0, LISTED, 0, 0, 0, 0},
+    {"vs_get", get, 0, 0, ANSWER, 0, 0, 0, 0},
+    {"vs_query", query, 0, 0, ANSWER, 0, 0, 0, 0},
+    {"vs_next_name", next_name, 0, 0, ANSWER, 0, 0, 0, 0},
+    {"vs_set in the tail", set, 0, 60, ANSWER, FREE, PLAIN, 1, 0},
+    {"vs_set that deletes", set, 0, 1, ANSWER, FIRST, 0, 0, 0},
+    {"vs_set that compacts", set, 1000, 50000, ANSWER, FIRST, PLAIN, 1000, 0},
+    {"vs_set that appends and compacts", set, 2048, 50000, ANSWER, FIRST, PLAIN | VS_APPEND, 1024, 0},
+    {"vs_format", format, 0, 15, ANSWER, 0, 0, 0, 0},
+    {"vs_start_up that compacts", start_up, 0, 50000, STARTED, 0, 0, 0, 0},
+    {"vs_plan_set in the tail", plan_set, 0, 60, PLANNED, FREE, PLAIN, 1, 0},
+    {"vs_plan_set that deletes", plan_set, 0, 1, PLANNED, FIRST, 0, 0, 0},
+    {"vs_plan_set that compacts", plan_set, 1000, 50000, PLANNED, FIRST, PLAIN, 1000, 0},
+    {"vs_plan_set, appends and compacts", plan_set, 2048, 50000, PLANNED, FIRST, PLAIN | VS_APPEND, 1024, 0},
+    {"vs_plan_format", plan_format, 0, 15, PLANNED, 0, 0, 0, 0},
+    {"vs_plan_start_up that compacts", plan_start_up, 0, 50000, PLANNED, 0, 0, 0, 0},
+    {"vs_to_plain", to_plain, 0, 0, ANSWER, 0, 0, 0, 0},
+    {"vs_from_plain", from_plain, 0, 0, ANSWER, 0, 0, 0, 0},
+    {"vs_session_fresh", session_fresh, 0, 0, ANSWER, 0, 0, 0, READS},
+    {"vs_phase_lent", phase_lent, 0, 0, ANSWER, 0, 0, 0, READS},
+    {"vs_lock_lent", lock_lent, 0, 0, ANSWER, 0, 0, 0, WRITES},
+    {"vs_get_lent", get_lent, 0, 0, ANSWER, 0, 0, 0, READS},
+    {"vs_query_lent", query_lent, 0, 0, ANSWER, 0, 0, 0, READS},
+    {"vs_next_name_lent", next_lent, 0, 0, ANSWER, 0, 0, 0, READS},
+    {"vs_set_lent in the tail", set_lent, 0, 60, ANSWER, FREE, PLAIN, 1, WRITES},
+    {"vs_set_lent that deletes", set_lent, 0, 1, ANSWER, FIRST, 0, 0, WRITES},
+    {"vs_set_lent that compacts", set_lent, 1000, 50000, ANSWER, FIRST, PLAIN, 1000, WRITES},
+    {"vs_set_lent, appends and compacts", set_lent, 2048, 50000, ANSWER, FIRST, PLAIN | VS_APPEND, 1024, WRITES},
+    {"vs_start_up_lent that compacts", start_up_lent, 0, 50000, ANSWER, 0, 0, 0, WRITES},
+    {"vs_plan_set_lent in the tail", plan_set_lent, 0, 60, PLANNED, FREE, PLAIN, 1, WRITES},
+    {"vs_plan_set_lent that compacts", plan_set_lent, 1000, 50000, PLANNED, FIRST, PLAIN, 1000, WRITES},
+    {"vs_plan_set_lent, appends", plan_set_lent, 2048, 50000, PLANNED, FIRST, PLAIN | VS_APPEND, 1024, WRITES},
 };
 
 /* All is laid ready; a start-up finds a byte in the tail that no entry accounts for, and a move from the plain form what one to it has left. */
 static void prepare(const measured *m)
 {
     fill(m->filled ? m->filled : 4096 * BLOCKS - 4096);
-    if (m->caller == start_up || m->caller == plan_start_up) {
+    if (m->caller == start_up || m->caller == plan_start_up || m->caller == start_up_lent) {
         image[4096 * BLOCKS - 1] = 0;
     }
     if (m->caller == from_plain) {
@@ -229,7 +275,7 @@ int main(void)
     for (const measured *m = calls; m < calls + sizeof calls / sizeof calls[0]; m++) {
         replaced = 1;
         prepare(m);
-        size_t frame = taken(m->caller) - ADDRESS;
+        size_t frame = taken(m->caller) - PUSHED;
         replaced = 0;
         prepare(m);
         size_t whole = taken(m->caller);
@@ -242,9 +288,9 @@ int main(void)
         most_own = own > most_own ? own : most_own;
         most_copies = copies > most_copies ? copies : most_copies;
         most_total = total > most_total ? total : most_total;
-        wrong |= own > OWN || copies > sizeof setup.settings || total > (m->caller == lock ? LOCK : ALL);
+        wrong |= own > OWN || copies > (m->lent ? 0 : sizeof setup.settings) || total > (m->lent ? m->lent : m->caller == lock ? LOCK : ALL);
     }
     printf("%-34s%7zu%7zu%7zu\n", "most", most_own, most_copies, most_total);
-    printf("%-34s%7d%7zu%7d   in all %d but for a lock\n", "allowed", OWN, sizeof setup.settings, LOCK, ALL);
+    printf("%-34s%7d%7zu%7d   in all %d but for a lock, %d and %d lent\n", "allowed", OWN, sizeof setup.settings, LOCK, ALL, READS, WRITES);
     return wrong;
 }

@@ -18,13 +18,12 @@ enum {
 };
 
 static const vs_context no_limit = {.limit = VS_NO_LIMIT};
-static const vs_setup setup = {0}; /* no custom mode, no reserve, no bytes for error records, no rules for settings */
 static const uint8_t vendor[16] = {0x01, 0x02, 0x03, 0x04, 0x05, 0x06, 0x07, 0x08, 0x09, 0x0A, 0x0B, 0x0C, 0x0D, 0x0E, 0x0F, 0x10};
 static const uint8_t rate[] = {'R', 0, 'A', 0, 'T', 0, 'E', 0, 0, 0};
 static const uint8_t old_rate[4] = {100}, new_rate[4] = {200};
 
 static uint8_t image[SMALL], full[SMALL], part[SMALL], other[SMALL], large[LARGE], content[VS_CONTENT];
-static vs_session session;
+static vs_session session; /* its setup: no custom mode, no reserve, no bytes for error records, no rules for settings */
 static unsigned checked, wrong;
 
 /* ---- what is asked of each answer */
@@ -57,7 +56,7 @@ static int holds(const uint8_t *store, size_t length, const uint8_t *name, size_
 {
     uint8_t got[64];
     SetMem(got, sizeof got, 0xC5);
-    vs_reply reply = vs_get(no_limit, session, store, length, name, name_size, vendor, got, sizeof got);
+    vs_reply reply = vs_get_lent(no_limit, &session, store, length, name, name_size, vendor, got, sizeof got);
     if (!done(reply.answer, 0) || reply.size != size || reply.attributes != PLAIN || reply.needed != 0 || !equal(got, data, size)) {
         return 0;
     }
@@ -77,12 +76,12 @@ static int rate_is(const uint8_t *store, const uint8_t *data)
 static int rate_is_absent(const uint8_t *store)
 {
     uint8_t got[4];
-    return refused(vs_get(no_limit, session, store, SMALL, rate, sizeof rate, vendor, got, sizeof got).answer, VS_ABSENT);
+    return refused(vs_get_lent(no_limit, &session, store, SMALL, rate, sizeof rate, vendor, got, sizeof got).answer, VS_ABSENT);
 }
 
 static vs_answer set(uint64_t limit, uint8_t *store, size_t length, const uint8_t *name, size_t name_size, uint32_t attributes, const uint8_t *data, size_t size)
 {
-    return vs_set((vs_context){.limit = limit}, session, store, length, name, name_size, vendor, attributes, data, size, 0, VS_BY_NONE, content);
+    return vs_set_lent((vs_context){.limit = limit}, &session, store, length, name, name_size, vendor, attributes, data, size, 0, VS_BY_NONE, content);
 }
 
 static vs_answer set_rate(uint64_t limit, uint8_t *store, const uint8_t *data)
@@ -92,9 +91,7 @@ static vs_answer set_rate(uint64_t limit, uint8_t *store, const uint8_t *data)
 
 static vs_answer start_up(uint8_t *store, size_t length)
 {
-    vs_started started = vs_start_up(no_limit, store, length, setup, content);
-    session = started.session;
-    return started.answer;
+    return vs_start_up_lent(no_limit, store, length, &session, content);
 }
 
 /* The name V and three digits. */
@@ -198,7 +195,7 @@ static void carry_out(const vs_plan *plan, uint64_t count)
 
 static vs_plan plan_rate(uint32_t attributes, const uint8_t *data, size_t size)
 {
-    return vs_plan_set(session, part, SMALL, rate, sizeof rate, vendor, attributes, data, size, 0, VS_BY_NONE, content);
+    return vs_plan_set_lent(&session, part, SMALL, rate, sizeof rate, vendor, attributes, data, size, 0, VS_BY_NONE, content);
 }
 
 /* A plan carried out gives the image that the call gives; carried out up to its deciding operation it is undone, with it done. */
@@ -265,7 +262,7 @@ static void gets(void)
     told("format of seven blocks", done(vs_format(no_limit, large, LARGE, content), 15 + 28));
     told("start-up of seven blocks", done(start_up(large, LARGE), 0));
     for (unsigned i = 0; i + 1 < VALUES; i++) {
-        told("set", vs_set(no_limit, session, large, LARGE, numbered(i), 10, vendor, PLAIN, data, sizeof data, 0, VS_BY_NONE, content).kind == VS_DONE);
+        told("set", vs_set_lent(no_limit, &session, large, LARGE, numbered(i), 10, vendor, PLAIN, data, sizeof data, 0, VS_BY_NONE, content).kind == VS_DONE);
     }
     told("set RATE as the last", done(set(VS_NO_LIMIT, large, LARGE, rate, sizeof rate, PLAIN, old_rate, sizeof old_rate), 75));
     /* 10,000 units of 100 ns: a notification at every tick of the firmware's timer */

@@ -16,7 +16,7 @@
 enum { LONGEST = 2 * (VS_LARGEST_DATA + 256) };
 
 static const vs_context no_limit = {.limit = VS_NO_LIMIT};
-static const vs_setup setup = {0}; /* no custom mode, no reserve, no bytes for error records, no rules for settings */
+static vs_session session; /* its setup: no custom mode, no reserve, no bytes for error records, no rules for settings */
 static uint8_t image[VS_LARGEST_IMAGE + 1], content[VS_CONTENT];
 
 static void fail(const char *why)
@@ -58,7 +58,7 @@ static void print(const uint8_t *these, size_t size, char end)
     putchar(end);
 }
 
-static void set(vs_session session, size_t length, const char *line)
+static void set(const vs_session *session, size_t length, const char *line)
 {
     static char words[3][LONGEST + 1];
     static uint8_t vendor[LONGEST], name[LONGEST], data[LONGEST];
@@ -68,21 +68,21 @@ static void set(vs_session session, size_t length, const char *line)
         fail("set VENDOR NAME ATTRIBUTES VERDICT DATA");
     }
     size_t name_size = bytes(words[1], name), size = bytes(words[2], data);
-    answered(vs_set(no_limit, session, image, length, name, name_size, vendor, attributes, data, size, 0, verdict, content));
+    answered(vs_set_lent(no_limit, session, image, length, name, name_size, vendor, attributes, data, size, 0, verdict, content));
 }
 
-static void list(vs_session session, size_t length)
+static void list(const vs_session *session, size_t length)
 {
     uint8_t named[VS_LARGEST_NAMED] = {0}, next[VS_LARGEST_NAMED], data[VS_LARGEST_DATA];
     size_t size = 16 + 2;
     for (;;) {
-        vs_reply reply = vs_next_name(no_limit, session, image, length, named + 16, size - 16, named, next, sizeof next);
+        vs_reply reply = vs_next_name_lent(no_limit, session, image, length, named + 16, size - 16, named, next, sizeof next);
         if (reply.answer.kind != VS_DONE) {
             break;
         }
         size = reply.size;
         memcpy(named, next, size);
-        vs_reply got = vs_get(no_limit, session, image, length, named + 16, size - 16, named, data, sizeof data);
+        vs_reply got = vs_get_lent(no_limit, session, image, length, named + 16, size - 16, named, data, sizeof data);
         if (got.answer.kind != VS_DONE) {
             fail("a name without a value");
         }
@@ -94,7 +94,7 @@ static void list(vs_session session, size_t length)
     puts("end");
 }
 
-static void calls(vs_session session, size_t length)
+static void calls(const vs_session *session, size_t length)
 {
     static char line[3 * LONGEST];
     while (fgets(line, sizeof line, stdin) != NULL) {
@@ -134,11 +134,10 @@ int main(int argc, char **argv)
         fail("usage: store IMAGE [BLOCKS]");
     }
     size_t length = argc == 3 ? format((unsigned)atoi(argv[2])) : read_image(argv[1]);
-    vs_started started = vs_start_up(no_limit, image, length, setup, content);
-    if (started.answer.kind != VS_DONE) {
+    if (vs_start_up_lent(no_limit, image, length, &session, content).kind != VS_DONE) {
         fail("the start-up is refused");
     }
-    calls(started.session, length);
+    calls(&session, length);
     FILE *file = fopen(argv[1], "wb");
     if (file == NULL || fwrite(image, 1, length, file) != length || fclose(file) != 0) {
         fail("the image cannot be written");

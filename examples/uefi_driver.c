@@ -126,7 +126,8 @@ static uint64_t start_up(void)
 
 uint64_t driver_power_on(const vs_setup *setup)
 {
-    driver.session = vs_session_new(*setup);
+    vs_uefi_copy(&driver.session.setup, (const uint8_t *)setup, sizeof driver.session.setup);
+    vs_session_fresh(&driver.session);
     return start_up();
 }
 
@@ -146,9 +147,9 @@ uint64_t driver_format(void)
 
 /* ---- the events */
 
-void driver_end_of_dxe(void) { driver.session = vs_phase(driver.session, VS_AFTER_END_OF_DXE); }
+void driver_end_of_dxe(void) { vs_phase_lent(&driver.session, VS_AFTER_END_OF_DXE); }
 
-void driver_exit_boot_services(void) { driver.session = vs_phase(driver.session, VS_RUNTIME); }
+void driver_exit_boot_services(void) { vs_phase_lent(&driver.session, VS_RUNTIME); }
 
 /* ---- the services */
 
@@ -162,7 +163,7 @@ static uint32_t verdict_of(const void *name, const void *vendor, uint32_t attrib
 /* Gets a variable into driver.data, where every value has room. */
 static vs_reply get(const uint8_t *name, size_t name_len, const uint8_t *vendor)
 {
-    return vs_get(no_limit, driver.session, driver.image, DRIVER_SIZE, name, name_len, vendor, driver.data, sizeof driver.data);
+    return vs_get_lent(no_limit, &driver.session, driver.image, DRIVER_SIZE, name, name_len, vendor, driver.data, sizeof driver.data);
 }
 
 DRIVER_API uint64_t driver_get_variable(const void *name, const void *vendor, uint32_t *attributes, uint64_t *data_size, void *data)
@@ -187,7 +188,7 @@ DRIVER_API uint64_t driver_get_next_variable_name(uint64_t *name_size, void *nam
     }
     const uint8_t *from = (const uint8_t *)name, *of = (const uint8_t *)vendor;
     size_t from_size = vs_uefi_name_size(name, *name_size);
-    vs_reply reply = vs_next_name(no_limit, driver.session, driver.image, DRIVER_SIZE, from, from_size, of, driver.named, sizeof driver.named);
+    vs_reply reply = vs_next_name_lent(no_limit, &driver.session, driver.image, DRIVER_SIZE, from, from_size, of, driver.named, sizeof driver.named);
     if (reply.answer.rule == VS_ABSENT && from_size > 2 && get(from, from_size, of).answer.rule == VS_ABSENT) {
         return VS_EFI_INVALID_PARAMETER; /* not the end: the name that it was to go on from does not exist */
     }
@@ -205,7 +206,7 @@ DRIVER_API uint64_t driver_set_variable(const void *name, const void *vendor, ui
     const uint8_t *of = (const uint8_t *)vendor, *bytes = vs_uefi_bytes(data);
     size_t name_len = vs_uefi_name_size(name, SIZE_MAX);
     uint32_t verdict = verdict_of(name, vendor, attributes, data, data_size), presence = 0;
-    vs_plan plan = vs_plan_set(driver.session, driver.image, DRIVER_SIZE, (const uint8_t *)name, name_len, of, attributes, bytes, data_size, presence, verdict,
+    vs_plan plan = vs_plan_set_lent(&driver.session, driver.image, DRIVER_SIZE, (const uint8_t *)name, name_len, of, attributes, bytes, data_size, presence, verdict,
                                driver.content);
     if (plan.rule == VS_SETTING && vs_uefi_read_only(&driver.session.setup, (const uint8_t *)name, name_len, of)) {
         return VS_EFI_WRITE_PROTECTED;
@@ -221,12 +222,27 @@ DRIVER_API uint64_t driver_set_variable(const void *name, const void *vendor, ui
     return VS_EFI_SUCCESS;
 }
 
+DRIVER_API uint64_t driver_query_variable_info(uint32_t attributes, uint64_t *maximum_storage, uint64_t *remaining_storage, uint64_t *maximum_size)
+{
+    if (maximum_storage == NULL || remaining_storage == NULL || maximum_size == NULL) {
+        return VS_EFI_INVALID_PARAMETER;
+    }
+    if (driver.lost) {
+        return VS_EFI_DEVICE_ERROR;
+    }
+    vs_room room = vs_query_lent(no_limit, &driver.session, driver.image, DRIVER_SIZE, attributes);
+    if (room.answer.kind == VS_DONE) {
+        *maximum_storage = room.storage;
+        *remaining_storage = room.remaining;
+        *maximum_size = room.largest;
+    }
+    return vs_uefi_answer(room.answer);
+}
+
 DRIVER_API uint64_t driver_request_to_lock(const void *name, const void *vendor)
 {
     if (name == NULL || vendor == NULL) {
         return VS_EFI_INVALID_PARAMETER;
     }
-    vs_listed listed = vs_lock(driver.session, (const uint8_t *)name, vs_uefi_name_size(name, SIZE_MAX), (const uint8_t *)vendor);
-    driver.session = listed.session;
-    return vs_uefi_answer(listed.answer);
+    return vs_uefi_answer(vs_lock_lent(&driver.session, (const uint8_t *)name, vs_uefi_name_size(name, SIZE_MAX), (const uint8_t *)vendor));
 }

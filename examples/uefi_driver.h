@@ -2,8 +2,6 @@
  *
  * EFI types are plain numbers, as in varstore_uefi.h, so that it compiles without EDK II. Inside EDK II the services can be given to the runtime services table as
  * they are: their calling convention is EFIAPI's.
- *
- * QueryVariableInfo is not among them: the library has no call for it yet.
  */
 #ifndef UEFI_DRIVER_H
 #define UEFI_DRIVER_H
@@ -25,6 +23,7 @@ enum {
 DRIVER_API uint64_t driver_get_variable(const void *name, const void *vendor, uint32_t *attributes, uint64_t *data_size, void *data);
 DRIVER_API uint64_t driver_get_next_variable_name(uint64_t *name_size, void *name, void *vendor);
 DRIVER_API uint64_t driver_set_variable(const void *name, const void *vendor, uint32_t attributes, uint64_t data_size, const void *data);
+DRIVER_API uint64_t driver_query_variable_info(uint32_t attributes, uint64_t *maximum_storage, uint64_t *remaining_storage, uint64_t *maximum_size);
 
 /* EDK II's variable lock: from EndOfDxe on the variable is read-only until the next power-on. */
 DRIVER_API uint64_t driver_request_to_lock(const void *name, const void *vendor);

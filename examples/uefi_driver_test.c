@@ -461,6 +461,11 @@ static void services(void)
     begin();
     DEMAND(driver_set_variable(rate, vendor, PLAIN, 4, "\x64\0\0\0") == VS_EFI_SUCCESS);
     DEMAND(driver_set_variable(none, vendor, BOOT_ONLY, 2, "ab") == VS_EFI_SUCCESS);
+    /* room: of 8,192 bytes the header takes 28, RATE 76 and NONE 72; the largest name and data are 128 and 2,048 */
+    uint64_t storage = 0, remaining = 0, largest = 0;
+    DEMAND(driver_query_variable_info(PLAIN, &storage, &remaining, &largest) == VS_EFI_SUCCESS && storage == 8164 && remaining == 8016 && largest == 2176);
+    DEMAND(driver_query_variable_info(PLAIN | VS_ERROR_RECORD, &storage, &remaining, &largest) == VS_EFI_SUCCESS && storage == 0 && remaining == 0 && largest == 0);
+    DEMAND(driver_query_variable_info(0, &storage, &remaining, &largest) == VS_EFI_INVALID_PARAMETER && driver_query_variable_info(PLAIN, &storage, NULL, &largest) == VS_EFI_INVALID_PARAMETER);
     /* buffers: attributes come with EFI_BUFFER_TOO_SMALL too */
     DEMAND(driver_get_variable(rate, vendor, &attributes, &size, NULL) == VS_EFI_BUFFER_TOO_SMALL && size == 4 && attributes == PLAIN);
     DEMAND(driver_get_variable(rate, vendor, NULL, &size, data) == VS_EFI_SUCCESS && size == 4 && data[0] == 0x64);

@@ -35,6 +35,29 @@ struct RawReply {
 }
 
 #[repr(C)]
+struct RawRoom {
+    answer: RawAnswer,
+    storage: u32,
+    remaining: u32,
+    largest: u32,
+}
+
+/// What a query tells.
+#[derive(Clone, Copy, PartialEq, Eq, Debug)]
+pub struct Room {
+    pub answer: Answer,
+    pub storage: u32,
+    pub remaining: u32,
+    pub largest: u32,
+}
+
+impl RawRoom {
+    fn room(self) -> Room {
+        Room { answer: self.answer.answer(), storage: self.storage, remaining: self.remaining, largest: self.largest }
+    }
+}
+
+#[repr(C)]
 struct RawListed {
     answer: RawAnswer,
     session: Session,
@@ -83,6 +106,7 @@ laid_out!(Setup 6928 custom 0 reserve 4 records 8 rules 12 settings 16);
 laid_out!(Session 9304 phase 0 setup 4 count 6932 sizes 6936 locks 7000);
 laid_out!(RawAnswer 16 kind 0 rule 4 stores 8);
 laid_out!(RawReply 32 answer 0 size 16 attributes 20 needed 24);
+laid_out!(RawRoom 32 answer 0 storage 16 remaining 20 largest 24);
 laid_out!(RawListed 9320 answer 0 session 16);
 laid_out!(RawChecked 24 answer 0 blocks 16 tail 20);
 laid_out!(RawStarted 9320 answer 0 session 16);
@@ -99,7 +123,7 @@ macro_rules! of_form {
 }
 
 #[rustfmt::skip]
-of_form! { 6
+of_form! { 7
     fn vs_check(image: *const u8, image_len: usize) -> RawChecked;
     fn vs_session_new(setup: Setup) -> Session;
     fn vs_phase(session: Session, phase: u32) -> Session;
@@ -119,6 +143,21 @@ of_form! { 6
                    attributes: u32, data: *const u8, data_len: usize, presence: u32, verdict: u32, content: *mut Content) -> RawPlan;
     fn vs_plan_start_up(image: *const u8, image_len: usize, content: *mut Content) -> RawPlan;
     fn vs_plan_format(image: *const u8, image_len: usize, content: *mut Content) -> RawPlan;
+    fn vs_query(context: Context, session: Session, image: *const u8, image_len: usize, attributes: u32) -> RawRoom;
+    fn vs_query_lent(context: Context, session: *const Session, image: *const u8, image_len: usize, attributes: u32) -> RawRoom;
+    fn vs_session_fresh(session: *mut Session) -> ();
+    fn vs_phase_lent(session: *mut Session, phase: u32) -> ();
+    fn vs_lock_lent(session: *mut Session, name: *const u8, name_len: usize, vendor: *const Guid) -> RawAnswer;
+    fn vs_get_lent(context: Context, session: *const Session, image: *const u8, image_len: usize, name: *const u8, name_len: usize,
+                   vendor: *const Guid, buffer: *mut u8, buffer_len: usize) -> RawReply;
+    fn vs_next_name_lent(context: Context, session: *const Session, image: *const u8, image_len: usize, name: *const u8, name_len: usize,
+                         vendor: *const Guid, buffer: *mut u8, buffer_len: usize) -> RawReply;
+    fn vs_set_lent(context: Context, session: *const Session, image: *mut u8, image_len: usize, name: *const u8, name_len: usize,
+                   vendor: *const Guid, attributes: u32, data: *const u8, data_len: usize, presence: u32, verdict: u32,
+                   content: *mut Content) -> RawAnswer;
+    fn vs_start_up_lent(context: Context, image: *mut u8, image_len: usize, session: *mut Session, content: *mut Content) -> RawAnswer;
+    fn vs_plan_set_lent(session: *const Session, image: *const u8, image_len: usize, name: *const u8, name_len: usize, vendor: *const Guid,
+                        attributes: u32, data: *const u8, data_len: usize, presence: u32, verdict: u32, content: *mut Content) -> RawPlan;
 }
 
 impl RawReply {
@@ -228,4 +267,64 @@ pub fn plan_start_up(image: &[u8], content: &mut Content) -> Result<Plan, Rule> 
 
 pub fn plan_format(image: &[u8], content: &mut Content) -> Result<Plan, Rule> {
     unsafe { vs_plan_format(image.as_ptr(), image.len(), content) }.plan()
+}
+
+/// What UEFI's QueryVariableInfo asks, of the class of these attributes.
+pub fn query(context: Context, session: &Session, image: &[u8], attributes: u32) -> Room {
+    unsafe { vs_query(context, *session, image.as_ptr(), image.len(), attributes) }.room()
+}
+
+/// The calls over a session that stays where it is.
+pub mod lent {
+    use super::*;
+
+    pub fn query(context: Context, session: &Session, image: &[u8], attributes: u32) -> Room {
+        unsafe { vs_query_lent(context, session, image.as_ptr(), image.len(), attributes) }.room()
+    }
+
+    /// The session that a start-up begins with, in the place of one that holds its setup.
+    pub fn session_fresh(session: &mut Session) {
+        unsafe { vs_session_fresh(session) }
+    }
+
+    pub fn phase(session: &mut Session, to: u32) {
+        unsafe { vs_phase_lent(session, to) }
+    }
+
+    pub fn lock(session: &mut Session, key: Key) -> Answer {
+        unsafe { vs_lock_lent(session, key.name.as_ptr(), key.name.len(), key.vendor) }.answer()
+    }
+
+    pub fn get(context: Context, session: &Session, image: &[u8], key: Key, buffer: &mut [u8]) -> Reply {
+        let (name, size) = (key.name.as_ptr(), key.name.len());
+        let (front, length) = (buffer.as_mut_ptr(), buffer.len());
+        unsafe { vs_get_lent(context, session, image.as_ptr(), image.len(), name, size, key.vendor, front, length) }.reply()
+    }
+
+    pub fn next_name(context: Context, session: &Session, image: &[u8], key: Key, buffer: &mut [u8]) -> Reply {
+        let (name, size) = (key.name.as_ptr(), key.name.len());
+        let (front, length) = (buffer.as_mut_ptr(), buffer.len());
+        unsafe { vs_next_name_lent(context, session, image.as_ptr(), image.len(), name, size, key.vendor, front, length) }.reply()
+    }
+
+    pub fn set(context: Context, session: &Session, image: &mut [u8], request: &Request, content: &mut Content) -> Answer {
+        let Request { key, attributes, data, presence, verdict } = *request;
+        let (name, size) = (key.name.as_ptr(), key.name.len());
+        let (bytes, length) = (data.as_ptr(), data.len());
+        let (first, whole) = (image.as_mut_ptr(), image.len());
+        unsafe { vs_set_lent(context, session, first, whole, name, size, key.vendor, attributes, bytes, length, presence, verdict, content) }.answer()
+    }
+
+    /// The session holds the setup, and becomes the fresh one.
+    pub fn start_up(context: Context, image: &mut [u8], session: &mut Session, content: &mut Content) -> Answer {
+        unsafe { vs_start_up_lent(context, image.as_mut_ptr(), image.len(), session, content) }.answer()
+    }
+
+    pub fn plan_set(session: &Session, image: &[u8], request: &Request, content: &mut Content) -> Result<Plan, Rule> {
+        let Request { key, attributes, data, presence, verdict } = *request;
+        let (name, size) = (key.name.as_ptr(), key.name.len());
+        let (bytes, length) = (data.as_ptr(), data.len());
+        let (first, whole) = (image.as_ptr(), image.len());
+        unsafe { vs_plan_set_lent(session, first, whole, name, size, key.vendor, attributes, bytes, length, presence, verdict, content) }.plan()
+    }
 }
