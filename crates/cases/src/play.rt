@@ -255,7 +255,7 @@ fn show(step: &[u8], image: &[u8]) {
 
 pub(crate) fn varlist(image: &[u8]) {
     let mut out = io::large_buffer();
-    let n = report::report(image, &mut out);
+    let n = report::report(Layout::AUTHENTICATED, image, &mut out);
     print::word(slices::cut(&out, 0, n));
 }
 

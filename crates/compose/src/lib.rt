@@ -103,7 +103,7 @@ pub fn put_padding(out: &mut [u8], at: usize, size: usize) -> usize
 }
 
 // An entry in the state given, whole: header, name, data (those kept, then those given), padding.
-pub fn put_entry_in(
+pub fn put_entry(
     state: u8,
     out: &mut [u8],
     at: usize,
@@ -146,34 +146,6 @@ pub fn put_entry_in(
         next,
         Layout::HEADER + name.len() + old.len() + own.len(),
     )
-}
-
-// "values as 3F entries": one of a region that a compaction leaves.
-pub fn put_entry(
-    out: &mut [u8],
-    at: usize,
-    attributes: u32,
-    stamp: &[u8],
-    name: &[u8],
-    vendor: &[u8],
-    old: &[u8],
-    own: &[u8],
-) -> usize
-    requires { ⌜ (at < 2 ^ 62) × (length (now stamp) < 2 ^ 32) × (length (now name) < 2 ^ 32) × (length (now vendor) < 2 ^ 32)
-        × (length (now old) < 2 ^ 32) × (length (now own) < 2 ^ 32) ⌝ }
-    ensures { λ r.
-        ⌜ Wrote
-        (entryBytes 0x3F
-        (record {
-          name = now (name .entry);
-          vendor = now (vendor .entry);
-          attributes = attributes;
-          stamp = now (stamp .entry);
-          bytes = now
-              (old .entry) ++ now (own .entry);
-        })) at (now (out .entry)) (now (out .exit)) r ⌝ }
-{
-    put_entry_in(0x3F, out, at, attributes, stamp, name, vendor, old, own)
 }
 
 // Whether so many bytes from a place on lie within a buffer of so many.
@@ -221,10 +193,11 @@ fn put_cut(out: &mut [u8], at: usize, region: &[u8], place: usize, e: Entry) -> 
     ensures { λ r. ⌜ Wrote (entryBytes 0x3F (entryValue (entryAt (now (region .entry)) place e))) at (now (out .entry)) (now (out .exit)) r ⌝ }
 {
     let stamp = walk::stamp_of(region, place);
-    let name = walk::name_of(region, place, e);
-    let vendor = walk::vendor_of(region, place);
-    let data = walk::data_of(region, place, e);
-    put_entry(out, at, e.attributes, stamp, name, vendor, data, &data[..0])
+    let name = walk::name_of(Layout::AUTHENTICATED, region, place, e);
+    let vendor = walk::vendor_of(Layout::AUTHENTICATED, region, place);
+    let data = walk::data_of(Layout::AUTHENTICATED, region, place, e);
+    let none = &data[..0];
+    put_entry(0x3F, out, at, e.attributes, stamp, name, vendor, data, none)
 }
 
 // The entry of a value that is carried over: its stamp is kept.
@@ -286,7 +259,7 @@ fn put_others(out: &mut [u8], at: usize, region: &[u8], leave: &[usize]) -> usiz
     let mut next = at;
     let mut here: usize = layout::REGION_HEADER;
     loop {
-        let v = list::next_value(region, here);
+        let v = list::next_value(Layout::AUTHENTICATED, region, here);
         let NextValue::At(place, e, after) = v else {
             return next;
         };
@@ -310,7 +283,7 @@ pub fn put_values(out: &mut [u8], region: &[u8], leave: [usize; 8]) -> usize
     requires { ⌜ length (now region) ≤ 28672 ⌝ }
     ensures { λ r. ⌜ Wrote (regionHeader (length (now (region .entry))) ++ joined (valuesBut leave (now (region .entry)))) 0 (now (out .entry)) (now (out .exit)) r ⌝ }
 {
-    let header = layout::fixed::region_header(region.len());
+    let header = layout::fixed::region_header(Layout::AUTHENTICATED, region.len());
     let next = output::put_bytes(out, 0, &header);
     put_others(out, next, region, &leave)
 }

@@ -92,9 +92,9 @@ fn put_value(
         (now (out .entry)) (now (out .exit)) r
         × (r ≤ at + 34359738368) ⌝ }
 {
-    let name = walk::name_of_in(from, region, place, e);
-    let vendor = walk::vendor_of_in(from, region, place);
-    let data = walk::data_of_in(from, region, place, e);
+    let name = walk::name_of(from, region, place, e);
+    let vendor = walk::vendor_of(from, region, place);
+    let data = walk::data_of(from, region, place, e);
     put_entry(to, out, at, e.attributes, name, vendor, data)
 }
 
@@ -106,7 +106,7 @@ fn put_values(from: Layout, to: Layout, out: &mut [u8], at: usize, region: &[u8]
     let mut next = at;
     let mut here: usize = layout::REGION_HEADER;
     loop {
-        let v = list::next_value_in(from, region, here);
+        let v = list::next_value(from, region, here);
         let NextValue::At(place, e, after) = v else {
             return next;
         };
@@ -126,7 +126,7 @@ pub(crate) fn put_region(
     requires { ⌜ length (now region) ≤ 28672 ⌝ }
     ensures { λ r. ⌜ Wrote (contentIn to size (map unstamped (values (entriesIn from (now (region .entry)))))) 0 (now (out .entry)) (now (out .exit)) r ⌝ }
 {
-    let header = layout::fixed::region_header_in(to, size);
+    let header = layout::fixed::region_header(to, size);
     let next = output::put_bytes(out, 0, &header);
     put_values(from, to, out, next, region)
 }

@@ -18,7 +18,7 @@ pub(crate) fn is_unstampable(from: Layout, to: Layout, region: &[u8]) -> bool
     if to.is_stamped() {
         return false;
     }
-    let t = list::tally_in(from, region);
+    let t = list::tally(from, region);
     t.stamped
 }
 

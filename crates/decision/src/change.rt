@@ -46,7 +46,7 @@ fn is_equal(region: &[u8], old: Found, attributes: u32, proper: &[u8]) -> bool
             attributes,
             proper,
             e.attributes,
-            walk::data_of(region, at, e),
+            walk::data_of(Layout::AUTHENTICATED, region, at, e),
         ),
         Found::Nothing => false,
     }
@@ -183,7 +183,7 @@ fn freed(region: &[u8], old: Found) -> Sums
 {
     match old {
         Found::At(at, e) => {
-            let size = list::size_of(region, at, e);
+            let size = list::size_of(Layout::AUTHENTICATED, region, at, e);
             if layout::is_error_record(e.attributes) {
                 return Sums {
                     records: size,
@@ -211,7 +211,7 @@ fn after(region: &[u8], old: Found, error: bool, size: usize) -> Sums
         × (r .others ≡ othersAfter (now (region .entry)) old error size)
         × (r .records + r .others < 2 ^ 63 + 2 ^ 16) ⌝ }
 {
-    let sums = list::tally_in(Layout::authenticated(), region);
+    let sums = list::tally(Layout::AUTHENTICATED, region);
     let old = freed(region, old);
     if error {
         return Sums {
@@ -301,7 +301,7 @@ fn fits_after_tail(
     if (layout::LARGEST_DATA as usize) < size {
         return false;
     }
-    let taken = tail + layout::entry_size(name, size);
+    let taken = tail + layout::entry_size(Layout::AUTHENTICATED, name, size);
     taken + t.records as usize + t.reserve as usize <= region.len()
 }
 
@@ -324,7 +324,12 @@ fn roomed_by_sums(
     match item {
         Decision::Put => {
             let error = layout::is_error_record(attributes);
-            let sums = after(region, old, error, layout::entry_size(name, size));
+            let sums = after(
+                region,
+                old,
+                error,
+                layout::entry_size(Layout::AUTHENTICATED, name, size),
+            );
             let j = room(t, region.len(), error, sums.records, sums.others);
             match j {
                 Judged::Breaks(rule) => Decision::Broken(rule),

@@ -19,6 +19,7 @@ use image::Check;
 use model::Answer;
 use model::Context;
 use model::Got;
+use model::Layout;
 use model::Named;
 use model::Rule;
 use model::View;
@@ -125,7 +126,11 @@ fn get_from(region: &[u8], runtime: bool, name: &[u8], vendor: &[u8; 16], buffer
     let Found::At(at, e) = found else {
         return refused(Rule::Absent, 0);
     };
-    give(walk::data_of(region, at, e), e.attributes, buffer)
+    give(
+        walk::data_of(Layout::AUTHENTICATED, region, at, e),
+        e.attributes,
+        buffer,
+    )
 }
 
 // Rules 11 and 14 of a next-name, from a region.
@@ -145,8 +150,8 @@ fn name_from(region: &[u8], runtime: bool, name: &[u8], vendor: &[u8; 16], buffe
         return refused(Rule::Absent, 0);
     };
     give_name(
-        walk::vendor_of(region, at),
-        walk::name_of(region, at, e),
+        walk::vendor_of(Layout::AUTHENTICATED, region, at),
+        walk::name_of(Layout::AUTHENTICATED, region, at, e),
         buffer,
     )
 }

@@ -91,7 +91,7 @@ fn room_in(region: &[u8], error: bool, h: u32, reserve: u32) -> Room
         × (r .largest ≡ largestFor (remainingFor error h reserve (length (now (region .entry))) (values (entries (now (region .entry))))))
         × (r .storage ≤ 28672) × (r .remaining ≤ 28672) × (r .largest ≤ 28672) ⌝ }
 {
-    let sums = list::tally_in(Layout::authenticated(), region);
+    let sums = list::tally(Layout::AUTHENTICATED, region);
     let size = region.len();
     let remaining = remaining(error, h, reserve, size, sums.records, sums.others);
     Room {

@@ -69,7 +69,7 @@ pub fn check_in(y: Layout, image: &[u8]) -> Check
 pub fn check_call(image: &[u8]) -> Check
     ensures { λ r. ⌜ r ≡ callOf (now (image .entry)) ⌝ }
 {
-    check_in(Layout::authenticated(), image)
+    check_in(Layout::AUTHENTICATED, image)
 }
 
 // Whether a compaction of b blocks is pending, by a look at the work block.

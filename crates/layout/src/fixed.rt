@@ -4,7 +4,7 @@ ghost use mathlib.Core.Bool.{_&&_, _||_};
 ghost use Prim.Native.Nat.{_+_, _≤_, _%_};
 ghost use lib.ListN.{length, take, drop};
 ghost use Rattle.model.specs.Lists.{same};
-ghost use Rattle.model.specs.Image.{regionHeader, regionHeaderIn};
+ghost use Rattle.model.specs.Image.{regionHeaderIn};
 ghost use Rattle.model.specs.Region.{rightHeaderIn};
 ghost use Rattle.model.specs.Name.{keyed, sameKey, recordVendor, recordFront, isDigit, digits, recordName};
 ghost use Rattle.model.specs.Request.{globalVendor, databaseVendor, certificate, keyPK, keyKEK, keydb, keydbx, keydbt, isDatabase, isKeyName};
@@ -82,7 +82,7 @@ fn low_byte(x: usize) -> u8
 }
 
 // The header of a region of `size` bytes: the form's signature, the size, format 5A, state FE, six zero bytes.
-pub fn region_header_in(y: Layout, size: usize) -> [u8; 28]
+pub fn region_header(y: Layout, size: usize) -> [u8; 28]
     ensures { λ r. ⌜ r ≡ regionHeaderIn y size ⌝ }
 {
     let s = y.signature();
@@ -122,17 +122,10 @@ pub fn region_header_in(y: Layout, size: usize) -> [u8; 28]
     ]
 }
 
-// The same in the form in which calls store.
-pub fn region_header(size: usize) -> [u8; 28]
-    ensures { λ r. ⌜ r ≡ regionHeader size ⌝ }
-{
-    region_header_in(Layout::authenticated(), size)
-}
-
 pub fn right_header(y: Layout, region: &[u8]) -> bool
     ensures { λ r. ⌜ r ≡ rightHeaderIn y (now (region .entry)) ⌝ }
 {
-    let header = region_header_in(y, region.len());
+    let header = region_header(y, region.len());
     slices::equal(slices::cut(region, 0, crate::REGION_HEADER), &header)
 }
 

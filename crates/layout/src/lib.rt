@@ -7,7 +7,7 @@ ghost use lib.ListN.{getD};
 ghost use Rattle.model.specs.Lists.{u16At, u32At};
 ghost use Rattle.model.specs.Layout.{headerLength};
 ghost use Rattle.model.specs.Region.{recordBit};
-ghost use Rattle.model.specs.Entry.{headerSize, headerFields, headerFieldsIn, rounded};
+ghost use Rattle.model.specs.Entry.{headerFields, headerFieldsIn, rounded};
 ghost use Rattle.layout.specs.Head.{headIn, nameIn, dataIn, mayBe, Unlike};
 use model::Layout;
 
@@ -101,19 +101,11 @@ pub fn rounded(size: usize) -> usize
 }
 
 // The rounded size of an entry whose name and data have so many bytes.
-pub fn entry_size_in(y: Layout, name: usize, size: usize) -> usize
+pub fn entry_size(y: Layout, name: usize, size: usize) -> usize
     requires { ⌜ headerLength y + name + size + 3 < 2 ^ 64 ⌝ }
     ensures { λ r. ⌜ r ≡ rounded (headerLength y + name + size) ⌝ }
 {
     rounded(y.header() + name + size)
-}
-
-// The same in the form in which calls store.
-pub fn entry_size(name: usize, size: usize) -> usize
-    requires { ⌜ headerSize + name + size + 3 < 2 ^ 64 ⌝ }
-    ensures { λ r. ⌜ r ≡ rounded (headerSize + name + size) ⌝ }
-{
-    rounded(Layout::HEADER + name + size)
 }
 
 // Whether attributes are those of an error record.

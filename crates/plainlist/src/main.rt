@@ -7,7 +7,7 @@ fn main() {
     let mut image = io::large_buffer();
     let n = io::read_full(0, &mut image);
     let mut out = io::large_buffer();
-    let length = report::report_in(Layout::plain(), &image[..n], &mut out);
+    let length = report::report(Layout::plain(), &image[..n], &mut out);
     if !io::write_all(STDOUT_FILENO, slices::cut(&out, 0, length)) {
         // a program has no exit status of its own
         io::write_all(

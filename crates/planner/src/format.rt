@@ -6,6 +6,7 @@ ghost use Rattle.model.specs.StartUp.{formatPlan};
 ghost use Rattle.image.specs.Check.{blocksOf};
 ghost use Rattle.plan.specs.Planned.{Plans};
 ghost use Rattle.planner.specs.Format.{wipePlan};
+use model::Layout;
 use plan::Op;
 use plan::Plan;
 use plan::Planned;
@@ -44,7 +45,7 @@ pub fn plan(image: &[u8], b: usize, content: &mut [u8]) -> Planned
     requires { ⌜ (b ≡ blocksOf (now image)) × (1 ≤ b) × (b ≤ 7) × (length (now content) ≡ 28672) ⌝ }
     ensures { λ r. ⌜ Plans (formatPlan (now (image .entry))) (now (image .entry)) (now (content .entry)) (now (content .exit)) r ⌝ }
 {
-    let header = layout::fixed::region_header(layout::BLOCK * b);
+    let header = layout::fixed::region_header(Layout::AUTHENTICATED, layout::BLOCK * b);
     output::put_bytes(content, 0, &header);
     plan::accept(wipe(b), plan::NONE_DECIDES)
 }

@@ -16,6 +16,7 @@ ghost use Rattle.planner.specs.Asked.{valued, Asked, PutPlanned};
 use crate::Standing;
 use crate::compaction;
 use crate::entries;
+use model::Layout;
 use plan::Planned;
 use plan::Step;
 use values::Places;
@@ -51,7 +52,7 @@ fn put_after(
 {
     let leave = compose::left_out(lookup::standing(places));
     let next = compose::put_values(out, region, leave);
-    compose::put_entry(out, next, attributes, stamp, name, vendor, old, own)
+    compose::put_entry(0x3F, out, next, attributes, stamp, name, vendor, old, own)
 }
 
 // "Otherwise the region is compacted with the change folded in", "rest FF".
@@ -112,7 +113,7 @@ fn in_tail(
         (valued (now (name .entry)) (now (vendor .entry)) attributes (now (stamp .entry)) (now (old .entry) ++ now (own .entry))) (now (content .exit)) r ⌝ }
 {
     let places = standing.places;
-    compose::put_entry_in(0xFF, content, 0, attributes, stamp, name, vendor, old, own);
+    compose::put_entry(0xFF, content, 0, attributes, stamp, name, vendor, old, own);
     plan::accept(
         entries::tail_write(places, standing.tail, name.len(), old.len() + own.len()),
         6,
@@ -137,7 +138,7 @@ pub fn put_value(
         ⌜ PutPlanned (now (image .entry))
         (valued (now (name .entry)) (now (vendor .entry)) attributes (now (stamp .entry)) (now (old .entry) ++ now (own .entry))) (now (content .exit)) r ⌝ }
 {
-    let size = layout::entry_size(name.len(), old.len() + own.len());
+    let size = layout::entry_size(Layout::AUTHENTICATED, name.len(), old.len() + own.len());
     if standing.tail + size <= layout::BLOCK * standing.b {
         return in_tail(
             image,

@@ -6,6 +6,7 @@ ghost use Rattle.model.specs.Region.{entries};
 ghost use Rattle.region.specs.Walk.{entryAt};
 ghost use Rattle.query.specs.Query.{entryIn, visible, isSeen, isSought, entryToGet, entryToName};
 use layout::Entry;
+use model::Layout;
 use region::Turn;
 use region::judge;
 use region::walk;
@@ -27,7 +28,7 @@ fn is_seen(region: &[u8], at: usize, e: Entry, runtime: bool) -> bool
     ensures { λ r. ⌜ r ≡ isSeen runtime (entries (now (region .entry))) (entryAt (now (region .entry)) at e) ⌝ }
 {
     if is_visible(runtime, e.attributes) {
-        return list::is_value(region, at, e);
+        return list::is_value(Layout::AUTHENTICATED, region, at, e);
     }
     false
 }
@@ -38,7 +39,7 @@ fn is_sought(region: &[u8], at: usize, e: Entry, runtime: bool, name: &[u8], ven
         ⌜ r ≡ isSought runtime (keyed (now (name .entry)) (now (vendor .entry))) (entries (now (region .entry))) (entryAt (now (region .entry)) at e) ⌝ }
 {
     if judge::is_live(e.state) {
-        if walk::is_entry(region, at, e, e.state, name, vendor) {
+        if walk::is_entry(Layout::AUTHENTICATED, region, at, e, e.state, name, vendor) {
             return is_seen(region, at, e, runtime);
         }
     }
@@ -51,7 +52,7 @@ pub fn to_get(region: &[u8], runtime: bool, name: &[u8], vendor: &[u8; 16]) -> F
 {
     let mut at: usize = layout::REGION_HEADER;
     loop {
-        let t = walk::turn(region, at);
+        let t = walk::turn(Layout::AUTHENTICATED, region, at);
         let Turn::Entry(e, next) = t else {
             return Found::Nothing;
         };
@@ -78,7 +79,7 @@ pub fn to_name(region: &[u8], runtime: bool, name: &[u8], vendor: &[u8; 16]) -> 
     let mut passed = is_empty_name(name);
     let mut here: usize = layout::REGION_HEADER;
     loop {
-        let t = walk::turn(region, here);
+        let t = walk::turn(Layout::AUTHENTICATED, region, here);
         let Turn::Entry(e, next) = t else {
             return Found::Nothing;
         };

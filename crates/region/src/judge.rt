@@ -119,11 +119,11 @@ fn came_before(y: Layout, region: &[u8], end: usize, state: u8, name: &[u8], ven
 {
     let mut at: usize = layout::REGION_HEADER;
     while at < end {
-        let t = walk::turn_in(y, region, at);
+        let t = walk::turn(y, region, at);
         let Turn::Entry(e, next) = t else {
             return false;
         };
-        if walk::is_entry_in(y, region, at, e, state, name, vendor) {
+        if walk::is_entry(y, region, at, e, state, name, vendor) {
             return true;
         }
         at = next;
@@ -137,8 +137,8 @@ pub(crate) fn is_doubled(y: Layout, region: &[u8], at: usize, e: Entry, suspect:
 {
     if suspect {
         if is_live(e.state) {
-            let name = walk::name_of_in(y, region, at, e);
-            let vendor = walk::vendor_of_in(y, region, at);
+            let name = walk::name_of(y, region, at, e);
+            let vendor = walk::vendor_of(y, region, at);
             came_before(y, region, at, e.state, name, vendor)
         } else {
             false
@@ -314,7 +314,7 @@ fn scan_by_marks(y: Layout, region: &[u8]) -> Pass
             noted[i] = marks::note(old, m.sign);
             at += layout::rounded(u.end);
         }
-        let t = walk::turn_in(y, region, at);
+        let t = walk::turn(y, region, at);
         let Turn::Entry(e, next) = t else {
             return Pass {
                 known: true,
@@ -380,5 +380,5 @@ pub fn judge_in(y: Layout, region: &[u8]) -> Judged
 pub fn judge(region: &[u8]) -> Judged
     ensures { λ r. ⌜ r ≡ judgedOf (now (region .entry)) ⌝ }
 {
-    judge_in(Layout::authenticated(), region)
+    judge_in(Layout::AUTHENTICATED, region)
 }

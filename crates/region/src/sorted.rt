@@ -116,7 +116,7 @@ fn insert(table: &mut [u16; 720], count: usize, place: usize, at: usize)
 
 // Whether the entry at an offset has this state, GUID and name.
 fn is_same(y: Layout, region: &[u8], at: usize, state: u8, key: &[u8]) -> bool {
-    let t = walk::turn_in(y, region, at);
+    let t = walk::turn(y, region, at);
     let Turn::Entry(e, _) = t else {
         return false;
     };
@@ -159,7 +159,7 @@ fn sort(y: Layout, region: &[u8], table: &mut [u16; 720]) {
     let mut count: usize = 0;
     let mut at: usize = layout::REGION_HEADER;
     while count < PLACES {
-        let t = walk::turn_in(y, region, at);
+        let t = walk::turn(y, region, at);
         let Turn::Entry(e, next) = t else {
             return;
         };
@@ -187,7 +187,7 @@ fn scan_by_table(y: Layout, region: &[u8], table: &[u16]) -> Scan
     let mut settled = true;
     let mut at: usize = layout::REGION_HEADER;
     loop {
-        let t = walk::turn_in(y, region, at);
+        let t = walk::turn(y, region, at);
         let Turn::Entry(e, next) = t else {
             return Scan {
                 sound: true,

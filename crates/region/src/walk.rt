@@ -1,9 +1,9 @@
-// The walk over the entries of a region, in every stored form. What ends in `_in` is given the form; the others are the same in the form in which calls store.
+// The walk over the entries of a region, in every stored form.
 ghost use mathlib.Core.Path.{_≡_};
 ghost use Prim.Native.Nat.{_+_, _<_, _^_};
 ghost use Rattle.model.specs.Name.{keyed};
 ghost use Rattle.model.specs.Region.{isEntry};
-ghost use Rattle.region.specs.Walk.{strideIn, entryAs, entryAt, stampAt, vendorAs, vendorAt, turnIn, turnOf};
+ghost use Rattle.region.specs.Walk.{strideIn, entryAs, stampAt, vendorAs, turnIn};
 use crate::Turn;
 use layout::Entry;
 use layout::Head;
@@ -16,11 +16,11 @@ fn stride(y: Layout, e: Entry) -> usize
     if e.state == 0xFF {
         return y.header();
     }
-    layout::entry_size_in(y, e.name as usize, e.size as usize)
+    layout::entry_size(y, e.name as usize, e.size as usize)
 }
 
 // What stands at an offset; past the end, the end of the walk.
-pub fn turn_in(y: Layout, region: &[u8], at: usize) -> Turn
+pub fn turn(y: Layout, region: &[u8], at: usize) -> Turn
     ensures { λ r. ⌜ r ≡ turnIn y (now (region .entry)) at ⌝ }
 {
     if region.len() < at {
@@ -33,49 +33,25 @@ pub fn turn_in(y: Layout, region: &[u8], at: usize) -> Turn
     }
 }
 
-pub fn turn(region: &[u8], at: usize) -> Turn
-    ensures { λ r. ⌜ r ≡ turnOf (now (region .entry)) at ⌝ }
-{
-    turn_in(Layout::authenticated(), region, at)
-}
-
 // The name of the entry at an offset, by its numbers: the part of the region from its first byte on is handed to the reader of entries.
-pub fn name_of_in(y: Layout, region: &[u8], at: usize, e: Entry) -> &[u8]
+pub fn name_of(y: Layout, region: &[u8], at: usize, e: Entry) -> &[u8]
     ensures { λ r. ⌜ now r ≡ entryAs y (now (region .entry)) at e .name ⌝ }
 {
     layout::name_of(y, slices::from(region, at), e)
 }
 
-pub fn name_of(region: &[u8], at: usize, e: Entry) -> &[u8]
-    ensures { λ r. ⌜ now r ≡ entryAt (now (region .entry)) at e .name ⌝ }
-{
-    name_of_in(Layout::authenticated(), region, at, e)
-}
-
 // Its data.
-pub fn data_of_in(y: Layout, region: &[u8], at: usize, e: Entry) -> &[u8]
+pub fn data_of(y: Layout, region: &[u8], at: usize, e: Entry) -> &[u8]
     ensures { λ r. ⌜ now r ≡ entryAs y (now (region .entry)) at e .bytes ⌝ }
 {
     layout::data_of(y, slices::from(region, at), e)
 }
 
-pub fn data_of(region: &[u8], at: usize, e: Entry) -> &[u8]
-    ensures { λ r. ⌜ now r ≡ entryAt (now (region .entry)) at e .bytes ⌝ }
-{
-    data_of_in(Layout::authenticated(), region, at, e)
-}
-
 // Its GUID.
-pub fn vendor_of_in(y: Layout, region: &[u8], at: usize) -> &[u8]
+pub fn vendor_of(y: Layout, region: &[u8], at: usize) -> &[u8]
     ensures { λ r. ⌜ now r ≡ vendorAs y (now (region .entry)) at ⌝ }
 {
     layout::vendor_of(y, slices::from(region, at))
-}
-
-pub fn vendor_of(region: &[u8], at: usize) -> &[u8]
-    ensures { λ r. ⌜ now r ≡ vendorAt (now (region .entry)) at ⌝ }
-{
-    vendor_of_in(Layout::authenticated(), region, at)
 }
 
 // Its stamp: a move reads none.
@@ -87,7 +63,7 @@ pub fn stamp_of(region: &[u8], at: usize) -> &[u8]
 
 // Whether an entry has this state, name and GUID. What is cheap to compare comes first, and the name before the GUID: variables of one vendor differ in their
 // names, and most of them in the eight bytes at the end, with which their comparison begins.
-pub fn is_entry_in(
+pub fn is_entry(
     y: Layout,
     region: &[u8],
     at: usize,
@@ -101,19 +77,13 @@ pub fn is_entry_in(
     if e.state != state {
         return false;
     }
-    let own = name_of_in(y, region, at, e);
+    let own = name_of(y, region, at, e);
     if own.len() != name.len() {
         return false;
     }
     if slices::equal(own, name) {
-        slices::equal(vendor_of_in(y, region, at), vendor)
+        slices::equal(vendor_of(y, region, at), vendor)
     } else {
         false
     }
-}
-
-pub fn is_entry(region: &[u8], at: usize, e: Entry, state: u8, name: &[u8], vendor: &[u8]) -> bool
-    ensures { λ r. ⌜ r ≡ isEntry state (keyed (now (name .entry)) (now (vendor .entry))) (entryAt (now (region .entry)) at e) ⌝ }
-{
-    is_entry_in(Layout::authenticated(), region, at, e, state, name, vendor)
 }

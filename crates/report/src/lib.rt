@@ -7,7 +7,7 @@ ghost use Rattle.model.specs.Walk.{entryValue};
 ghost use Rattle.model.specs.Region.{entriesIn, values};
 ghost use Rattle.region.specs.Walk.{entryAs};
 ghost use Rattle.output.specs.Text.{Wrote};
-ghost use Rattle.report.specs.Varlist.{field, summaryLine, keyText, entryLine, valueLine, valueLines, refusedLine, listText, varlistText};
+ghost use Rattle.report.specs.Varlist.{field, summaryLine, keyText, entryLine, valueLine, valueLines, refusedLine, listText};
 use image::Check;
 use layout::Entry;
 use model::Layout;
@@ -88,9 +88,9 @@ fn put_entry(y: Layout, out: &mut [u8], at: usize, region: &[u8], place: usize, 
     ensures { λ r. ⌜ Wrote (valueLine (entryValue (entryAs y (now (region .entry)) place e))) at (now (out .entry)) (now (out .exit)) r
         × (r ≤ at + 48 + 2 * length (entryAs y (now (region .entry)) place e .name)) ⌝ }
 {
-    let vendor = walk::vendor_of_in(y, region, place);
-    let name = walk::name_of_in(y, region, place, e);
-    let data = walk::data_of_in(y, region, place, e);
+    let vendor = walk::vendor_of(y, region, place);
+    let name = walk::name_of(y, region, place, e);
+    let data = walk::data_of(y, region, place, e);
     put_value(out, at, vendor, name, e.attributes, data.len() as u32)
 }
 
@@ -102,7 +102,7 @@ fn put_lines(y: Layout, region: &[u8], out: &mut [u8], at: usize) -> usize
     let mut next = at;
     let mut here: usize = layout::REGION_HEADER;
     loop {
-        let v = list::next_value_in(y, region, here);
+        let v = list::next_value(y, region, here);
         let NextValue::At(place, e, after) = v else {
             return next;
         };
@@ -119,13 +119,13 @@ fn put_store(y: Layout, region: &[u8], tail: usize, out: &mut [u8]) -> usize
         (summaryLine (length (now (region .entry))) tail (length (values (entriesIn y (now (region .entry))))) ++ valueLines
         (values (entriesIn y (now (region .entry))))) 0 (now (out .entry)) (now (out .exit)) r ⌝ }
 {
-    let t = list::tally_in(y, region);
+    let t = list::tally(y, region);
     let next = put_summary(out, 0, region.len() as u32, tail as u32, t.number as u32);
     put_lines(y, region, out, next)
 }
 
 // What is printed of an image in a stored form, checked in it as a call checks: `plainlist` prints this of the plain form.
-pub fn report_in(y: Layout, image: &[u8], out: &mut [u8]) -> usize
+pub fn report(y: Layout, image: &[u8], out: &mut [u8]) -> usize
     ensures { λ r. ⌜ Wrote (listText y (now (image .entry))) 0 (now (out .entry)) (now (out .exit)) r ⌝ }
 {
     let c = image::check_in(y, image);
@@ -135,11 +135,4 @@ pub fn report_in(y: Layout, image: &[u8], out: &mut [u8]) -> usize
         }
         Check::Refused(rule) => put_refused(out, 0, model::number(rule)),
     }
-}
-
-// What `varlist` prints: the same in the form in which calls store.
-pub fn report(image: &[u8], out: &mut [u8]) -> usize
-    ensures { λ r. ⌜ Wrote (varlistText (now (image .entry))) 0 (now (out .entry)) (now (out .exit)) r ⌝ }
-{
-    report_in(Layout::authenticated(), image, out)
 }

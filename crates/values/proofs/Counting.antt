@@ -88,8 +88,7 @@ module _ {y : Layout} {r : List ℕ} {at a : ℕ} {e : numbers.Entry} {k : ℕ} 
   counted-turn p = rw (p, s) (counted-next (walk.entryValue (entryAs y r a e)) there)
 
 -- in the form in which calls store: the sums of the definitions
-pub told-sums : {y : Layout} (r : List ℕ) {t : Tally} → Tallied y (values (entriesIn y r)) t → y ≡ authenticated
+pub told-sums : (r : List ℕ) {t : Tally} → Tallied authenticated (values (entries r)) t
     → (t .records ≡ recordSizes (values (entries r))) × (t .others ≡ otherSizes (values (entries r)))
 unfolding recordSizes otherSizes
-told-sums r n e =
-    (n .records ∙ ap (λ (z : Layout). sizesIn z isErrorRecord (values (entriesIn z r))) e, n .others ∙ ap (λ (z : Layout). sizesIn z isOther (values (entriesIn z r))) e)
+told-sums r n = (n .records, n .others)

@@ -1,15 +1,14 @@
-// The values of a region in flash order, and what a pass over them counts. What ends in `_in` is given the stored form; the others are the same in the form in
-// which calls store.
+// The values of a region in flash order, and what a pass over them counts, in every stored form.
 ghost use mathlib.Core.Path.{_≡_};
 ghost use mathlib.Core.Bool.{cond};
 ghost use Prim.Native.Nat.{_+_, _^_, _<_, _≤_};
 ghost use lib.ListN.{length};
 ghost use Rattle.model.specs.Lists.{first};
-ghost use Rattle.model.specs.Entry.{entrySize, entrySizeIn};
+ghost use Rattle.model.specs.Entry.{entrySizeIn};
 ghost use Rattle.model.specs.Walk.{entryValue};
-ghost use Rattle.model.specs.Region.{entries, entriesIn, isValue, values};
-ghost use Rattle.model.specs.Beside.{from, fromIn};
-ghost use Rattle.region.specs.Walk.{entryAs, entryAt};
+ghost use Rattle.model.specs.Region.{entriesIn, isValue, values};
+ghost use Rattle.model.specs.Beside.{fromIn};
+ghost use Rattle.region.specs.Walk.{entryAs};
 ghost use Rattle.values.specs.Found.{nextOf};
 ghost use Rattle.values.specs.Sums.{Tallied, counted};
 use crate::Found;
@@ -22,7 +21,7 @@ use region::Turn;
 use region::walk;
 
 // Whether an entry is its name's value: a 3F entry, or a 3E entry beside no 3F entry.
-pub fn is_value_in(y: Layout, region: &[u8], at: usize, e: Entry) -> bool
+pub fn is_value(y: Layout, region: &[u8], at: usize, e: Entry) -> bool
     ensures { λ r. ⌜ r ≡ isValue (entriesIn y (now (region .entry))) (entryAs y (now (region .entry)) at e) ⌝ }
 {
     if e.state == 0x3F {
@@ -31,8 +30,8 @@ pub fn is_value_in(y: Layout, region: &[u8], at: usize, e: Entry) -> bool
     if e.state != 0x3E {
         return false;
     }
-    let name = walk::name_of_in(y, region, at, e);
-    let vendor = walk::vendor_of_in(y, region, at);
+    let name = walk::name_of(y, region, at, e);
+    let vendor = walk::vendor_of(y, region, at);
     let f = lookup::find_from(y, region, layout::REGION_HEADER, 0x3F, name, vendor);
     match f {
         Found::At(_, _) => false,
@@ -40,48 +39,30 @@ pub fn is_value_in(y: Layout, region: &[u8], at: usize, e: Entry) -> bool
     }
 }
 
-pub fn is_value(region: &[u8], at: usize, e: Entry) -> bool
-    ensures { λ r. ⌜ r ≡ isValue (entries (now (region .entry))) (entryAt (now (region .entry)) at e) ⌝ }
-{
-    is_value_in(Layout::authenticated(), region, at, e)
-}
-
 // The first value at or after an offset.
-pub fn next_value_in(y: Layout, region: &[u8], at: usize) -> NextValue
+pub fn next_value(y: Layout, region: &[u8], at: usize) -> NextValue
     ensures { λ r. ⌜ r ≡ nextOf (first (isValue (entriesIn y (now (region .entry)))) (fromIn y (now (region .entry)) at)) ⌝ }
 {
     let mut here = at;
     loop {
-        let t = walk::turn_in(y, region, here);
+        let t = walk::turn(y, region, here);
         let Turn::Entry(e, next) = t else {
             return NextValue::End;
         };
-        if is_value_in(y, region, here, e) {
+        if is_value(y, region, here, e) {
             return NextValue::At(here, e, next);
         }
         here = next;
     }
 }
 
-pub fn next_value(region: &[u8], at: usize) -> NextValue
-    ensures { λ r. ⌜ r ≡ nextOf (first (isValue (entries (now (region .entry)))) (from (now (region .entry)) at)) ⌝ }
-{
-    next_value_in(Layout::authenticated(), region, at)
-}
-
 // The rounded size of the entry that a value is written as: of a name and data that the region cuts off, what it holds of them.
-pub fn size_of_in(y: Layout, region: &[u8], at: usize, e: Entry) -> usize
+pub fn size_of(y: Layout, region: &[u8], at: usize, e: Entry) -> usize
     ensures { λ r. ⌜ r ≡ entrySizeIn y (entryValue (entryAs y (now (region .entry)) at e)) ⌝ }
 {
-    let name = walk::name_of_in(y, region, at, e);
-    let data = walk::data_of_in(y, region, at, e);
-    layout::entry_size_in(y, name.len(), data.len())
-}
-
-pub fn size_of(region: &[u8], at: usize, e: Entry) -> usize
-    ensures { λ r. ⌜ r ≡ entrySize (entryValue (entryAt (now (region .entry)) at e)) ⌝ }
-{
-    size_of_in(Layout::authenticated(), region, at, e)
+    let name = walk::name_of(y, region, at, e);
+    let data = walk::data_of(y, region, at, e);
+    layout::entry_size(y, name.len(), data.len())
 }
 
 // The sum of a class, with a value of this size where it is of the class.
@@ -110,7 +91,7 @@ fn counted(t: Tally, attributes: u32, size: usize) -> Tally
 }
 
 // The values in one pass: their number, the rounded entry sizes of each class, and whether one has 0x20.
-pub fn tally_in(y: Layout, region: &[u8]) -> Tally
+pub fn tally(y: Layout, region: &[u8]) -> Tally
     ensures { λ r. ⌜ Tallied y (values (entriesIn y (now (region .entry)))) r
         × (r .records + r .others ≤ length (now (region .entry)) + 3) ⌝ }
 {
@@ -122,11 +103,11 @@ pub fn tally_in(y: Layout, region: &[u8]) -> Tally
     };
     let mut here: usize = layout::REGION_HEADER;
     loop {
-        let v = next_value_in(y, region, here);
+        let v = next_value(y, region, here);
         let NextValue::At(at, e, after) = v else {
             return t;
         };
-        t = counted(t, e.attributes, size_of_in(y, region, at, e));
+        t = counted(t, e.attributes, size_of(y, region, at, e));
         here = after;
     }
 }

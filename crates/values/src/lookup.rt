@@ -27,11 +27,11 @@ pub(crate) fn find_from(
 {
     let mut here = at;
     loop {
-        let t = walk::turn_in(y, region, here);
+        let t = walk::turn(y, region, here);
         let Turn::Entry(e, next) = t else {
             return Found::Nothing;
         };
-        if walk::is_entry_in(y, region, here, e, state, name, vendor) {
+        if walk::is_entry(y, region, here, e, state, name, vendor) {
             return Found::At(here, e);
         }
         here = next;
@@ -54,7 +54,7 @@ fn like_from(region: &[u8], at: usize, name: &[u8]) -> usize
 {
     let mut here = at;
     loop {
-        let t = walk::turn(region, here);
+        let t = walk::turn(Layout::AUTHENTICATED, region, here);
         let Turn::Entry(_, next) = t else {
             return here;
         };
@@ -75,14 +75,14 @@ pub fn places(region: &[u8], name: &[u8], vendor: &[u8]) -> Places
     let mut at: usize = layout::REGION_HEADER;
     loop {
         let here = like_from(region, at, name);
-        let t = walk::turn(region, here);
+        let t = walk::turn(Layout::AUTHENTICATED, region, here);
         let Turn::Entry(e, next) = t else {
             return Places { added, replacing };
         };
-        if walk::is_entry(region, here, e, 0x3F, name, vendor) {
+        if walk::is_entry(Layout::AUTHENTICATED, region, here, e, 0x3F, name, vendor) {
             added = or_entry(added, here, e);
         } else {
-            if walk::is_entry(region, here, e, 0x3E, name, vendor) {
+            if walk::is_entry(Layout::AUTHENTICATED, region, here, e, 0x3E, name, vendor) {
                 replacing = or_entry(replacing, here, e);
             }
         }
@@ -106,7 +106,7 @@ pub fn old_data(region: &[u8], standing: Found) -> &[u8]
     ensures { λ r. ⌜ now r ≡ oldData (now (region .entry)) standing ⌝ }
 {
     match standing {
-        Found::At(at, e) => walk::data_of(region, at, e),
+        Found::At(at, e) => walk::data_of(Layout::AUTHENTICATED, region, at, e),
         Found::Nothing => &region[..0],
     }
 }
@@ -118,14 +118,14 @@ pub fn find(region: &[u8], name: &[u8], vendor: &[u8]) -> Found
     let mut replacing = Found::Nothing;
     let mut at: usize = layout::REGION_HEADER;
     loop {
-        let t = walk::turn(region, at);
+        let t = walk::turn(Layout::AUTHENTICATED, region, at);
         let Turn::Entry(e, next) = t else {
             return replacing;
         };
-        if walk::is_entry(region, at, e, 0x3F, name, vendor) {
+        if walk::is_entry(Layout::AUTHENTICATED, region, at, e, 0x3F, name, vendor) {
             return Found::At(at, e);
         }
-        if walk::is_entry(region, at, e, 0x3E, name, vendor) {
+        if walk::is_entry(Layout::AUTHENTICATED, region, at, e, 0x3E, name, vendor) {
             replacing = or_entry(replacing, at, e);
         }
         at = next;

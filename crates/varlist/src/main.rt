@@ -1,12 +1,13 @@
 // varlist: reads an image on standard input and prints its variables, or the rule that it breaks.
 use libc::STDERR_FILENO;
 use libc::STDOUT_FILENO;
+use model::Layout;
 
 fn main() {
     let mut image = io::large_buffer();
     let n = io::read_full(0, &mut image);
     let mut out = io::large_buffer();
-    let length = report::report(&image[..n], &mut out);
+    let length = report::report(Layout::AUTHENTICATED, &image[..n], &mut out);
     if !io::write_all(STDOUT_FILENO, slices::cut(&out, 0, length)) {
         // a program has no exit status of its own
         io::write_all(

@@ -11,23 +11,23 @@ use Rattle.report.proofs.put_entry.Tie as tie
 cast-put-value : tie.Need-cast-put-value
 cast-put-value c =
     let a = c .before .before .before .before .before .before .args in
-    let s = short (a .y) (now (a .region)) (a .place) (a .e) (c .before .before .before .vendor-of-in .ensures) (c .before .before .name-of-in .ensures)
-    (c .before .data-of-in .ensures) in
+    let s = short (a .y) (now (a .region)) (a .place) (a .e) (c .before .before .before .vendor-of .ensures) (c .before .before .name-of .ensures)
+    (c .before .data-of .ensures) in
     record { fits = omega (arith, s .bytes-short) }
 
 put-value-requires : tie.Need-put-value-requires
 put-value-requires c κs =
     let a = c .before .before .before .before .before .before .args in
-    let s = short (a .y) (now (a .region)) (a .place) (a .e) (c .before .before .before .vendor-of-in .ensures) (c .before .before .name-of-in .ensures)
-    (c .before .data-of-in .ensures) in
+    let s = short (a .y) (now (a .region)) (a .place) (a .e) (c .before .before .before .vendor-of .ensures) (c .before .before .name-of .ensures)
+    (c .before .data-of .ensures) in
     omega (arith, s .vendor-short, s .name-short)
 
 returns : tie.Need-returns
 returns c =
     let a = c .before .before .before .before .before .before .before .before .before .args in
-    let v = c .before .before .before .before .before .before .vendor-of-in .ensures in
-    let n = c .before .before .before .before .before .name-of-in .ensures in
-    let b = c .before .before .before .before .data-of-in .ensures in
+    let v = c .before .before .before .before .before .before .vendor-of .ensures in
+    let n = c .before .before .before .before .before .name-of .ensures in
+    let b = c .before .before .before .before .data-of .ensures in
     let s = short (a .y) (now (a .region)) (a .place) (a .e) v n b in
     let w = c .before .before .put-value .ensures in
     (wrote-as (entry-line (a .y) (now (a .region)) (a .place) (a .e) v n b) (w .0), omega (arith, w .1, s .vendor-short, s .name-same))

@@ -9,7 +9,7 @@ use Rattle.convert.proofs.put.put_region.Tie as tie
 returns : tie.Need-returns
 unfolding contentIn
 returns c =
-    wrote-append (wrote-as (c .before .before .before .before .before .before .before .before .before .region-header-in .ensures)
+    wrote-append (wrote-as (c .before .before .before .before .before .before .before .before .before .region-header .ensures)
     (c .before .before .before .before .before .before .put-bytes .ensures)) (c .before .before .put-values .ensures)
 
 pub put-region-spec : {M : Type 1} → statement M

@@ -27,24 +27,24 @@ loop-holds c = let a = c .before .before .args in
 returns : tie.Need-returns Inv-loop μ-loop
 returns c =
     let b = c .before .before in
-    carried-all _ _ (b .before .loop .inv .2) (listed-nothing (b .next-value-in .ensures) (c .enum-told .given .1) .list)
+    carried-all _ _ (b .before .loop .inv .2) (listed-nothing (b .next-value .ensures) (c .enum-told .given .1) .list)
 
 put-value-requires : tie.Need-put-value-requires Inv-loop μ-loop
 put-value-requires c κs =
     let b = c .before .before in
-    let x = next-value (b .before .before .next-value-in .ensures) (b .v .given .1) in
+    let x = next-value (b .before .before .next-value .ensures) (b .v .given .1) in
     (omega (arith, b .before .before .before .loop .inv .0, x .from-here, x .fits), omega arith)
 
 loop-less : tie.Need-loop-less Inv-loop μ-loop
 loop-less c =
     let b = c .before .before .before .before .before in
-    next-value (b .before .before .next-value-in .ensures) (b .v .given .1) .less
+    next-value (b .before .before .next-value .ensures) (b .v .given .1) .less
 
 loop-again : tie.Need-loop-again Inv-loop μ-loop
 loop-again c =
     let b = c .before .before .before .before .before in
     let i = b .before .before .before .loop .inv in
-    let x = next-value (b .before .before .next-value-in .ensures) (b .v .given .1) in
+    let x = next-value (b .before .before .next-value .ensures) (b .v .given .1) in
     let w = c .before .before .put-value in (
       omega (arith, i .0, w .ensures .1, x .from-here, x .size),
       wrote-length (w .ensures .0) ∙ i .1,

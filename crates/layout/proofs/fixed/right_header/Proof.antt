@@ -8,7 +8,7 @@ use Rattle.layout.proofs.fixed.right_header.Tie as tie
 
 returns : tie.Need-returns
 unfolding rightHeaderIn
-returns c = c .equal .ensures ∙ ap₂ same (c .before .before .cut .ensures) (c .before .before .before .region-header-in .ensures)
+returns c = c .equal .ensures ∙ ap₂ same (c .before .before .cut .ensures) (c .before .before .before .region-header .ensures)
 
 pub right-header-spec : {M : Type 1} → statement M
 right-header-spec =

@@ -9,8 +9,8 @@ use borrow.Author.Needs.{needs}
 use Rattle.planner.proofs.put.in_tail.Statement.{statement}
 use Rattle.planner.proofs.put.in_tail.Tie as tie
 
-put-entry-in-requires : tie.Need-put-entry-in-requires
-put-entry-in-requires c κs =
+put-entry-requires : tie.Need-put-entry-requires
+put-entry-requires c κs =
     let s = c .before .before .before .before .before .before .before .before .before in
     let h = value-short _ (s .pre .0 .ready) (s .pre .0 .room) in
     let l = length-append (now (s .args .old)) (now (s .args .own)) in
@@ -29,13 +29,13 @@ returns : tie.Need-returns
 returns c =
     let s = c .before .before .before .before .before .before .before .before .before .before .before .before .before .before in
     let ve : length (now (s .args .vendor)) ≡ 16 = search needs in
-    tail-planned (s .pre .0) (s .pre .1) ve (c .before .before .before .before .put-entry-in .ensures) (s .pre .2) (sym (length-append (now (s .args .old)) (now (s .args .own)))) (c .before .tail-write .ensures) (c .accept .ensures)
+    tail-planned (s .pre .0) (s .pre .1) ve (c .before .before .before .before .put-entry .ensures) (s .pre .2) (sym (length-append (now (s .args .old)) (now (s .args .own)))) (c .before .tail-write .ensures) (c .accept .ensures)
 
 pub in-tail-spec : {M : Type 1} → statement M
 in-tail-spec =
     tie.close
     (tie.spec
-    put-entry-in-requires
+    put-entry-requires
     (λ c. search needs)
     tail-write-requires
     (λ c κs. search needs)

@@ -33,22 +33,22 @@ loop-holds c =
 returns : tie.Need-returns Inv-loop μ-loop
 returns c =
     let b = c .before .before in
-    sym (b .before .before .loop .inv ∙ ap (any _) (up-none (at-end (b .turn-in .ensures) (c .enum-told .given .1)) _))
+    sym (b .before .before .loop .inv ∙ ap (any _) (up-none (at-end (b .turn .ensures) (c .enum-told .given .1)) _))
 
 returns-2 : tie.Need-returns-2 Inv-loop μ-loop
 returns-2 c =
     let b = c .before .before .before in
-    let up = up-next (at-entry (b .before .before .turn-in .ensures) (b .t .given .1)) (b .before .before .before .loop-test .taken) in
-    sym (b .before .before .before .before .loop .inv ∙ any-here up _ (sym (c .before .is-entry-in .ensures) ∙ c .if1 .taken))
+    let up = up-next (at-entry (b .before .before .turn .ensures) (b .t .given .1)) (b .before .before .before .loop-test .taken) in
+    sym (b .before .before .before .before .loop .inv ∙ any-here up _ (sym (c .before .is-entry .ensures) ∙ c .if1 .taken))
 
 loop-less : tie.Need-loop-less Inv-loop μ-loop
-loop-less c = let b = c .before .before .before in at-entry (b .before .before .turn-in .ensures) (b .t .given .1) .less
+loop-less c = let b = c .before .before .before in at-entry (b .before .before .turn .ensures) (b .t .given .1) .less
 
 loop-again : tie.Need-loop-again Inv-loop μ-loop
 loop-again c =
     let b = c .before .before .before in
-    let up = up-next (at-entry (b .before .before .turn-in .ensures) (b .t .given .1)) (b .before .before .before .loop-test .taken) in
-    b .before .before .before .before .loop .inv ∙ any-next up _ (sym (c .before .is-entry-in .ensures) ∙ c .if1 .left)
+    let up = up-next (at-entry (b .before .before .turn .ensures) (b .t .given .1)) (b .before .before .before .loop-test .taken) in
+    b .before .before .before .before .loop .inv ∙ any-next up _ (sym (c .before .is-entry .ensures) ∙ c .if1 .left)
 
 returns-3 : tie.Need-returns-3 Inv-loop μ-loop
 returns-3 c =

@@ -21,8 +21,8 @@ returns c =
     let old = upTo (a .at) (entriesIn (a .y) r) in
     rw (b .if1 .taken)
     (c .came-before .ensures
-    ∙ ap₂ (λ (name vendor : List ℕ). any (isEntry (a .e .state) (keyed name vendor)) old) (c .before .before .name-of-in .ensures)
-    (c .before .vendor-of-in .ensures)
+    ∙ ap₂ (λ (name vendor : List ℕ). any (isEntry (a .e .state) (keyed name vendor)) old) (c .before .before .name-of .ensures)
+    (c .before .vendor-of .ensures)
     ∙ sym (doubled-live (a .y) r (a .at) (a .e) old (sym (c .before .before .before .before .is-live .ensures) ∙ c .before .before .before .if2 .taken)))
 
 returns-2 : tie.Need-returns-2

@@ -179,36 +179,36 @@ returns c =
     let b = c .before .before in
     let l = b .before .before .before in
     let a = l .before .before .before .before .before .args in
-    let z = at-end (b .turn-in .ensures) (c .enum-told .given .1) in
+    let z = at-end (b .turn .ensures) (c .enum-told .given .1) in
     let i = l .loop2 .inv in
     λ _. sym (scan-right (a .y) (now (a .region)) _ (i .0 ∙ ap (scanned _ _) (z .walk)) (ended (i .1 .passing) z))
 
 sub-entry-sound : tie.Need-sub-entry-sound Inv-loop2 μ-loop2 Inv-loop μ-loop
-sub-entry-sound c = at-entry (c .before .before .before .turn-in .ensures) (c .before .t .given .1) .inside
+sub-entry-sound c = at-entry (c .before .before .before .turn .ensures) (c .before .t .given .1) .inside
 
 part-entry-sound-start : tie.Need-part-entry-sound-start Inv-loop2 μ-loop2 Inv-loop μ-loop
-part-entry-sound-start c = let w = at-entry (c .before .before .before .turn-in .ensures) (c .before .t .given .1) in omega arith
+part-entry-sound-start c = let w = at-entry (c .before .before .before .turn .ensures) (c .before .t .given .1) in omega arith
 
 part-entry-sound-end : tie.Need-part-entry-sound-end Inv-loop2 μ-loop2 Inv-loop μ-loop
-part-entry-sound-end c = let w = at-entry (c .before .before .before .turn-in .ensures) (c .before .t .given .1) in omega arith
+part-entry-sound-end c = let w = at-entry (c .before .before .before .turn .ensures) (c .before .t .given .1) in omega arith
 
 returns-2 : tie.Need-returns-2 Inv-loop2 μ-loop2 Inv-loop μ-loop
 returns-2 c =
     let d = c .before in
     let l = d .before .before .before .before .before .before .before .before .before in
     let a = l .before .before .before .before .before .args in
-    let w = at-entry (d .before .before .before .before .before .before .turn-in .ensures) (d .before .before .before .before .t .given .1) in
+    let w = at-entry (d .before .before .before .before .before .before .turn .ensures) (d .before .before .before .before .t .given .1) in
     let own = sym (front-sound w) ∙ sym (d .before .entry-sound .ensures) in
     λ _. c .wrong .ensures ∙ sym (scan-wrong (a .y) (now (a .region)) (l .loop2 .inv .0 ∙ scan-stop (w .walk) _ _ (own ∙ not-true _ (d .if4 .taken))))
 
 sub-mark-of : tie.Need-sub-mark-of Inv-loop2 μ-loop2 Inv-loop μ-loop
-sub-mark-of c = at-entry (c .before .before .before .before .before .before .turn-in .ensures) (c .before .before .before .before .t .given .1) .inside
+sub-mark-of c = at-entry (c .before .before .before .before .before .before .turn .ensures) (c .before .before .before .before .t .given .1) .inside
 
 part-mark-of-start : tie.Need-part-mark-of-start Inv-loop2 μ-loop2 Inv-loop μ-loop
-part-mark-of-start c = let w = at-entry (c .before .before .before .before .before .before .turn-in .ensures) (c .before .before .before .before .t .given .1) in omega arith
+part-mark-of-start c = let w = at-entry (c .before .before .before .before .before .before .turn .ensures) (c .before .before .before .before .t .given .1) in omega arith
 
 part-mark-of-end : tie.Need-part-mark-of-end Inv-loop2 μ-loop2 Inv-loop μ-loop
-part-mark-of-end c = let w = at-entry (c .before .before .before .before .before .before .turn-in .ensures) (c .before .before .before .before .t .given .1) in omega arith
+part-mark-of-end c = let w = at-entry (c .before .before .before .before .before .before .turn .ensures) (c .before .before .before .before .t .given .1) in omega arith
 
 returns-3 : tie.Need-returns-3 Inv-loop2 μ-loop2 Inv-loop μ-loop
 returns-3 c = λ e. absurd (true≢false (sym e ∙ c .given-up .ensures))
@@ -220,13 +220,13 @@ returns-4 c =
     let t = m .before .before .before .before .before .before in
     let l = t .before .before .before .before .before in
     let a = l .before .before .before .before .before .args in
-    let w = at-entry (t .before .before .turn-in .ensures) (t .t .given .1) in
+    let w = at-entry (t .before .before .turn .ensures) (t .t .given .1) in
     λ _. c .wrong2 .ensures ∙ sym (scan-doubled (a .y) (now (a .region)) (doubled (l .loop2 .inv .1 .passing) w (d .before .before .before .before .is-noted2 .result) (sym (d .before .is-doubled .ensures) ∙ d .if6 .taken)))
 
 loop-less : tie.Need-loop-less Inv-loop2 μ-loop2 Inv-loop μ-loop
 loop-less c =
     let t = c .before .before .before .before .before .before .before .before .before .before .before .before in
-    let less = at-entry (t .before .before .turn-in .ensures) (t .t .given .1) .less in
+    let less = at-entry (t .before .before .turn .ensures) (t .t .given .1) .less in
     let here = t .before .before .before .before .before .loop2 .inv .2 in
     omega arith
 
@@ -236,7 +236,7 @@ loop-again c =
     let t = m .before .before .before .before .before .before in
     let l = t .before .before .before .before .before in
     let a = l .before .before .before .before .before .args in
-    let w = at-entry (t .before .before .turn-in .ensures) (t .t .given .1) in
+    let w = at-entry (t .before .before .turn .ensures) (t .t .given .1) in
     let own = sym (front-sound w) ∙ sym (m .before .before .before .entry-sound .ensures) in
     let e = m .mark-of .ensures in
     let q = e .0 ∙ here-mark (a .y) (now (a .region)) (l .loop2 .at) (t .t .given .0 .0) in (

@@ -35,24 +35,24 @@ unfolding walkEnd
 returns c =
     let l = c .before .before .before in
     let a = l .before .before .before .args in
-    let z = at-end (c .before .before .turn-in .ensures) (c .enum-told .given .1) in
+    let z = at-end (c .before .before .turn .ensures) (c .enum-told .given .1) in
     sym (scan-right (a .y) (now (a .region)) _ (l .loop .inv .0 ∙ ap (scanned _ _) (z .walk)) (ended (l .loop .inv .1) z))
 
 sub-entry-sound : tie.Need-sub-entry-sound Inv-loop μ-loop
-sub-entry-sound c = at-entry (c .before .before .before .turn-in .ensures) (c .before .t .given .1) .inside
+sub-entry-sound c = at-entry (c .before .before .before .turn .ensures) (c .before .t .given .1) .inside
 
 part-entry-sound-start : tie.Need-part-entry-sound-start Inv-loop μ-loop
-part-entry-sound-start c = let w = at-entry (c .before .before .before .turn-in .ensures) (c .before .t .given .1) in omega arith
+part-entry-sound-start c = let w = at-entry (c .before .before .before .turn .ensures) (c .before .t .given .1) in omega arith
 
 part-entry-sound-end : tie.Need-part-entry-sound-end Inv-loop μ-loop
-part-entry-sound-end c = let w = at-entry (c .before .before .before .turn-in .ensures) (c .before .t .given .1) in omega arith
+part-entry-sound-end c = let w = at-entry (c .before .before .before .turn .ensures) (c .before .t .given .1) in omega arith
 
 returns-2 : tie.Need-returns-2 Inv-loop μ-loop
 returns-2 c =
     let t = c .before .before .before .before .before in
     let l = t .before .before .before in
     let a = l .before .before .before .args in
-    let w = at-entry (t .before .before .turn-in .ensures) (t .t .given .1) in
+    let w = at-entry (t .before .before .turn .ensures) (t .t .given .1) in
     let own = sym (front-sound w) ∙ sym (c .before .before .entry-sound .ensures) in
     c .unsound .ensures ∙ sym (scan-wrong (a .y) (now (a .region)) (l .loop .inv .0 ∙ scan-stop (w .walk) _ _ (own ∙ not-true _ (c .before .if1 .taken))))
 
@@ -61,21 +61,21 @@ returns-3 c =
     let t = c .before .before .before .before .before .before .before .before in
     let l = t .before .before .before in
     let a = l .before .before .before .args in
-    let w = at-entry (t .before .before .turn-in .ensures) (t .t .given .1) in
+    let w = at-entry (t .before .before .turn .ensures) (t .t .given .1) in
     let d = c .before .before in
     c .unsound2 .ensures
     ∙ sym (scan-doubled (a .y) (now (a .region))
     (doubled (l .loop .inv .1) w (not (l .loop .settled && d .before .owns-place .result)) (sym (d .is-doubled .ensures) ∙ c .before .if2 .taken)))
 
 loop-less : tie.Need-loop-less Inv-loop μ-loop
-loop-less c = let t = c .before .before .before .before .before .before .before in at-entry (t .before .before .turn-in .ensures) (t .t .given .1) .less
+loop-less c = let t = c .before .before .before .before .before .before .before in at-entry (t .before .before .turn .ensures) (t .t .given .1) .less
 
 loop-again : tie.Need-loop-again Inv-loop μ-loop
 loop-again c =
     let t = c .before .before .before .before .before .before .before in
     let l = t .before .before .before in
     let a = l .before .before .before .args in
-    let w = at-entry (t .before .before .turn-in .ensures) (t .t .given .1) in
+    let w = at-entry (t .before .before .turn .ensures) (t .t .given .1) in
     let own = sym (front-sound w) ∙ sym (c .before .before .before .before .entry-sound .ensures) in (
       l .loop .inv .0 ∙ scan-next (w .walk) _ _ _ (own ∙ not-false _ (c .before .before .before .if1 .left)) (w .next),
       next (now (a .table)) (l .loop .settled) (l .loop .inv .1) w _ (ap (λ (b : Bool). l .loop .settled && b) (c .before .before .owns-place .ensures))

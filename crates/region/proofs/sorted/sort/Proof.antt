@@ -13,7 +13,7 @@ abbrev μ-loop : tie.MeasureT-loop
 μ-loop y region table₀ count₀ at₀ table count at = length region - at
 
 loop-less : tie.Need-loop-less Inv-loop μ-loop
-loop-less c = let t = c .before .before .before in at-entry (t .before .before .turn-in .ensures) (t .t .given .1) .less
+loop-less c = let t = c .before .before .before in at-entry (t .before .before .turn .ensures) (t .t .given .1) .less
 
 pub sort-spec : {M : Type 1} → statement M
 sort-spec =

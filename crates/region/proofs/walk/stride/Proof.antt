@@ -10,7 +10,7 @@ returns : tie.Need-returns
 returns c = simp (eq-eqb _ _ (c .before .if1 .taken)) (omega (arith, c .header .ensures .0, c .header .ensures .1))
 
 returns-2 : tie.Need-returns-2
-returns-2 c = simp (ne-eqb _ _ (c .before .before .before .if1 .left), c .entry-size-in .ensures) (omega arith)
+returns-2 c = simp (ne-eqb _ _ (c .before .before .before .if1 .left), c .entry-size .ensures) (omega arith)
 
 pub stride-spec : {M : Type 1} → statement M
 stride-spec =

@@ -28,22 +28,22 @@ loop-holds c = refl
 returns : tie.Need-returns Inv-loop μ-loop
 returns c =
     let b = c .before .before in
-    sym (b .before .loop .inv ∙ found-none (at-end (b .turn-in .ensures) (c .enum-told .given .1)) _)
+    sym (b .before .loop .inv ∙ found-none (at-end (b .turn .ensures) (c .enum-told .given .1)) _)
 
 returns-2 : tie.Need-returns-2 Inv-loop μ-loop
 returns-2 c =
     let b = c .before .before .before in
-    let w = at-entry (b .before .before .turn-in .ensures) (b .t .given .1) in
-    sym (b .before .before .before .loop .inv ∙ found-here w _ (sym (c .before .is-entry-in .ensures) ∙ c .if1 .taken))
+    let w = at-entry (b .before .before .turn .ensures) (b .t .given .1) in
+    sym (b .before .before .before .loop .inv ∙ found-here w _ (sym (c .before .is-entry .ensures) ∙ c .if1 .taken))
 
 loop-less : tie.Need-loop-less Inv-loop μ-loop
-loop-less c = let b = c .before .before .before in at-entry (b .before .before .turn-in .ensures) (b .t .given .1) .less
+loop-less c = let b = c .before .before .before in at-entry (b .before .before .turn .ensures) (b .t .given .1) .less
 
 loop-again : tie.Need-loop-again Inv-loop μ-loop
 loop-again c =
     let b = c .before .before .before in
-    let w = at-entry (b .before .before .turn-in .ensures) (b .t .given .1) in
-    b .before .before .before .loop .inv ∙ found-next w _ (sym (c .before .is-entry-in .ensures) ∙ c .if1 .left)
+    let w = at-entry (b .before .before .turn .ensures) (b .t .given .1) in
+    b .before .before .before .loop .inv ∙ found-next w _ (sym (c .before .is-entry .ensures) ∙ c .if1 .left)
 
 pub find-from-spec : {M : Type 1} → statement M
 find-from-spec =

@@ -1,4 +1,4 @@
--- `values::list::tally_in` meets its contract. The loop's invariant: what is counted and the values from here on make up all values. No sum is more than the
+-- `values::list::tally` meets its contract. The loop's invariant: what is counted and the values from here on make up all values. No sum is more than the
 -- region has. What is left of the region falls.
 -- Assumes nothing.
 use Prim.Native.Nat.{_-_}
@@ -12,8 +12,8 @@ use Rattle.values.proofs.Listed.{listedIn, listed-all}
 use Rattle.values.proofs.Stands.{listed-nothing}
 use Rattle.values.proofs.Next.{next-value}
 use Rattle.values.proofs.Counting.{Counted, counted-none, counted-all, sums-within, counted-asks, counted-turn}
-use Rattle.values.proofs.list.tally_in.Statement.{statement}
-use Rattle.values.proofs.list.tally_in.Tie as tie
+use Rattle.values.proofs.list.tally.Statement.{statement}
+use Rattle.values.proofs.list.tally.Tie as tie
 
 abbrev Inv-loop : tie.InvT-loop
 Inv-loop y region t₀ here₀ t here = Counted y t (values (entriesIn y region)) (listedIn y region here)
@@ -30,28 +30,28 @@ returns : tie.Need-returns Inv-loop μ-loop
 returns c =
     let b = c .before .before in
     let a = b .before .before .before .args in
-    let t = counted-all (b .before .loop .inv) (listed-nothing (b .next-value-in .ensures) (c .enum-told .given .1) .list) in
+    let t = counted-all (b .before .loop .inv) (listed-nothing (b .next-value .ensures) (c .enum-told .given .1) .list) in
     (t, omega (arith, t .records, t .others, sums-within (a .y) (now (a .region))))
 
 counted-requires : tie.Need-counted-requires Inv-loop μ-loop
 counted-requires c κs =
     let b = c .before in
     let n = b .before .before .before in
-    counted-asks (n .before .loop .inv) (next-value (n .next-value-in .ensures) (b .before .v .given .1)) (c .size-of-in .ensures) (omega arith)
+    counted-asks (n .before .loop .inv) (next-value (n .next-value .ensures) (b .before .v .given .1)) (c .size-of .ensures) (omega arith)
 
 loop-less : tie.Need-loop-less Inv-loop μ-loop
 loop-less c =
     let b = c .before .before in
-    next-value (b .before .before .before .next-value-in .ensures) (b .before .v .given .1) .less
+    next-value (b .before .before .before .next-value .ensures) (b .before .v .given .1) .less
 
 loop-again : tie.Need-loop-again Inv-loop μ-loop
 loop-again c =
     let b = c .before .before in
     let n = b .before .before .before in
-    counted-turn (n .before .loop .inv) (next-value (n .next-value-in .ensures) (b .before .v .given .1)) (c .before .size-of-in .ensures) (c .counted .ensures)
+    counted-turn (n .before .loop .inv) (next-value (n .next-value .ensures) (b .before .v .given .1)) (c .before .size-of .ensures) (c .counted .ensures)
 
-pub tally-in-spec : {M : Type 1} → statement M
-tally-in-spec =
+pub tally-spec : {M : Type 1} → statement M
+tally-spec =
     tie.close
     (tie.spec
     Inv-loop
