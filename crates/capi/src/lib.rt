@@ -105,7 +105,7 @@ fn numbers(a: Answer) -> Answered
 pub extern "C" fn vs_check(image: &[u8]) -> Checked
     ensures { λ r. ⌜ r ≡ checkedOf (now (image .entry)) ⌝ }
 {
-    let c = image::check_call(image);
+    let c = image::check_call(Layout::AUTHENTICATED, image);
     match c {
         Check::Ready(b, tail, _) => Checked {
             answer: numbers(Answer::Done(0)),

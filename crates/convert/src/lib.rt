@@ -28,7 +28,7 @@ fn check(from: Layout, to: Layout, image: &[u8], target: &[u8]) -> Checked
     if t == 0 {
         return Checked::Broken(Rule::Length);
     }
-    let c = image::check_in(from, image);
+    let c = image::check_call(from, image);
     let Check::Ready(_, _, _) = c else {
         return Checked::Broken(Rule::Source);
     };

@@ -54,7 +54,7 @@ fn refused(rule: Rule, needed: u32) -> Got
 fn open(image: &[u8], named: bool) -> Check
     ensures { λ r. ⌜ r ≡ openOf (now (image .entry)) named ⌝ }
 {
-    let check = image::check_call(image);
+    let check = image::check_call(Layout::AUTHENTICATED, image);
     match check {
         Check::Ready(_, _, _) => {
             if named {

@@ -132,7 +132,7 @@ pub fn query(runtime: bool, h: u32, reserve: u32, image: &[u8], attributes: u32)
         × (r .largest ≡ queryGives runtime attributes (now (image .entry))
         (largestFor (remainingFor (recordBit attributes) h reserve (regionSize (now (image .entry))) (valuesOf (now (image .entry)))))) ⌝ }
 {
-    let check = image::check_call(image);
+    let check = image::check_call(Layout::AUTHENTICATED, image);
     match check {
         Check::Ready(b, _, _) => {
             if is_unknown(runtime, attributes) {

@@ -24,6 +24,7 @@ use decision::NewValue;
 use image::Check;
 use model::Answer;
 use model::Context;
+use model::Layout;
 use model::Rule;
 use model::Terms;
 use plan::Planned;
@@ -166,7 +167,7 @@ pub fn plan_set(
         (now (image .entry)) (now (content .entry)) (now (content .exit)) r) ⌝ }
 {
     guid(vendor);
-    let check = image::check_call(image);
+    let check = image::check_call(Layout::AUTHENTICATED, image);
     match check {
         Check::Ready(b, tail, used) => plan_ready(
             terms,

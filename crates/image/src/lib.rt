@@ -4,7 +4,7 @@ ghost use Prim.Native.Nat.{_≤_};
 ghost use Rattle.model.specs.Image.{work};
 ghost use Rattle.model.specs.Work.{pending};
 ghost use Rattle.records.specs.Look.{lookAt};
-ghost use Rattle.image.specs.Check.{blocksOf, callIn, callOf, startUpOf};
+ghost use Rattle.image.specs.Check.{blocksOf, callIn, startUpOf};
 use model::Layout;
 use model::Rule;
 use records::Look;
@@ -45,7 +45,7 @@ pub fn blocks(image: &[u8]) -> usize
 }
 
 // Rules 1 and 2 as a call meets them, in a stored form. What is cheap to look at comes first: the work block, the spare, then the entries.
-pub fn check_in(y: Layout, image: &[u8]) -> Check
+pub fn check_call(y: Layout, image: &[u8]) -> Check
     ensures { λ r. ⌜ r ≡ callIn y (now (image .entry)) ⌝ }
 {
     let b = blocks(image);
@@ -56,20 +56,13 @@ pub fn check_in(y: Layout, image: &[u8]) -> Check
     let work = records::look_at(slices::cut(image, size, layout::BLOCK));
     if records::is_idle(work) {
         if slices::is_blank(slices::cut(image, size + layout::BLOCK, size)) {
-            let j = region::judge::judge_in(y, slices::cut(image, 0, size));
+            let j = region::judge::judge(y, slices::cut(image, 0, size));
             if j.clean {
                 return Check::Ready(b, j.tail, work.used);
             }
         }
     }
     Check::Refused(Rule::Unready)
-}
-
-// The same in the form in which calls store.
-pub fn check_call(image: &[u8]) -> Check
-    ensures { λ r. ⌜ r ≡ callOf (now (image .entry)) ⌝ }
-{
-    check_in(Layout::AUTHENTICATED, image)
 }
 
 // Whether a compaction of b blocks is pending, by a look at the work block.
@@ -79,7 +72,10 @@ fn is_pending(image: &[u8], b: usize, looked: Look) -> bool
 {
     if records::ends_in_fc(looked) {
         let size = layout::BLOCK * b;
-        let s = region::judge::judge(slices::cut(image, size + layout::BLOCK, size));
+        let s = region::judge::judge(
+            Layout::AUTHENTICATED,
+            slices::cut(image, size + layout::BLOCK, size),
+        );
         return s.clean;
     }
     false
@@ -98,7 +94,7 @@ pub fn check_start(image: &[u8]) -> Start
     if is_pending(image, b, looked) {
         return Start::Pending(b, looked);
     }
-    let j = region::judge::judge(slices::cut(image, 0, size));
+    let j = region::judge::judge(Layout::AUTHENTICATED, slices::cut(image, 0, size));
     if j.sound {
         return Start::Sound(b, looked, j.clean);
     }

@@ -51,10 +51,6 @@ scanOf y r = record { sound = allSound y r; tail = cond (allSound y r) (tailAtIn
 unfoldable pub judgedIn : Layout → List ℕ → Judged
 judgedIn y r = record { sound = soundIn y r; clean = cleanIn y r; tail = cond (soundIn y r) (tailAtIn y r) 0 }
 
--- the same of the authenticated form
-abbrev pub judgedOf : List ℕ → Judged
-judgedOf = judgedIn authenticated
-
 -- ---- *usual* entries: in state 3F, no error record, sound by themselves
 
 -- a header begins as that of one

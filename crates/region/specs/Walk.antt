@@ -39,14 +39,8 @@ unfoldable pub turnIn : Layout → List ℕ → ℕ → Turn
 turnIn y r at = onHead (headIn y (drop at r)) (λ e. Entry e (at + strideIn y e)) Stop
 
 -- the same in the form in which calls store
-abbrev pub strideOf : numbers.Entry → ℕ
-strideOf = strideIn authenticated
-
 abbrev pub entryAt : List ℕ → ℕ → numbers.Entry → walk.Entry
 entryAt = entryAs authenticated
 
 abbrev pub vendorAt : List ℕ → ℕ → List ℕ
 vendorAt = vendorAs authenticated
-
-abbrev pub turnOf : List ℕ → ℕ → Turn
-turnOf = turnIn authenticated

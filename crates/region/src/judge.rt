@@ -10,7 +10,7 @@ ghost use Rattle.model.specs.Entry.{states};
 ghost use Rattle.model.specs.Walk.{entryKey};
 ghost use Rattle.model.specs.Region.{entriesIn, rightLive, isEntry};
 ghost use Rattle.region.specs.Walk.{entryAs};
-ghost use Rattle.region.specs.Judge.{plainAttributes, liveState, rightRecord, entrySound, doubledIn, scanOf, judgedIn, judgedOf, UsualFront, RightSizes, UsualOf};
+ghost use Rattle.region.specs.Judge.{plainAttributes, liveState, rightRecord, entrySound, doubledIn, scanOf, judgedIn, UsualFront, RightSizes, UsualOf};
 ghost use Rattle.region.specs.Marks.{upTo};
 use crate::Judged;
 use crate::Pass;
@@ -355,7 +355,7 @@ fn scan(y: Layout, region: &[u8]) -> Scan
 }
 
 // Whether the region is sound and clean, and where its tail begins.
-pub fn judge_in(y: Layout, region: &[u8]) -> Judged
+pub fn judge(y: Layout, region: &[u8]) -> Judged
     ensures { λ r. ⌜ r ≡ judgedIn y (now (region .entry)) ⌝ }
 {
     if layout::fixed::right_header(y, region) {
@@ -374,11 +374,4 @@ pub fn judge_in(y: Layout, region: &[u8]) -> Judged
         clean: false,
         tail: 0,
     }
-}
-
-// The same in the form in which calls store.
-pub fn judge(region: &[u8]) -> Judged
-    ensures { λ r. ⌜ r ≡ judgedOf (now (region .entry)) ⌝ }
-{
-    judge_in(Layout::AUTHENTICATED, region)
 }

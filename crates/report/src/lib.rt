@@ -128,7 +128,7 @@ fn put_store(y: Layout, region: &[u8], tail: usize, out: &mut [u8]) -> usize
 pub fn report(y: Layout, image: &[u8], out: &mut [u8]) -> usize
     ensures { λ r. ⌜ Wrote (listText y (now (image .entry))) 0 (now (out .entry)) (now (out .exit)) r ⌝ }
 {
-    let c = image::check_in(y, image);
+    let c = image::check_call(y, image);
     match c {
         Check::Ready(b, tail, _) => {
             put_store(y, slices::cut(image, 0, layout::BLOCK * b), tail, out)

@@ -40,7 +40,7 @@ returns-3 c =
     let q = parted tgt (c .before .before .before .before .blocks3 .result) (c .before .before .before .before .blocks3 .ensures .0)
     (c .before .before .before .if2 .left) in
     let t = c .enum-told2 .given in
-    let d = told-unready (a .from) img (t .0 .0) (p .right-length) (sym (c .before .before .check-in .ensures) ∙ t .1) in
+    let d = told-unready (a .from) img (t .0 .0) (p .right-length) (sym (c .before .before .check-call .ensures) ∙ t .1) in
     sym (unready (a .from) (a .to) img tgt (p .right-length) (q .right-length) d)
 
 is-unstampable-requires : tie.Need-is-unstampable-requires
@@ -61,7 +61,7 @@ returns-4 c =
     let q = parted tgt (c .before .before .before .before .before .before .before .blocks3 .result)
     (c .before .before .before .before .before .before .before .blocks3 .ensures .0) (c .before .before .before .before .before .before .if2 .left) in
     let t = c .before .before .before .enum-told .given in
-    let d = is-ready (a .from) (sym (c .before .before .before .before .before .check-in .ensures) ∙ t .1) .ready in
+    let d = is-ready (a .from) (sym (c .before .before .before .before .before .check-call .ensures) ∙ t .1) .ready in
     let same = c .before .before .cut .ensures ∙ p .its-region in
     let u = ap (rule20 (a .to)) (sym (cut-values (a .from) (a .to) img same)) ∙ sym (c .before .is-unstampable .ensures) in
     sym (too-stamped (a .from) (a .to) img tgt (p .right-length) (q .right-length) d (u ∙ c .if3 .taken))
@@ -87,7 +87,7 @@ returns-5 c =
     (c .before .before .before .before .before .before .before .before .before .blocks3 .ensures .0)
     (c .before .before .before .before .before .before .before .before .if2 .left) in
     let t = c .before .before .before .before .before .enum-told .given in
-    let d = is-ready (a .from) (sym (c .before .before .before .before .before .before .before .check-in .ensures) ∙ t .1) .ready in
+    let d = is-ready (a .from) (sym (c .before .before .before .before .before .before .before .check-call .ensures) ∙ t .1) .ready in
     let same = c .before .before .before .before .cut .ensures ∙ p .its-region in
     let u = ap (rule20 (a .to)) (sym (cut-values (a .from) (a .to) img same)) ∙ sym (c .before .before .before .is-unstampable .ensures) in
     let size = ap (λ (n : ℕ). 4096 * n) (q .same) in
@@ -109,7 +109,7 @@ returns-6 c =
     (c .before .before .before .before .before .before .before .before .before .blocks3 .ensures .0)
     (c .before .before .before .before .before .before .before .before .if2 .left) in
     let t = c .before .before .before .before .before .enum-told .given in
-    let d = is-ready (a .from) (sym (c .before .before .before .before .before .before .before .check-in .ensures) ∙ t .1) .ready in
+    let d = is-ready (a .from) (sym (c .before .before .before .before .before .before .before .check-call .ensures) ∙ t .1) .ready in
     let same = c .before .before .before .before .cut .ensures ∙ p .its-region in
     let u = ap (rule20 (a .to)) (sym (cut-values (a .from) (a .to) img same)) ∙ sym (c .before .before .before .is-unstampable .ensures) in
     let size = ap (λ (n : ℕ). 4096 * n) (q .same) in

@@ -19,7 +19,7 @@ mul-cut c =
     let a = c .before .before .before .before .before .before .args in
     let img = now (a .image) in
     let t = c .before .c .given in
-    let x = accepted (a .y) img (sym (c .before .before .before .check-in .ensures) ∙ t .1) in
+    let x = accepted (a .y) img (sym (c .before .before .before .check-call .ensures) ∙ t .1) in
     record { fits = omega (arith, x .few) }
 
 put-store-requires : tie.Need-put-store-requires
@@ -27,7 +27,7 @@ put-store-requires c κs =
     let a = c .before .before .before .before .before .before .before .before .args in
     let img = now (a .image) in
     let t = c .before .before .before .c .given in
-    let x = accepted (a .y) img (sym (c .before .before .before .before .before .check-in .ensures) ∙ t .1) in
+    let x = accepted (a .y) img (sym (c .before .before .before .before .before .check-call .ensures) ∙ t .1) in
     let n = ap length (c .before .cut .ensures ∙ x .cut) in
     (x .tail-low, omega (arith, x .few, x .long, n))
 
@@ -36,7 +36,7 @@ returns c =
     let a = c .before .before .before .before .before .before .before .before .before .before .before .args in
     let img = now (a .image) in
     let t = c .before .before .before .before .before .before .c .given in
-    let x = accepted (a .y) img (sym (c .before .before .before .before .before .before .before .before .check-in .ensures) ∙ t .1) in
+    let x = accepted (a .y) img (sym (c .before .before .before .before .before .before .before .before .check-call .ensures) ∙ t .1) in
     let same = ap (λ (s : List ℕ). summaryLine (length s) (t .0 .1 .0) (length (values (entriesIn (a .y) s))) ++ valueLines (values (entriesIn (a .y) s)))
     (c .before .before .before .before .cut .ensures ∙ x .cut) in
     wrote-as (same ∙ x .text) (c .before .before .put-store .ensures)
@@ -46,7 +46,7 @@ returns-2 c =
     let a = c .before .before .before .before .before .before .before .before .before .before .before .args in
     let img = now (a .image) in
     let t = c .before .before .before .before .before .before .c2 .given in
-    let text = refused-text (a .y) img (t .0 .0) (sym (c .before .before .before .before .before .before .before .before .check-in .ensures) ∙ t .1) in
+    let text = refused-text (a .y) img (t .0 .0) (sym (c .before .before .before .before .before .before .before .before .check-call .ensures) ∙ t .1) in
     wrote-as (ap refusedLine (c .before .before .before .number .ensures) ∙ text) (c .before .before .put-refused .ensures)
 
 pub report-spec : {M : Type 1} → statement M

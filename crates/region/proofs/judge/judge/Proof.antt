@@ -1,11 +1,11 @@
--- `region::judge::judge_in` meets its contract: it asks what *sound* asks, and then of the tail whether it is blank.
+-- `region::judge::judge` meets its contract: it asks what *sound* asks, and then of the tail whether it is blank.
 -- Assumes nothing.
 use mathlib.Core.Path.{sym, _∙_}
 use denote.Ref.{now}
 use borrow.Author.Needs.{needs}
 use Rattle.region.proofs.Whole.{wrong-header, wrong-entry, all-right, unsound, sounds, scan-sound, scan-tail}
-use Rattle.region.proofs.judge.judge_in.Statement.{statement}
-use Rattle.region.proofs.judge.judge_in.Tie as tie
+use Rattle.region.proofs.judge.judge.Statement.{statement}
+use Rattle.region.proofs.judge.judge.Tie as tie
 
 returns : tie.Need-returns
 returns c =
@@ -30,6 +30,6 @@ returns-3 c =
     let r = now (c .before .before .before .args .region) in
     sym (unsound y r (wrong-header y r (sym (c .before .right-header .ensures) ∙ c .if1 .left)))
 
-pub judge-in-spec : {M : Type 1} → statement M
-judge-in-spec =
+pub judge-spec : {M : Type 1} → statement M
+judge-spec =
     tie.close (tie.spec (λ c κs. search needs) (λ c κs. search needs) (λ c κs. search needs) (λ c κs. search needs) returns returns-2 returns-3)
