@@ -3,7 +3,7 @@ use Prim.Native.Nat.{ℕ, suc}
 use mathlib.Core.Path.{_≡_}
 use mathlib.Core.Bool.{Bool, true, cond}
 use mathlib.Core.List.{List, [], _∷_}
-use lib.ListN.{getD, take, drop}
+use lib.ListN.{getD, take, drop, replicate}
 use lib.Dec.{eqb, ltb}
 use Rattle.model.specs.Lists.{isEmpty}
 use Rattle.model.specs.declared.Rule.{Rule}
@@ -17,8 +17,7 @@ use Rattle.plan.specs.Plan.{op, isMark, expand, Ready}
 
 -- no operation at all
 unfoldable pub nothings : List Op
-nothings =
-    op Nothing ∷ op Nothing ∷ op Nothing ∷ op Nothing ∷ op Nothing ∷ op Nothing ∷ op Nothing ∷ op Nothing ∷ op Nothing ∷ op Nothing ∷ op Nothing ∷ op Nothing ∷ []
+nothings = replicate 12 (op Nothing)
 
 -- how many operations a plan has, and the deciding one's number where none decides
 abbrev pub noneDecides : ℕ

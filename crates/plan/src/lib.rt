@@ -54,20 +54,7 @@ pub fn nothing() -> Plan
     let none = Op {
         step: Step::Nothing,
     };
-    [
-        none,
-        none,
-        none,
-        none,
-        none,
-        none,
-        none,
-        none,
-        none,
-        none,
-        none,
-        none,
-    ]
+    [none; OPERATIONS]
 }
 
 // A call that is to carry out a plan.

@@ -20,7 +20,8 @@ use Rattle.plan.specs.declared.Step.{Step}
 use Rattle.plan.specs.declared.Step.the-variants.{Nothing, Erase}
 use Rattle.plan.specs.Plan.{storesOfStep, Fits, Blank, OneBit, Ready, MarkAt}
 use Rattle.plan.proofs.Bits.{bits-clear}
-use Rattle.planner.specs.Compactions.{clearStep, recordAt, compactPlan, resumePlan, restPlan, spareStep, workStep}
+use Rattle.planner.specs.Fronts.{begunPlan}
+use Rattle.planner.specs.Compactions.{clearStep, recordAt, compactPlan, resumePlan, spareStep, workStep}
 use Rattle.planner.proofs.CompactionPlans.{compact-is, resume-is}
 
 next-low : (used : ℕ) → cond (leb 64 used) 0 used < 64
@@ -110,8 +111,8 @@ work-one b true img = tt
 work-one b false img = tt
 
 -- *a start-up that compacts nothing is ready*
-pub rest-ready : (c img : List ℕ) (b : ℕ) (s t : Bool) → length img ≡ block * b + block + block * b → Ready c (restPlan (spareStep b s) (workStep b t)) img
-unfolding restPlan
+pub rest-ready : (c img : List ℕ) (b : ℕ) (s t : Bool) → length img ≡ block * b + block + block * b → Ready c (begunPlan (spareStep b s) (workStep b t)) img
+unfolding begunPlan
 rest-ready c img b s t long =
     let x = spare-good c (length img) b (isRecord img) s (omega arith) in
     let y = work-good c (length img) b (isRecord img) t (omega arith) in

@@ -16,7 +16,8 @@ use Rattle.model.specs.Compact.{nextRecord, fillSpare, finish, encode, compactT
 use Rattle.model.specs.StartUp.{resume, tidySpare, tidyWork, tidyTail, startUpStores}
 use Rattle.plan.specs.declared.Step.{Step}
 use Rattle.plan.specs.Plan.{storesOfStep, expand}
-use Rattle.planner.specs.Compactions.{tidied, compactPlan, restPlan, spareStep, workStep}
+use Rattle.planner.specs.Fronts.{begunPlan}
+use Rattle.planner.specs.Compactions.{tidied, compactPlan, spareStep, workStep}
 use Rattle.planner.proofs.CompactionPlans.{compact-is}
 use Rattle.model.proofs.Parts.{Parts, parts-blocks, parts-size, parts-region, parts-work, parts-spare}
 use Rattle.model.proofs.Stores.{left-today}
@@ -112,8 +113,8 @@ startUp-is {b} {r} {w} {s} p h dirty c e =
     ∙ rw (spare-step c b (allFF s), work-step c b (idle w))
     (sym (tidy-is p h ∙ ap (λ (t : Bool). cond (allFF s) [] (erases (b + 1) b) ++ (cond (idle w) [] (clear b ∷ []) ++ cond t [] (fillSpare b (tidied w) (encode (block * b) (values (entries r))) ++ finish b (nextRecord (tidied w)) (encode (block * b) (values (entries r)))))) dirty))
 
-rest-stores : (c : List ℕ) (x y : Step) → expand c (restPlan x y) ≡ storesOfStep c x ++ storesOfStep c y
-unfolding expand storesOfStep restPlan
+rest-stores : (c : List ℕ) (x y : Step) → expand c (begunPlan x y) ≡ storesOfStep c x ++ storesOfStep c y
+unfolding expand storesOfStep begunPlan
 rest-stores c x y = rw append-nil
 
 -- the work block as it is then
@@ -130,7 +131,7 @@ tidied-used w t h = ap (λ (u : Bool). cond u (usedRecords w) 0) (sym h) ∙ go 
 
 -- and with a blank tail: the erases alone
 pub rest-is : {b : ℕ} {r w s : List ℕ} → Parts b r w s → pending (r ++ (w ++ s)) ≡ false → allFF (tail r) ≡ true → (c : List ℕ)
-    → expand c (restPlan (spareStep b (allFF s)) (workStep b (idle w))) ≡ startUpStores (r ++ (w ++ s))
+    → expand c (begunPlan (spareStep b (allFF s)) (workStep b (idle w))) ≡ startUpStores (r ++ (w ++ s))
 rest-is {b} {r} {w} {s} p h blank c =
     rest-stores c (spareStep b (allFF s)) (workStep b (idle w)) ∙ rw (spare-step c b (allFF s), work-step c b (idle w))
     (sym (tidy-is p h

@@ -42,7 +42,8 @@ use Rattle.plan.specs.declared.Planned.{Planned}
 use Rattle.plan.specs.Plan.{storesOfStep, expand}
 use Rattle.plan.specs.Planned.{noneDecides, accepted, Plans}
 use Rattle.plan.proofs.Parts.{undecided-plans}
-use Rattle.planner.specs.Compactions.{spareStep, workStep, tidied, compactPlan, resumePlan, restPlan}
+use Rattle.planner.specs.Fronts.{begunPlan}
+use Rattle.planner.specs.Compactions.{spareStep, workStep, tidied, compactPlan, resumePlan}
 use Rattle.planner.proofs.CompactionPlans.{compact-is, resume-is}
 use Rattle.planner.proofs.StartUps.{startUp-is, rest-is}
 use Rattle.planner.proofs.CompactionReady.{compact-ready, resume-ready, rest-ready, spare-good, work-good}
@@ -220,9 +221,9 @@ module _ (img : List ℕ) (b : ℕ) (f : Accepted img b false) where
 
   -- *the tail is blank*
   pub rest-plans : (before c : List ℕ) {ops : List Op} {p : Planned} → allFF (tail (region img)) ≡ true
-      → ops ≡ restPlan (spareStep b (allFF (spare img))) (workStep b (idle (work img))) → p ≡ accepted ops noneDecides → Plans (startUpPlan img) img before c p
+      → ops ≡ begunPlan (spareStep b (allFF (spare img))) (workStep b (idle (work img))) → p ≡ accepted ops noneDecides → Plans (startUpPlan img) img before c p
   rest-plans before c {ops} {p} t o e =
-      undecided-plans before c img (startUpPlan img) (restPlan (spareStep b (allFF (spare img))) (workStep b (idle (work img)))) (startUpStores img) e o
+      undecided-plans before c img (startUpPlan img) (begunPlan (spareStep b (allFF (spare img))) (workStep b (idle (work img)))) (startUpStores img) e o
       (rest-is own waits t c ∙ ap startUpStores (sym whole)) (plan-makes img b false f) (rest-ready c img b (allFF (spare img)) (idle (work img)) image-long)
 
   -- *it is not*
@@ -247,8 +248,8 @@ module _ (img : List ℕ) (b : ℕ) (f : Accepted img b false) where
       (sym is ∙ compact-is c x y b w content e)))
 
 -- the plans as the code makes them
-pub rest-as : {ops : List Op} {x y x′ y′ : Step} → ops ≡ restPlan x y → x ≡ x′ → y ≡ y′ → ops ≡ restPlan x′ y′
-rest-as o p q = o ∙ ap₂ restPlan p q
+pub rest-as : {ops : List Op} {x y x′ y′ : Step} → ops ≡ begunPlan x y → x ≡ x′ → y ≡ y′ → ops ≡ begunPlan x′ y′
+rest-as o p q = o ∙ ap₂ begunPlan p q
 
 pub compact-as : (b : ℕ) {ops : List Op} {x y x′ y′ : Step} {u u′ : ℕ} → ops ≡ compactPlan x y b u → x ≡ x′ → y ≡ y′ → u ≡ u′ → ops ≡ compactPlan x′ y′ b u′
 compact-as b o p q e = o ∙ rw (p, q, e)

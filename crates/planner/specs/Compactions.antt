@@ -1,7 +1,7 @@
 -- The plans of a compaction and of its second half.
 use Prim.Native.Nat.{ℕ, _+_, _*_}
 use mathlib.Core.Bool.{Bool, cond}
-use mathlib.Core.List.{List, [], _∷_}
+use mathlib.Core.List.{List, _∷_}
 use lib.Dec.{leb}
 use Rattle.model.specs.Image.{block}
 use Rattle.model.specs.Work.{idle}
@@ -10,6 +10,7 @@ use Rattle.plan.specs.declared.Op.{Op}
 use Rattle.plan.specs.declared.Step.{Step}
 use Rattle.plan.specs.declared.Step.the-variants.{Nothing, Mark, Erase, Program}
 use Rattle.plan.specs.Plan.{op}
+use Rattle.planner.specs.Fronts.{nones}
 
 unfoldable pub clearStep : ℕ → ℕ → Step
 clearStep b used = cond (leb 64 used) (Erase b 1) Nothing
@@ -41,9 +42,7 @@ compactPlan spare work b used =
     ∷ op (Program 0 0 (block * b))
     ∷ op (Mark (recordAt b used) 0xF8)
     ∷ op (Erase (b + 1) b)
-    ∷ op Nothing
-    ∷ op Nothing
-    ∷ []
+    ∷ nones 2
 
 unfoldable pub resumePlan : ℕ → ℕ → List Op
 resumePlan b place =
@@ -51,28 +50,4 @@ resumePlan b place =
     ∷ op (Program 0 0 (block * b))
     ∷ op (Mark (block * b + place) 0xF8)
     ∷ op (Erase (b + 1) b)
-    ∷ op Nothing
-    ∷ op Nothing
-    ∷ op Nothing
-    ∷ op Nothing
-    ∷ op Nothing
-    ∷ op Nothing
-    ∷ op Nothing
-    ∷ op Nothing
-    ∷ []
-
-unfoldable pub restPlan : Step → Step → List Op
-restPlan spare work =
-    op spare
-    ∷ op work
-    ∷ op Nothing
-    ∷ op Nothing
-    ∷ op Nothing
-    ∷ op Nothing
-    ∷ op Nothing
-    ∷ op Nothing
-    ∷ op Nothing
-    ∷ op Nothing
-    ∷ op Nothing
-    ∷ op Nothing
-    ∷ []
+    ∷ nones 8

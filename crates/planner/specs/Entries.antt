@@ -1,6 +1,6 @@
 -- The plans of a delete and of a tail write, by what was found of the name.
 use Prim.Native.Nat.{ℕ, _+_, _≤_}
-use mathlib.Core.List.{List, [], _∷_}
+use mathlib.Core.List.{List, _∷_}
 use Rattle.model.specs.Layout.{stateAt}
 use Rattle.model.specs.Entry.{headerSize}
 use Rattle.layout.specs.declared.Entry.{Entry}
@@ -13,6 +13,7 @@ use Rattle.plan.specs.declared.Step.the-variants as step
 use Rattle.plan.specs.declared.Step.the-variants.{Mark, Program, Header}
 use Rattle.plan.specs.declared.Step.{Step}
 use Rattle.plan.specs.Plan.{op}
+use Rattle.planner.specs.Fronts.{nones}
 
 -- by what was found: f of the offset and the numbers, or d
 abbrev pub onFound : {A : Type 0} → Found → (ℕ → Entry → A) → A → A
@@ -40,13 +41,9 @@ removeStep places = onFound (places .added) (λ at e. markFound (places .added) 
 unfoldable pub retireStep : Places → Step
 retireStep places = markFound (elseFound (places .added) (places .replacing)) 0x3C
 
-abbrev pub none : Op
-none = op step.Nothing
-
 -- "Delete: leftover first, then bit 0x02 of the state cleared (deciding)"
 unfoldable pub deletePlan : Places → List Op
-deletePlan places =
-    op (leftoverStep places) ∷ op (removeStep places) ∷ none ∷ none ∷ none ∷ none ∷ none ∷ none ∷ none ∷ none ∷ none ∷ none ∷ []
+deletePlan places = op (leftoverStep places) ∷ op (removeStep places) ∷ nones 10
 
 -- "a leftover 3E beside a 3F becomes 3C; the 3F becomes 3E; header bytes in rising order without state; state 7F; name; data; state 3F (deciding); the old entry 3C"
 unfoldable pub tailPlan : Places → ℕ → ℕ → ℕ → List Op
@@ -59,8 +56,4 @@ tailPlan places at name size =
     ∷ op (Program (at + headerSize + name) (headerSize + name) size)
     ∷ op (Mark (at + stateAt) 0x3F)
     ∷ op (retireStep places)
-    ∷ none
-    ∷ none
-    ∷ none
-    ∷ none
-    ∷ []
+    ∷ nones 4

@@ -1,6 +1,8 @@
+-- The front of a plan
+pub mod Fronts
 -- The operations of a delete and of a tail write
 pub mod Entries
--- Those of a compaction, of its second half, and of a start-up that compacts nothing
+-- Those of a compaction and of its second half
 pub mod Compactions
 -- Those of a format
 pub mod Format

@@ -5,7 +5,7 @@ ghost use Prim.Native.Nat.{_*_, _-_, _≤_, _<_};
 ghost use lib.Dec.{leb};
 ghost use lib.ListN.{length, replicate};
 ghost use Rattle.output.specs.Text.{Wrote};
-ghost use Rattle.planner.specs.Compactions.{clearStep, compactPlan, resumePlan, restPlan};
+ghost use Rattle.planner.specs.Compactions.{clearStep, compactPlan, resumePlan};
 use plan::Op;
 use plan::Plan;
 use plan::Step;
@@ -33,41 +33,34 @@ fn compact(spare: Step, work: Step, b: usize, used: usize) -> Plan
     requires { ⌜ b ≤ 7 ⌝ }
     ensures { λ r. ⌜ r ≡ compactPlan spare work b used ⌝ }
 {
-    let none = Op {
-        step: Step::Nothing,
-    };
     let size = layout::BLOCK * b;
     let at = size + next_record(used);
-    [
-        Op { step: spare },
-        Op { step: work },
-        Op {
-            step: clear_full(b, used),
-        },
-        Op {
-            step: Step::Mark(at, 0xFE),
-        },
-        Op {
-            step: Step::Program(size + layout::BLOCK, 0, size),
-        },
-        Op {
-            step: Step::Mark(at, 0xFC),
-        },
-        Op {
-            step: Step::Erase(0, b),
-        },
-        Op {
-            step: Step::Program(0, 0, size),
-        },
-        Op {
-            step: Step::Mark(at, 0xF8),
-        },
-        Op {
-            step: Step::Erase(b + 1, b),
-        },
-        none,
-        none,
-    ]
+    let mut plan = crate::begun(spare, work);
+    plan[2] = Op {
+        step: clear_full(b, used),
+    };
+    plan[3] = Op {
+        step: Step::Mark(at, 0xFE),
+    };
+    plan[4] = Op {
+        step: Step::Program(size + layout::BLOCK, 0, size),
+    };
+    plan[5] = Op {
+        step: Step::Mark(at, 0xFC),
+    };
+    plan[6] = Op {
+        step: Step::Erase(0, b),
+    };
+    plan[7] = Op {
+        step: Step::Program(0, 0, size),
+    };
+    plan[8] = Op {
+        step: Step::Mark(at, 0xF8),
+    };
+    plan[9] = Op {
+        step: Step::Erase(b + 1, b),
+    };
+    plan
 }
 
 // The same of a region whose front, n bytes, is composed in the content: "rest FF".
@@ -92,53 +85,13 @@ pub fn resume(b: usize, place: usize) -> Plan
     requires { ⌜ (b ≤ 7) × (place < 64) ⌝ }
     ensures { λ r. ⌜ r ≡ resumePlan b place ⌝ }
 {
-    let none = Op {
-        step: Step::Nothing,
-    };
     let size = layout::BLOCK * b;
-    [
-        Op {
-            step: Step::Erase(0, b),
-        },
-        Op {
-            step: Step::Program(0, 0, size),
-        },
-        Op {
-            step: Step::Mark(size + place, 0xF8),
-        },
-        Op {
-            step: Step::Erase(b + 1, b),
-        },
-        none,
-        none,
-        none,
-        none,
-        none,
-        none,
-        none,
-        none,
-    ]
-}
-
-// A start-up that compacts nothing: what it erases.
-pub fn rest(spare: Step, work: Step) -> Plan
-    ensures { λ r. ⌜ r ≡ restPlan spare work ⌝ }
-{
-    let none = Op {
-        step: Step::Nothing,
+    let mut plan = crate::begun(Step::Erase(0, b), Step::Program(0, 0, size));
+    plan[2] = Op {
+        step: Step::Mark(size + place, 0xF8),
     };
-    [
-        Op { step: spare },
-        Op { step: work },
-        none,
-        none,
-        none,
-        none,
-        none,
-        none,
-        none,
-        none,
-        none,
-        none,
-    ]
+    plan[3] = Op {
+        step: Step::Erase(b + 1, b),
+    };
+    plan
 }

@@ -61,27 +61,7 @@ pub fn delete(places: Places) -> Plan
     requires { ⌜ Below (2 ^ 62) (places .added) × Below (2 ^ 62) (places .replacing) ⌝ }
     ensures { λ r. ⌜ r ≡ deletePlan places ⌝ }
 {
-    let none = Op {
-        step: Step::Nothing,
-    };
-    [
-        Op {
-            step: leftover(places),
-        },
-        Op {
-            step: remove(places),
-        },
-        none,
-        none,
-        none,
-        none,
-        none,
-        none,
-        none,
-        none,
-        none,
-        none,
-    ]
+    crate::begun(leftover(places), remove(places))
 }
 
 // "In the tail ..: a leftover 3E beside a 3F becomes 3C; the 3F becomes 3E; header bytes in rising order without state; state 7F; name; data; state 3F; the old
@@ -90,38 +70,25 @@ pub fn tail_write(places: Places, at: usize, name: usize, size: usize) -> Plan
     requires { ⌜ Below (2 ^ 62) (places .added) × Below (2 ^ 62) (places .replacing) × (at + name + size < 2 ^ 62) ⌝ }
     ensures { λ r. ⌜ r ≡ tailPlan places at name size ⌝ }
 {
-    let none = Op {
-        step: Step::Nothing,
-    };
     let added = places.added;
-    [
-        Op {
-            step: leftover(places),
-        },
-        Op {
-            step: mark_found(added, 0x3E),
-        },
-        Op {
-            step: Step::Header(at, 0),
-        },
-        Op {
-            step: Step::Mark(at + Layout::STATE, 0x7F),
-        },
-        Op {
-            step: Step::Program(at + Layout::HEADER, Layout::HEADER, name),
-        },
-        Op {
-            step: Step::Program(at + Layout::HEADER + name, Layout::HEADER + name, size),
-        },
-        Op {
-            step: Step::Mark(at + Layout::STATE, 0x3F),
-        },
-        Op {
-            step: retire(places),
-        },
-        none,
-        none,
-        none,
-        none,
-    ]
+    let mut plan = crate::begun(leftover(places), mark_found(added, 0x3E));
+    plan[2] = Op {
+        step: Step::Header(at, 0),
+    };
+    plan[3] = Op {
+        step: Step::Mark(at + Layout::STATE, 0x7F),
+    };
+    plan[4] = Op {
+        step: Step::Program(at + Layout::HEADER, Layout::HEADER, name),
+    };
+    plan[5] = Op {
+        step: Step::Program(at + Layout::HEADER + name, Layout::HEADER + name, size),
+    };
+    plan[6] = Op {
+        step: Step::Mark(at + Layout::STATE, 0x3F),
+    };
+    plan[7] = Op {
+        step: retire(places),
+    };
+    plan
 }

@@ -7,7 +7,6 @@ ghost use Rattle.image.specs.Check.{blocksOf};
 ghost use Rattle.plan.specs.Planned.{Plans};
 ghost use Rattle.planner.specs.Format.{wipePlan};
 use model::Layout;
-use plan::Op;
 use plan::Plan;
 use plan::Planned;
 use plan::Step;
@@ -17,27 +16,10 @@ fn wipe(b: usize) -> Plan
     requires { ⌜ b ≤ 7 ⌝ }
     ensures { λ r. ⌜ r ≡ wipePlan b ⌝ }
 {
-    let none = Op {
-        step: Step::Nothing,
-    };
-    [
-        Op {
-            step: Step::Erase(0, 2 * b + 1),
-        },
-        Op {
-            step: Step::Program(0, 0, layout::REGION_HEADER),
-        },
-        none,
-        none,
-        none,
-        none,
-        none,
-        none,
-        none,
-        none,
-        none,
-        none,
-    ]
+    crate::begun(
+        Step::Erase(0, 2 * b + 1),
+        Step::Program(0, 0, layout::REGION_HEADER),
+    )
 }
 
 // The header is composed in the content, and stored from there.

@@ -74,7 +74,7 @@ pub fn tidy(image: &[u8], b: usize, looked: Look, clean: bool, content: &mut [u8
     let left = work_left(b, looked);
     let work = left.step;
     if clean {
-        return plan::accept(compaction::rest(spare, work), plan::NONE_DECIDES);
+        return plan::accept(crate::begun(spare, work), plan::NONE_DECIDES);
     }
     let n = compose::put_values(content, slices::cut(image, 0, layout::BLOCK * b), [0; 8]);
     plan::accept(

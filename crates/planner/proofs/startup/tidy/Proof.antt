@@ -27,7 +27,7 @@ returns c =
     let l = looks i (s .args .b) (s .args .looked) (s .args .clean) false (s .pre .0) in
     let k = cleans i (s .args .b) (s .args .looked) (s .args .clean) false (s .pre .0) refl in
     let z = sized i (s .args .b) false f in
-    rest-plans i (s .args .b) f _ _ (tail-told i (s .args .b) f k (c .before .before .if1 .taken)) (rest-as (c .before .rest .ensures) (c .before .before .before .before .spare-step .ensures) (left-step i (s .args .b) (z .0) (z .1) (z .2) l (c .before .before .before .work-left .ensures .0))) (c .accept .ensures)
+    rest-plans i (s .args .b) f _ _ (tail-told i (s .args .b) f k (c .before .before .if1 .taken)) (rest-as (c .before .begun .ensures) (c .before .before .before .before .spare-step .ensures) (left-step i (s .args .b) (z .0) (z .1) (z .2) l (c .before .before .before .work-left .ensures .0))) (c .accept .ensures)
 
 mul-cut : tie.Need-mul-cut
 mul-cut c =
