@@ -1,15 +1,14 @@
 -- The values of a region but those left out, joined: the joined entries of joined lists are the joined entries, by induction over the first list, and leaving
--- places out of a list leaves them out of its parts. So a loop that carries value after value over has at each turn written a text that the values still to
--- come make whole.
+-- places out of a list leaves them out of its parts. So at each turn of a loop that carries value after value over, what is still to come is one value and the
+-- rest.
 -- Assumes nothing.
 use Prim.Native.Nat.{ℕ, suc, _+_, _-_, _≤_, _<_}
-use native.Mathlib.Nat.{min-le-left}
 use native.Mathlib.Omega.{arith}
 use mathlib.Core.Path.{_≡_, refl, sym, ap, subst, _∙_}
 use mathlib.Core.Logic.{_≢_}
 use mathlib.Core.Bool.{Bool, true, false, not, cond}
 use mathlib.Core.List.{List, [], _∷_, _++_, map, append-assoc, append-nil}
-use lib.ListN.{length, take, drop, set, replicate, length-append, length-take, length-drop}
+use lib.ListN.{length, take, drop, set, replicate, length-append, length-drop}
 use lib.Seq.{sets, set-set, set-comm, take-add, drop-drop, length-take-le}
 use Rattle.model.specs.Layout.{authenticated}
 use Rattle.model.specs.Lists.{part, keep, among}
@@ -22,17 +21,15 @@ use Rattle.layout.specs.declared.Entry as numbers
 use Rattle.region.specs.Walk.{entryAt, stampAt, vendorAt, entryAs, vendorAs}
 use Rattle.region.proofs.Entries.{named, stamp as stamp-part, vendor as vendor-part}
 use Rattle.values.proofs.Listed.{valueEntries}
-use Rattle.values.proofs.Sizes.{lengths, data-part}
+use Rattle.values.proofs.Sizes.{part-fits, short, data-part}
+use Rattle.values.proofs.Stands.{None}
 use Rattle.values.proofs.Next.{Next}
 use Rattle.output.specs.Text.{Wrote}
-use Rattle.output.proofs.Writing.{sets-append, wrote-none, wrote-append, wrote-as}
+use Rattle.output.proofs.Writing.{sets-append, wrote-append, wrote-as}
 use Rattle.compose.specs.Compose.{beforeStamp, behindStamp, headerBytes, leaving, valuesBut}
 use Rattle.compose.proofs.Headers.{length-before, length-behind, entry-parts, entry-short}
 
 -- ---- an entry's value by what is read of it
-
-part-short : (r : List ℕ) (i n : ℕ) → length (part i n r) ≤ n
-part-short r i n = rw (length-take n (drop i r)) (min-le-left n (length (drop i r)))
 
 module _ (r : List ℕ) (a : ℕ) (e : numbers.Entry) {stamp name vendor bytes : List ℕ}
     (s : stamp ≡ stampAt r a) (n : name ≡ entryAt r a e .name) (v : vendor ≡ vendorAt r a) (b : bytes ≡ entryAt r a e .bytes) where
@@ -43,26 +40,8 @@ module _ (r : List ℕ) (a : ℕ) (e : numbers.Entry) {stamp name vendor bytes :
   unfolding entryAs walk.placed stampAt vendorAs
   entry-value = rw (s, n, v, b)
 
-  -- and how long its parts can be
-  pub record Short : Type 0 where
-    pub stamp-short : length stamp ≤ 16
-    pub vendor-short : length vendor ≤ 16
-    pub name-short : length name ≤ length r
-    pub bytes-short : length bytes ≤ length r
-
-  pub short : Short
-  short =
-      let l = lengths authenticated r a e in
-      let k = ap length n in
-      let d = ap length b in
-      let ms : length stamp ≤ 16 = rw (s, stamp-part r a) (part-short r (a + 16) 16) in
-      let mv : length vendor ≤ 16 = rw (v, vendor-part authenticated r a) (part-short r (a + 44) 16) in
-      record {
-        stamp-short = ms;
-        vendor-short = mv;
-        name-short = omega (arith, l .whole);
-        bytes-short = omega (arith, l .whole);
-      }
+pub stamp-short : (r : List ℕ) (a : ℕ) {stamp : List ℕ} → stamp ≡ stampAt r a → length stamp ≤ 16
+stamp-short r a s = rw (s, stamp-part r a) (part-fits r (a + 16) 16 .0)
 
 -- bytes written over as many others
 set-before : (xs q : List ℕ) (k j y : ℕ) → k < j → set (sets q j xs) k y ≡ sets (set q k y) j xs
@@ -166,8 +145,7 @@ module _ (r : List ℕ) (a : ℕ) (e : numbers.Entry) (within : a + (60 + e .nam
 pub value-short : (r : List ℕ) (a : ℕ) (e : numbers.Entry) → length (entryBytes 0x3F (walk.entryValue (entryAt r a e))) ≤ entrySize (walk.entryValue (entryAt r a e))
 unfolding entryAs walk.placed stampAt vendorAs
 value-short r a e =
-    let s = short r a e refl refl refl refl in
-    entry-short 0x3F (walk.entryValue (entryAt r a e)) (s .stamp-short) (s .vendor-short)
+    entry-short 0x3F (walk.entryValue (entryAt r a e)) (stamp-short r a refl) (short authenticated r a e refl refl refl .vendor-short)
 
 -- ---- a value carried over, or left out
 
@@ -196,38 +174,22 @@ leaving-cons leave e es = go (among leave (e .at))
     go true = refl
     go false = refl
 
--- the values before an offset are written, from a place of a buffer on
-pub record Carried (r leave : List ℕ) (at : ℕ) (out out′ : List ℕ) (next here : ℕ) : Type 0 where
-  pub text : List ℕ
-  pub whole : joined (valuesBut leave r) ≡ text ++ joined (leaving leave (valueEntries authenticated r here))
-  pub wrote : Wrote text at out out′ next
+-- the bytes of the values from an offset on, but those left out
+abbrev pub toCome : List ℕ → List ℕ → ℕ → List ℕ
+toCome r leave here = joined (leaving leave (valueEntries authenticated r here))
 
-pub carried-none : (r leave : List ℕ) (at : ℕ) (out : List ℕ) → Carried r leave at out out at 28
+pub all-to-come : (r leave : List ℕ) → joined (valuesBut leave r) ≡ toCome r leave 28
 unfolding valuesBut
-carried-none r leave at out = record {
-  text = [];
-  whole = ap (λ (es : List walk.Entry). joined (leaving leave (keep (isValue (entries r)) es))) (entries-from authenticated r);
-  wrote = wrote-none at out;
-}
+all-to-come r leave = ap (λ (es : List walk.Entry). joined (leaving leave (keep (isValue (entries r)) es))) (entries-from authenticated r)
 
-pub carried-next : {r leave : List ℕ} {at here a after : ℕ} {e : numbers.Entry} {n n′ : ℕ} {l l′ l″ : List ℕ}
-    → Carried r leave at l l′ n here → Next authenticated r here a e after → Wrote (joined (leaving leave (entryAt r a e ∷ []))) n l′ l″ n′
-    → Carried r leave at l l″ n′ after
-carried-next {r} {leave} {a = a} {after} {e} w x p =
-    let this = leaving leave (entryAt r a e ∷ []) in
-    let rest = leaving leave (valueEntries authenticated r after) in
-    record {
-      text = w .text ++ joined this;
-      whole =
-          w .whole
-          ∙ ap (λ (es : List walk.Entry). w .text ++ joined (leaving leave es)) (x .entry)
-          ∙ ap (λ (vs : List Value). w .text ++ joined vs) (leaving-cons leave (entryAt r a e) (valueEntries authenticated r after))
-          ∙ ap (λ (l : List ℕ). w .text ++ l) (joined-append this rest)
-          ∙ sym (append-assoc (w .text) (joined this) (joined rest));
-      wrote = wrote-append (w .wrote) p;
-    }
+pub next-to-come : {r : List ℕ} (leave : List ℕ) {here a after : ℕ} {e : numbers.Entry} → Next authenticated r here a e after
+    → toCome r leave here ≡ joined (leaving leave (entryAt r a e ∷ [])) ++ toCome r leave after
+next-to-come {r} leave {a = a} {after} {e} x =
+    let rest = valueEntries authenticated r after in
+    ap (λ (es : List walk.Entry). joined (leaving leave es)) (x .entry)
+    ∙ ap joined (leaving-cons leave (entryAt r a e) rest)
+    ∙ joined-append (leaving leave (entryAt r a e ∷ [])) (leaving leave rest)
 
-pub carried-all : {r leave : List ℕ} {at here n : ℕ} {l l′ : List ℕ} → Carried r leave at l l′ n here → valueEntries authenticated r here ≡ []
-    → Wrote (joined (valuesBut leave r)) at l l′ n
+pub none-to-come : {r : List ℕ} (leave : List ℕ) {here : ℕ} → None authenticated r here → toCome r leave here ≡ []
 unfolding joinedIn leaving
-carried-all w p = wrote-as (sym (w .whole ∙ rw (p, append-nil))) (w .wrote)
+none-to-come leave x = ap (λ (es : List walk.Entry). joined (leaving leave es)) (x .entries)

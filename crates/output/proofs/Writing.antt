@@ -6,7 +6,7 @@ use native.Mathlib.Numerals.{add-one}
 use native.Mathlib.Omega.{arith}
 use mathlib.Core.Path.{_≡_, refl, sym, ap, subst, _∙_}
 use mathlib.Core.Bool.{Bool, true, false}
-use mathlib.Core.List.{List, [], _∷_, _++_}
+use mathlib.Core.List.{List, [], _∷_, _++_, append-assoc, append-nil}
 use lib.ListN.{length, take, drop, getD, set, length-append, take-append-drop}
 use lib.Seq.{sets, sets-eq, take-at, take-suc, take-all, length-take-le, length-sets, set-out}
 use lib.Dec.{leb}
@@ -77,3 +77,25 @@ pub wrote-front : {text before after : List ℕ} {next : ℕ} → Wrote text 0 b
 wrote-front {text} {before} {after} {next} w h =
     let n : length text ≡ next = omega (arith, w .place) in
     ap (take next) (w .buffer ∙ sets-eq text before 0 (omega arith)) ∙ take-at text (drop (0 + length text) before) next n
+
+-- ---- a text written piece by piece
+
+-- of the whole text this is still to come, and what stands before it is written
+pub record Partly (whole rest : List ℕ) (at : ℕ) (before after : List ℕ) (next : ℕ) : Type 0 where
+  pub text : List ℕ
+  pub parts : whole ≡ text ++ rest
+  pub wrote : Wrote text at before after next
+
+pub partly-none : {whole rest : List ℕ} (at : ℕ) (l : List ℕ) → whole ≡ rest → Partly whole rest at l l at
+partly-none at l e = record { text = []; parts = e; wrote = wrote-none at l }
+
+pub partly-next : {whole rest piece more : List ℕ} {at n n′ : ℕ} {l l′ l″ : List ℕ}
+    → Partly whole rest at l l′ n → rest ≡ piece ++ more → Wrote piece n l′ l″ n′ → Partly whole more at l l″ n′
+partly-next {piece = piece} {more} w e p = record {
+  text = w .text ++ piece;
+  parts = w .parts ∙ ap (λ (s : List ℕ). w .text ++ s) e ∙ sym (append-assoc (w .text) piece more);
+  wrote = wrote-append (w .wrote) p;
+}
+
+pub partly-all : {whole rest : List ℕ} {at n : ℕ} {l l′ : List ℕ} → Partly whole rest at l l′ n → rest ≡ [] → Wrote whole at l l′ n
+partly-all w e = wrote-as (sym (w .parts ∙ rw (e, append-nil))) (w .wrote)

@@ -14,7 +14,7 @@ use lib.Seq.{drop-drop}
 use lib.Dec.{eqb}
 use borrow.Author.Tests.{eq-eqb, ne-eqb, eqb-true, eqb-false}
 use Rattle.model.specs.declared.Layout.{Layout}
-use Rattle.model.specs.Layout.{authenticated, headerLength}
+use Rattle.model.specs.Layout.{authenticated, headerLength, vendorAt}
 use Rattle.model.specs.Lists.{part, keep}
 use Rattle.model.specs.Change.{entrySizesIn, isErrorRecord, recordSizes, otherSizes}
 use Rattle.model.specs.Entry.{Value, entrySizeIn}
@@ -24,14 +24,14 @@ use Rattle.model.specs.Beside.{fromIn}
 use Rattle.model.proofs.Walking.{entries-from}
 use Rattle.model.proofs.Space.{sizes-split}
 use Rattle.layout.specs.declared.Entry as numbers
-use Rattle.region.specs.Walk.{entryAs, strideIn, turnIn}
+use Rattle.region.specs.Walk.{entryAs, vendorAs, strideIn, turnIn}
 use Rattle.region.specs.declared.Turn.{Turn}
 use Rattle.region.specs.declared.Turn.the-variants.{Entry, Stop}
 use Rattle.region.proofs.Turns.{Turned, Ended, at-entry, at-end}
-use Rattle.region.proofs.Entries.{unnamed, named}
+use Rattle.region.proofs.Entries.{unnamed, named, vendor as vendor-part}
 use Rattle.values.proofs.Listed.{listedIn, listed-all, listed-none, listed-value, listed-next}
 
-part-fits : (r : List ℕ) (i n : ℕ) → (length (part i n r) ≤ n) × (length (part i n r) ≤ length r - i)
+pub part-fits : (r : List ℕ) (i n : ℕ) → (length (part i n r) ≤ n) × (length (part i n r) ≤ length r - i)
 part-fits r i n =
     rw (length-take n (drop i r), length-drop i r) (min-le-left n (length r - i), min-le-right n (length r - i))
 
@@ -68,6 +68,25 @@ module _ (y : Layout) where
             let a = part-fits r (at + headerLength y) (e .name) in
             let b = part-fits r (at + headerLength y + e .name) (e .size) in
             record { whole = omega arith; stride = rw h (omega arith) }
+
+    -- what is read of an entry, and how long it can be
+    module _ {name vendor bytes : List ℕ} (n : name ≡ entryAs y r at e .name) (v : vendor ≡ vendorAs y r at) (b : bytes ≡ entryAs y r at e .bytes) where
+      pub record Short : Type 0 where
+        pub vendor-short : length vendor ≤ 16
+        pub name-short : length name ≤ length r
+        pub name-same : length name ≡ length (entryAs y r at e .name)
+        pub bytes-short : length bytes ≤ length r
+
+      pub short : Short
+      short =
+          let k = ap length n in
+          let d = ap length b in
+          record {
+            vendor-short = rw (v, vendor-part y r at) (part-fits r (at + vendorAt y) 16 .0);
+            name-short = omega (arith, lengths .whole);
+            name-same = k;
+            bytes-short = omega (arith, lengths .whole);
+          }
 
 module _ {y : Layout} {r : List ℕ} {at : ℕ} {e : numbers.Entry} {k : ℕ} (w : Turned y r at e k) where
   behind : at + strideIn y e ≡ k

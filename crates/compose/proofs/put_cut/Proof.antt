@@ -4,7 +4,9 @@ use mathlib.Core.Path.{_∙_}
 use mathlib.Core.List.{append-nil}
 use denote.Ref.{now}
 use Rattle.output.proofs.Writing.{wrote-as}
-use Rattle.compose.proofs.Carried.{entry-value, short}
+use Rattle.model.specs.Layout.{authenticated}
+use Rattle.values.proofs.Sizes.{short}
+use Rattle.compose.proofs.Carried.{entry-value, stamp-short}
 use borrow.Author.Needs.{needs}
 use Rattle.compose.proofs.put_cut.Statement.{statement}
 use Rattle.compose.proofs.put_cut.Tie as tie
@@ -12,8 +14,8 @@ use Rattle.compose.proofs.put_cut.Tie as tie
 put-entry-requires : tie.Need-put-entry-requires
 put-entry-requires c κs =
     let a = c .before .before .before .before .before .before .before .before .args in
-    let s = short (now (a .region)) (a .place) (a .e) (c .before .before .before .before .before .stamp-of .ensures) (c .before .before .before .before .name-of .ensures) (c .before .before .before .vendor-of .ensures) (c .before .before .data-of .ensures) in
-    (omega arith, omega (arith, s .stamp-short), omega (arith, s .name-short), omega (arith, s .vendor-short), omega (arith, s .bytes-short), search needs)
+    let s = short authenticated (now (a .region)) (a .place) (a .e) (c .before .before .before .before .name-of .ensures) (c .before .before .before .vendor-of .ensures) (c .before .before .data-of .ensures) in
+    (omega arith, omega (arith, stamp-short (now (a .region)) (a .place) (c .before .before .before .before .before .stamp-of .ensures)), omega (arith, s .name-short), omega (arith, s .vendor-short), omega (arith, s .bytes-short), search needs)
 
 returns : tie.Need-returns
 returns c =

@@ -11,7 +11,7 @@ use Rattle.model.specs.Change.{spaceIn}
 use Rattle.model.specs.Move.{rule20, movedValues}
 use Rattle.image.proofs.Cut.{parted}
 use Rattle.image.proofs.Ready.{is-ready}
-use Rattle.convert.proofs.Carried.{part-short}
+use Rattle.values.proofs.Sizes.{part-fits}
 use Rattle.convert.proofs.Checks.{told-unready, source-wrong, target-wrong, unready, too-stamped, too-large, fitting, cut-values, cut-space}
 use borrow.Author.Needs.{needs}
 use Rattle.convert.proofs.check.Statement.{statement}
@@ -46,7 +46,7 @@ returns-3 c =
 is-unstampable-requires : tie.Need-is-unstampable-requires
 is-unstampable-requires c κs =
     let b = c .before .before .before .before .before .before .before in
-    let s = part-short (now (c .before .before .before .before .before .before .before .before .before .before .args .image)) 0 (4096 * b .blocks2 .result) in
+    let s = part-fits (now (c .before .before .before .before .before .before .before .before .before .before .args .image)) 0 (4096 * b .blocks2 .result) .0 in
     let e = ap length (c .cut .ensures) in
     omega (arith, s, e, b .blocks2 .ensures .1)
 
@@ -69,8 +69,8 @@ returns-4 c =
 needed-requires : tie.Need-needed-requires
 needed-requires c κs =
     let b = c .before .before .before .before .before .before .before .before .before in
-    let s = part-short (now (c .before .before .before .before .before .before .before .before .before .before .before .before .args .image)) 0
-    (4096 * b .blocks2 .result) in
+    let s = part-fits (now (c .before .before .before .before .before .before .before .before .before .before .before .before .args .image)) 0
+    (4096 * b .blocks2 .result) .0 in
     let e = ap length (c .before .before .cut .ensures) in
     omega (arith, s, e, b .blocks2 .ensures .1)
 

@@ -6,7 +6,7 @@ use mathlib.Core.Path.{refl, sym, ap, _∙_}
 use lib.ListN.{length}
 use denote.Ref.{now}
 use Rattle.model.specs.Lists.{part}
-use Rattle.convert.proofs.Carried.{part-short}
+use Rattle.values.proofs.Sizes.{part-fits}
 use Rattle.convert.proofs.Checks.{goes, refused-rule}
 use borrow.Author.Needs.{needs}
 use Rattle.convert.proofs.move_values.Statement.{statement}
@@ -34,7 +34,7 @@ put-image-requires c κs = let a = c .before .before .before .before .before .be
     let t = c .before .before .before .c .given in
     let told = sym (c .before .before .before .before .before .check .ensures) ∙ t .1 in
     let g = goes (a .from) (a .to) img (now (a .target)) (t .0 .0) (t .0 .1 .0) told (now (c .cut .result)) (c .cut .ensures) in
-    let s = part-short img 0 (4096 * t .0 .0) in
+    let s = part-fits img 0 (4096 * t .0 .0) .0 in
     let e = ap length (c .cut .ensures) in
     (omega (arith, s, e, g .few), g .room)
 

@@ -3,7 +3,8 @@
 use native.Mathlib.Omega.{arith}
 use denote.Ref.{now}
 use Rattle.output.proofs.Writing.{wrote-as}
-use Rattle.report.proofs.Lines.{entry-line, short}
+use Rattle.values.proofs.Sizes.{short}
+use Rattle.report.proofs.Lines.{entry-line}
 use borrow.Author.Needs.{needs}
 use Rattle.report.proofs.put_entry.Statement.{statement}
 use Rattle.report.proofs.put_entry.Tie as tie
@@ -11,14 +12,14 @@ use Rattle.report.proofs.put_entry.Tie as tie
 cast-put-value : tie.Need-cast-put-value
 cast-put-value c =
     let a = c .before .before .before .before .before .before .args in
-    let s = short (a .y) (now (a .region)) (a .place) (a .e) (c .before .before .before .vendor-of .ensures) (c .before .before .name-of .ensures)
+    let s = short (a .y) (now (a .region)) (a .place) (a .e) (c .before .before .name-of .ensures) (c .before .before .before .vendor-of .ensures)
     (c .before .data-of .ensures) in
     record { fits = omega (arith, s .bytes-short) }
 
 put-value-requires : tie.Need-put-value-requires
 put-value-requires c κs =
     let a = c .before .before .before .before .before .before .args in
-    let s = short (a .y) (now (a .region)) (a .place) (a .e) (c .before .before .before .vendor-of .ensures) (c .before .before .name-of .ensures)
+    let s = short (a .y) (now (a .region)) (a .place) (a .e) (c .before .before .name-of .ensures) (c .before .before .before .vendor-of .ensures)
     (c .before .data-of .ensures) in
     omega (arith, s .vendor-short, s .name-short)
 
@@ -28,9 +29,9 @@ returns c =
     let v = c .before .before .before .before .before .before .vendor-of .ensures in
     let n = c .before .before .before .before .before .name-of .ensures in
     let b = c .before .before .before .before .data-of .ensures in
-    let s = short (a .y) (now (a .region)) (a .place) (a .e) v n b in
+    let s = short (a .y) (now (a .region)) (a .place) (a .e) n v b in
     let w = c .before .before .put-value .ensures in
-    (wrote-as (entry-line (a .y) (now (a .region)) (a .place) (a .e) v n b) (w .0), omega (arith, w .1, s .vendor-short, s .name-same))
+    (wrote-as (entry-line (a .y) (now (a .region)) (a .place) (a .e) n v b) (w .0), omega (arith, w .1, s .vendor-short, s .name-same))
 
 pub put-entry-spec : {M : Type 1} → statement M
 put-entry-spec =

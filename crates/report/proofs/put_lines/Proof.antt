@@ -3,29 +3,34 @@
 -- Assumes nothing.
 use Prim.Native.Nat.{_+_, _*_, _-_, _≤_}
 use native.Mathlib.Omega.{arith}
-use mathlib.Core.Path.{_≡_, refl, _∙_}
+use mathlib.Core.Path.{_≡_, refl, ap, _∙_}
 use lib.ListN.{length}
 use Rattle.values.proofs.Stands.{listed-nothing}
 use Rattle.values.proofs.Next.{next-value}
-use Rattle.report.proofs.Lines.{Written, written-none, written-line, written-all}
+use Rattle.model.specs.Region.{entriesIn, values}
+use Rattle.values.proofs.Listed.{listedIn, listed-all}
+use Rattle.output.proofs.Writing.{Partly, partly-none, partly-next, partly-all}
+use Rattle.report.specs.Varlist.{valueLines}
+use Rattle.report.proofs.Lines.{next-lines, no-lines}
 use borrow.Author.Needs.{needs}
 use Rattle.report.proofs.put_lines.Statement.{statement}
 use Rattle.report.proofs.put_lines.Tie as tie
 
 abbrev Inv-loop : tie.InvT-loop
 Inv-loop y region out₀ at next₀ here₀ out next here =
-    (next ≤ at + 2 * here) × (length out ≡ length out₀) × Written y region at out₀ out next here
+    (next ≤ at + 2 * here) × (length out ≡ length out₀)
+    × Partly (valueLines (values (entriesIn y region))) (valueLines (listedIn y region here)) at out₀ out next
 
 abbrev μ-loop : tie.MeasureT-loop
 μ-loop y region out₀ at next₀ here₀ out next here = length region - here
 
 loop-holds : tie.Need-loop-holds Inv-loop μ-loop
-loop-holds c = (omega arith, refl, written-none _ _ _ _)
+loop-holds c = (omega arith, refl, partly-none _ _ (ap valueLines (listed-all _ _)))
 
 returns : tie.Need-returns Inv-loop μ-loop
 returns c =
     let b = c .before .before in
-    written-all _ (b .before .loop .inv .2) (listed-nothing (b .next-value .ensures) (c .enum-told .given .1) .list)
+    partly-all (b .before .loop .inv .2) (no-lines _ (listed-nothing (b .next-value .ensures) (c .enum-told .given .1)))
 
 put-entry-requires : tie.Need-put-entry-requires Inv-loop μ-loop
 put-entry-requires c κs =
@@ -46,7 +51,7 @@ loop-again c =
     let w = c .before .before .put-entry in (
       omega (arith, i .0, w .ensures .1, x .from-here, x .size),
       w .kept .1 .0 ∙ i .1,
-      written-line _ (i .2) x (w .ensures .0),
+      partly-next (i .2) (next-lines _ x) (w .ensures .0),
     )
 
 pub put-lines-spec : {M : Type 1} → statement M
