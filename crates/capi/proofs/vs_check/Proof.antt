@@ -10,14 +10,14 @@ use borrow.Author.Needs.{needs}
 use Rattle.capi.proofs.vs_check.Statement.{statement}
 use Rattle.capi.proofs.vs_check.Tie as tie
 
-cast-t9 : tie.Need-cast-t9
-cast-t9 c =
+cast-t10 : tie.Need-cast-t10
+cast-t10 c =
     let t = c .before .before .c .given in
     let x = is-ready authenticated (sym (c .before .before .before .before .check-call .ensures) ∙ t .1) in
     record { fits = omega (arith, x .few) }
 
-cast-t10 : tie.Need-cast-t10
-cast-t10 c =
+cast-t11 : tie.Need-cast-t11
+cast-t11 c =
     let t = c .before .before .c .given in
     let x = is-ready authenticated (sym (c .before .before .before .before .check-call .ensures) ∙ t .1) in
     record { fits = omega (arith, x .few, x .long, x .tail-within) }
@@ -39,8 +39,8 @@ vs-check-spec =
     (λ c κs. search needs)
     (λ c. search needs)
     (λ c κs. search needs)
-    cast-t9
     cast-t10
+    cast-t11
     (λ c. search needs)
     (λ c κs. search needs)
     returns
