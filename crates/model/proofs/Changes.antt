@@ -10,11 +10,11 @@ use borrow.Author.Tests.{ltb-false}
 use Rattle.model.specs.declared.Terms.{Terms}
 use Rattle.model.specs.Layout.{authenticated}
 use Rattle.model.specs.Lists.{any, keep, isSome}
-use Rattle.model.specs.Image.{regionHeaderSize}
 use Rattle.model.specs.Name.{Key, sameKey}
 use Rattle.model.specs.Entry.{Value, keyOf, entrySize}
 use Rattle.model.specs.Region.{find}
-use Rattle.model.specs.Change.{Change, nothing, remove, put, step, steps, without, entrySizes, entrySizesIn, spaceOf, spaceIn, isErrorRecord, otherSizes}
+use Rattle.model.specs.Change.{Change, nothing, remove, put, step, steps, without, entrySizes, entrySizesIn, spaceOf, spaceIn, isErrorRecord}
+use Rattle.model.specs.Sides.{sideSizes}
 use Rattle.model.specs.Rules.{puts, rule13}
 use Rattle.model.specs.Beside.{Valid}
 use Rattle.model.proofs.Tests.{or-split}
@@ -88,7 +88,7 @@ unfolding rule13
 room-after t size cs vs h now =
     go (any (puts (λ v. true)) cs) refl
     (or-split
-    (any (puts (λ v. not (isErrorRecord v))) cs && ltb size (regionHeaderSize + otherSizes (steps cs vs) + t .records + t .reserve))
+    (any (puts (λ v. not (isErrorRecord v))) cs && ltb (t .share) (sideSizes (t .vendor) (t .modem) (steps cs vs) + t .reserve))
     (any (puts (λ v. true)) cs && ltb size (spaceOf (steps cs vs))) h .1)
   where
     go : (b : Bool) → any (puts (λ v. true)) cs ≡ b → (any (puts (λ v. true)) cs && ltb size (spaceOf (steps cs vs))) ≡ false → spaceOf (steps cs vs) ≤ size

@@ -71,7 +71,7 @@ reach-none (erase b ∷ ss) img = ap suc (reach-none ss (apply (erase b) img))
 
 -- a context of n stores, no dead byte, and stores of one byte
 abbrev pub unworn : ℕ → Context
-unworn n = record { limit = n; count = 0; dead = []; width = 1 }
+unworn n = record { limit = n; count = 0; dead = []; width = 1; side = 0 }
 
 none-dead : (x : Context) → x .count ≡ 0 → deadOf x ≡ []
 none-dead x e = rw e

@@ -11,9 +11,11 @@ use mathlib.Core.Option.{Option, none, some}
 use lib.ListN.{length, take, replicate, length-append, length-take}
 use lib.Dec.{eqb, leb}
 use borrow.Author.Tests.{ltb-false, leb-true, eqb-true, eqb-false, ne-eqb, not-false}
+use Rattle.model.specs.declared.Setup.{Setup}
 use Rattle.model.specs.declared.Session.{Session}
 use Rattle.model.specs.declared.Terms.{Terms}
 use Rattle.model.specs.declared.Rule.{Rule}
+use Rattle.model.specs.declared.Rule.the-variants.{Side}
 use Rattle.model.specs.Layout.{authenticated}
 use Rattle.model.specs.Lists.{allFF, among, isSome, onSome, orElse}
 use Rattle.model.specs.Name.{Key, wellNamed, recordName}
@@ -24,7 +26,8 @@ use Rattle.model.specs.Work.{idle, readyForCall, readyIn, readyForStartU
 use Rattle.model.specs.Request.{Request, requestKey, stampSize, timeBased, appends, withoutAppend, dataProper, stampToStore, later, properAt, rightDescriptor}
 use Rattle.model.specs.Limits.{Limit, limitsFor}
 use Rattle.model.specs.Change.{nothing, remove, put, deletes, emptyAppend, equalTo, newData, laterOf, newStamp, newValue, changeOf, changeIn, step, steps, spaceOf}
-use Rattle.model.specs.Rules.{firstBroken, rule1, rule2In, rule2StartUp, rule3, rule4, rule8, rule11, rule12, rule13, rule17, termsOf, imageRules, imageRulesIn, requestRules, standingRules, resultRules, itemRules, settingRules, roomRules, setBroken, getBroken, nextBroken, startUpBroken}
+use Rattle.model.specs.Sides.{allotted}
+use Rattle.model.specs.Rules.{firstBroken, rule1, rule2In, rule2StartUp, rule3, rule4, rule8, rule11, rule12, rule13, rule17, rule22StartUp, valuesFound, termsOf, imageRules, imageRulesIn, requestRules, standingRules, resultRules, itemRules, settingRules, roomRules, setBroken, getBroken, nextBroken, startUpBroken}
 use Rattle.model.specs.Answers.{ruleNumber}
 use Rattle.model.specs.Beside.{Valid}
 use Rattle.model.proofs.Encode.{AllValid, sound-valid, sound-fits}
@@ -162,7 +165,7 @@ record-append a = go (appends a) refl
         rw y
     go false e = refl
 
-recorded-put : (k : Key) (a size : ℕ) → rule17 k a ≡ false → deletes a size ≡ false → (not (recordBit (withoutAppend a)) || recordName k) ≡ true
+pub recorded-put : (k : Key) (a size : ℕ) → rule17 k a ≡ false → deletes a size ≡ false → (not (recordBit (withoutAppend a)) || recordName k) ≡ true
 unfolding rule17 deletes
 recorded-put k a size h d = rw (record-append a) (go (eqb a 0) (or-split _ _ d .0) (recordBit a) (recordName k) h)
   where
@@ -228,6 +231,42 @@ stamp-length r h = go (timeBased (r .attributes)) (rightDescriptor (r .bytes)) r
     go true false e h = absurd (true≢false h)
     go false d e h = refl
 
+-- ---- a set over values, room and the image aside
+
+module _ (t : Terms) (r : Request) (vs : List Value) (kept : firstBroken (itemRules t r vs) ≡ none) where
+  -- the value to put is one that a sound region can hold, where those that stand are: an old stamp is 16 bytes
+  pub item-valid : AllValid authenticated vs → (v : Value) → changeIn r vs ≡ put v → length (r .vendor) ≡ 16 → Valid v
+  unfolding itemRules requestRules standingRules resultRules rule3 rule12 changeIn newValue
+  item-valid valid v c g =
+      let old = find (requestKey r) vs in
+      let p = puts r old v c in
+      let n : rule3 (requestKey r) ≡ false = unbroken _ 3 kept in
+      let q : rule4 (t .runtime) (r .attributes) ≡ false = unbroken _ 4 kept in
+      let d : rule8 (r .attributes) (r .bytes) ≡ false = unbroken _ 8 kept in
+      let e : rule17 (requestKey r) (r .attributes) ≡ false = unbroken _ 17 kept in
+      let h : rule12 (changeIn r vs) ≡ false = unbroken _ 12 kept in
+      let few : length (v .bytes) ≤ maxData = ltb-false maxData (length (v .bytes)) (rw c at h) in
+      let stamped : (w : Value) → old ≡ some w → length (w .stamp) ≡ 16 = λ w f.
+      find-holds Valid (AllValid authenticated) (λ x xs y. y) (requestKey r) vs valid w f .stamp in
+      rw (p .made)
+      (record {
+        named = not-false (wellNamed (r .name)) n;
+        vendor = g;
+        stamp = new-stamp (λ (x : List ℕ). length x ≡ 16) r old (stamp-length r d) stamped;
+        stampless = λ e. absurd (true≢false e);
+        attributes = put-attributes (t .runtime) (r .attributes) (length (dataProper r)) q (p .kept);
+        recorded = recorded-put (requestKey r) (r .attributes) (length (dataProper r)) e (p .kept);
+        some-data = some-new r old (some-proper (r .attributes) (length (dataProper r)) (p .kept) (p .adds));
+        few-data = rw (p .made) at few;
+      })
+
+  -- the value to remove is there
+  pub item-present : (k : Key) → changeIn r vs ≡ remove k → isSome (find k vs) ≡ true
+  unfolding itemRules requestRules standingRules resultRules rule11 changeIn
+  item-present k c =
+      let h : rule11 (changeIn r vs) (find (requestKey r) vs) ≡ false = unbroken _ 11 kept in
+      rw (removes r (find (requestKey r) vs) k c) (not-false (isSome (find (requestKey r) vs)) (rw c at h))
+
 -- ---- a set that breaks no rule
 
 -- its rules, under terms and with the rules for its name
@@ -247,38 +286,19 @@ module _ (t : Terms) (ls : List Limit) (r : Request) (img : List ℕ) (accepted 
   unfolding imageRulesIn rule2In
   kept-ready = not-false (readyForCall img) (unbroken _ 2 accepted)
 
-  -- the old stamp is 16 bytes, since the region is sound
-  old-stamp : (v : Value) → find (requestKey r) (valuesOf img) ≡ some v → length (v .stamp) ≡ 16
-  old-stamp v e =
-      find-holds Valid (AllValid authenticated) (λ w ws h. h) (requestKey r) (valuesOf img) (image-valid img kept-length kept-ready) v e .stamp
+  kept-item : firstBroken (itemRules t r (valuesOf img)) ≡ none
+  kept-item =
+      let a : List (Rule × Bool) = imageRules img in
+      let b : List (Rule × Bool) = itemRules t r (valuesOf img) in
+      let c : List (Rule × Bool) = settingRules ls r (find (requestKey r) (valuesOf img)) in
+      let d : List (Rule × Bool) = roomRules t (regionSize img) (changeIn r (valuesOf img) ∷ []) (valuesOf img) in
+      none-append a b (none-append (a ++ b) c (none-append (a ++ b ++ c) d accepted .0) .0) .1
 
   pub kept-valid : (v : Value) → changeIn r (valuesOf img) ≡ put v → length (r .vendor) ≡ 16 → Valid v
-  unfolding imageRulesIn itemRules requestRules standingRules resultRules rule3 rule12 changeIn newValue
-  kept-valid v c g =
-      let p = puts r (find (requestKey r) (valuesOf img)) v c in
-      let n : rule3 (requestKey r) ≡ false = unbroken _ 3 accepted in
-      let q : rule4 (t .runtime) (r .attributes) ≡ false = unbroken _ 4 accepted in
-      let d : rule8 (r .attributes) (r .bytes) ≡ false = unbroken _ 8 accepted in
-      let e : rule17 (requestKey r) (r .attributes) ≡ false = unbroken _ 17 accepted in
-      let h : rule12 (changeIn r (valuesOf img)) ≡ false = unbroken _ 12 accepted in
-      let few : length (v .bytes) ≤ maxData = ltb-false maxData (length (v .bytes)) (rw c at h) in
-      rw (p .made)
-      (record {
-        named = not-false (wellNamed (r .name)) n;
-        vendor = g;
-        stamp = new-stamp (λ (x : List ℕ). length x ≡ 16) r (find (requestKey r) (valuesOf img)) (stamp-length r d) old-stamp;
-        stampless = λ e. absurd (true≢false e);
-        attributes = put-attributes (t .runtime) (r .attributes) (length (dataProper r)) q (p .kept);
-        recorded = recorded-put (requestKey r) (r .attributes) (length (dataProper r)) e (p .kept);
-        some-data = some-new r (find (requestKey r) (valuesOf img)) (some-proper (r .attributes) (length (dataProper r)) (p .kept) (p .adds));
-        few-data = rw (p .made) at few;
-      })
+  kept-valid = item-valid t r (valuesOf img) kept-item (image-valid img kept-length kept-ready)
 
   kept-present : (k : Key) → changeIn r (valuesOf img) ≡ remove k → isSome (find k (valuesOf img)) ≡ true
-  unfolding imageRulesIn itemRules requestRules standingRules resultRules rule11 changeIn
-  kept-present k c =
-      let h : rule11 (changeIn r (valuesOf img)) (find (requestKey r) (valuesOf img)) ≡ false = unbroken _ 11 accepted in
-      rw (removes r (find (requestKey r) (valuesOf img)) k c) (not-false (isSome (find (requestKey r) (valuesOf img))) (rw c at h))
+  kept-present = item-present t r (valuesOf img) kept-item
 
   -- all values fit after it
   kept-room : spaceOf (steps (changeIn r (valuesOf img) ∷ []) (valuesOf img)) ≤ regionSize img
@@ -292,9 +312,9 @@ module _ (t : Terms) (ls : List Limit) (r : Request) (img : List ℕ) (accepted 
   kept-fits v c = rw c at kept-room
 
 -- in a session
-module _ (s : Session) (r : Request) (img : List ℕ) (accepted : setBroken s r img ≡ none) where
+module _ (m : Bool) (s : Session) (r : Request) (img : List ℕ) (accepted : setBroken m s r img ≡ none) where
   abbrev its : Terms
-  its = termsOf s (requestKey r)
+  its = termsOf m s (requestKey r)
 
   abbrev rules : List Limit
   rules = limitsFor (s .setup) (requestKey r)
@@ -310,6 +330,10 @@ module _ (s : Session) (r : Request) (img : List ℕ) (accepted : setBroken s r 
   pub put-key : (v : Value) → changeIn r (valuesOf img) ≡ put v → keyOf v ≡ requestKey r
   unfolding changeIn
   put-key v c = put-named r (find (requestKey r) (valuesOf img)) v c
+
+  pub set-own : firstBroken (itemRules its r (valuesOf img)) ≡ none
+  unfolding setBroken
+  set-own = kept-item its rules r img accepted
 
   pub put-is-valid : (v : Value) → changeIn r (valuesOf img) ≡ put v → length (r .vendor) ≡ 16 → Valid v
   unfolding setBroken
@@ -337,24 +361,33 @@ module _ (s : Session) (r : Request) (img : List ℕ) (accepted : setBroken s r 
 -- ---- the other calls
 
 -- a start-up that breaks no rule
-pub startUp-length : (img : List ℕ) → startUpBroken img ≡ none → rightLength img ≡ true
+pub startUp-length : (u : Setup) (img : List ℕ) → startUpBroken u img ≡ none → rightLength img ≡ true
 unfolding startUpBroken rule1
-startUp-length img h = not-false (rightLength img) (unbroken _ 1 h)
+startUp-length u img h = not-false (rightLength img) (unbroken _ 1 h)
 
-pub startUp-ready : (img : List ℕ) → startUpBroken img ≡ none → readyForStartUp img ≡ true
+pub startUp-ready : (u : Setup) (img : List ℕ) → startUpBroken u img ≡ none → readyForStartUp img ≡ true
 unfolding startUpBroken rule2StartUp
-startUp-ready img h = not-false (readyForStartUp img) (unbroken _ 2 h)
+startUp-ready u img h = not-false (readyForStartUp img) (unbroken _ 2 h)
 
--- and the other way round
-pub startUp-accepted : (img : List ℕ) → rightLength img ≡ true → readyForStartUp img ≡ true → startUpBroken img ≡ none
-unfolding startUpBroken firstBroken rule1 rule2StartUp
-startUp-accepted img l h = rw (l, h)
+pub startUp-allotted : (u : Setup) (img : List ℕ) → startUpBroken u img ≡ none → allotted u (regionSize img) (valuesFound img) ≡ true
+unfolding startUpBroken rule22StartUp
+startUp-allotted u img h = not-false (allotted u (regionSize img) (valuesFound img)) (unbroken _ 22 h)
+
+-- and the other way round: on an image that is ready for it a start-up is refused where what it finds does not keep to the shares, and there only
+pub startUp-judged : (u : Setup) (img : List ℕ) → rightLength img ≡ true → readyForStartUp img ≡ true
+    → startUpBroken u img ≡ cond (allotted u (regionSize img) (valuesFound img)) none (some Side)
+unfolding startUpBroken firstBroken rule1 rule2StartUp rule22StartUp
+startUp-judged u img l h = rw (l, h) (go (allotted u (regionSize img) (valuesFound img)))
+  where
+    go : (t : Bool) → cond (not t) (some Side) none ≡ cond t none (some Side)
+    go true = refl
+    go false = refl
 
 -- a get and a next-name that are accepted find the image ready
-pub get-ready : (s : Session) (k : Key) (buffer img : List ℕ) → getBroken s k buffer img ≡ none → (rightLength img ≡ true) × (readyForCall img ≡ true)
+pub get-ready : (m : Bool) (s : Session) (k : Key) (buffer img : List ℕ) → getBroken m s k buffer img ≡ none → (rightLength img ≡ true) × (readyForCall img ≡ true)
 unfolding getBroken imageRulesIn rule1 rule2In
-get-ready s k buffer img h = (not-false (rightLength img) (unbroken _ 1 h), not-false (readyForCall img) (unbroken _ 2 h))
+get-ready m s k buffer img h = (not-false (rightLength img) (unbroken _ 1 h), not-false (readyForCall img) (unbroken _ 2 h))
 
-pub next-ready : (s : Session) (k : Key) (buffer img : List ℕ) → nextBroken s k buffer img ≡ none → (rightLength img ≡ true) × (readyForCall img ≡ true)
+pub next-ready : (m : Bool) (s : Session) (k : Key) (buffer img : List ℕ) → nextBroken m s k buffer img ≡ none → (rightLength img ≡ true) × (readyForCall img ≡ true)
 unfolding nextBroken imageRulesIn rule1 rule2In
-next-ready s k buffer img h = (not-false (rightLength img) (unbroken _ 1 h), not-false (readyForCall img) (unbroken _ 2 h))
+next-ready m s k buffer img h = (not-false (rightLength img) (unbroken _ 1 h), not-false (readyForCall img) (unbroken _ 2 h))

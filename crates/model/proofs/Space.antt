@@ -1,10 +1,11 @@
 -- No name stands twice among the values of a sound region: so what is dropped with the old value is its size alone, and the sizes of a class after a change are
--- those before it without the old value's and with the new one's, as far as these are of the class. All values are the error records and the others.
+-- those before it without the old value's and with the new one's, as far as these are of the class. All values are the error records and the others; a side's sum is
+-- that of a class.
 -- Assumes nothing.
 use Prim.Native.Nat.{ℕ, _+_, _-_, _≤_}
 use native.Mathlib.Omega.{arith}
 use mathlib.Core.Path.{_≡_, refl, sym, ap, _∙_}
-use mathlib.Core.Bool.{Bool, true, false, not, cond, _||_}
+use mathlib.Core.Bool.{Bool, true, false, not, cond, _&&_, _||_}
 use mathlib.Core.List.{List, [], _∷_, _++_}
 use mathlib.Core.Option.{Option, none, some}
 use Rattle.model.specs.declared.Layout.{Layout}
@@ -15,7 +16,9 @@ use Rattle.model.specs.Entry.{Value, keyOf, entrySize, entrySizeIn}
 use Rattle.model.specs.Region.{find}
 use Rattle.model.specs.Image.{regionHeaderSize}
 use Rattle.model.specs.Change.{put, without, step, entrySizes, spaceOf, entrySizesIn, spaceIn, isErrorRecord, recordSizes, otherSizes}
+use Rattle.model.specs.Sides.{owns, view, sideSizes}
 use Rattle.model.proofs.Tests.{or-split, key-eq}
+use Rattle.model.proofs.Values.{keep-keep}
 use Rattle.model.proofs.Encode.{Distinct}
 
 -- the size of a value of a class
@@ -101,3 +104,11 @@ module _ (p : Value → Bool) where
 pub all-sizes : (vs : List Value) → spaceOf vs ≡ regionHeaderSize + recordSizes vs + otherSizes vs
 unfolding spaceIn recordSizes otherSizes
 all-sizes vs = omega (arith, sizes-split authenticated isErrorRecord vs)
+
+-- the values that count for a side: its own that are no error records
+abbrev pub ofSide : List ℕ → Bool → Value → Bool
+ofSide guid modem v = owns guid modem (keyOf v) && not (isErrorRecord v)
+
+pub side-sizes : (guid : List ℕ) (modem : Bool) (vs : List Value) → sideSizes guid modem vs ≡ sizes (ofSide guid modem) vs
+unfolding sideSizes otherSizes view
+side-sizes guid modem vs = ap entrySizes (keep-keep (λ v. owns guid modem (keyOf v)) (λ v. not (isErrorRecord v)) vs)

@@ -1,7 +1,7 @@
 -- Not of document 01: what contracts cite.
 use Prim.Native.Nat.{ℕ, _≤_}
 use mathlib.Core.Path.{_≡_}
-use mathlib.Core.Bool.{true, false, not, cond, _&&_, _||_}
+use mathlib.Core.Bool.{Bool, true, false, not, cond, _&&_, _||_}
 use mathlib.Core.List.{List}
 use lib.ListN.{length, drop}
 use lib.Dec.{leb, ltb}
@@ -29,9 +29,9 @@ from = fromIn authenticated
 unfoldable pub oneMoreLock : Session → Key → Session
 oneMoreLock s k = cond (ltb (s .count) lockSpace && leb (length (k .name)) nameSpace) (withLock s k) s
 
--- what a session says to a set of a name: these terms, and this table of rules for settings
-abbrev pub Says : Session → Key → Terms → List ℕ → Type 0
-Says s k t table = (termsOf s k ≡ t) × (s .setup .limits ≡ table)
+-- what a session says to a side's set of a name: these terms, and this table of rules for settings
+abbrev pub Says : Bool → Session → Key → Terms → List ℕ → Type 0
+Says modem s k t table = (termsOf modem s k ≡ t) × (s .setup .limits ≡ table)
 
 -- what a value must be for its entry to be sound, and to be read back, in a form
 pub record ValidIn (y : Layout) (v : Value) : Type 0 where

@@ -29,65 +29,65 @@ use Rattle.model.specs.StartUp.{startUpStores, startUpPlan, formatPlan}
 use Rattle.model.specs.Answers.{Outcome, done, stopped, refused, outcome, imageAfter, madeOf, pageOf, storesOf, decided}
 use Rattle.model.specs.Move.{moveBroken, imageMoved}
 
--- "sets (deletes among them), gets, next-names and start-ups": each with its session and arguments, a start-up with custom mode, R, H and rules for settings
+-- "sets (deletes among them), gets, next-names and start-ups": each with its side, its session and arguments, a start-up with what it is given
 pub data Call : Type 0 where
-  set : Session → Request → Call
-  get : Session → Key → List ℕ → Call
-  next : Session → Key → List ℕ → Call
+  set : Bool → Session → Request → Call
+  get : Bool → Session → Key → List ℕ → Call
+  next : Bool → Session → Key → List ℕ → Call
   startUp : Setup → Call
 
 -- "The first broken is the answer": the rule that each breaks first
 abbrev pub callBroken : Call → List ℕ → Option Rule
-callBroken (set s r) img = setBroken s r img
-callBroken (get s k buffer) img = getBroken s k buffer img
-callBroken (next s k buffer) img = nextBroken s k buffer img
-callBroken (startUp setup) img = startUpBroken img
+callBroken (set m s r) img = setBroken m s r img
+callBroken (get m s k buffer) img = getBroken m s k buffer img
+callBroken (next m s k buffer) img = nextBroken m s k buffer img
+callBroken (startUp setup) img = startUpBroken setup img
 
--- a call that breaks none reads, writes changes that follow from the values, or starts up
+-- a call that breaks none reads, writes changes that follow from the values, or starts up with what it is given
 pub data Kind : Type 0 where
   reads : Kind
   writes : (List Value → List Change) → Kind
-  startsUp : Kind
+  startsUp : Setup → Kind
 
 -- "Of these calls only a set" changes the values: it writes one change
 abbrev pub kindOf : Call → Kind
-kindOf (set s r) = writes (λ vs. changeIn r vs ∷ [])
-kindOf (get s k buffer) = reads
-kindOf (next s k buffer) = reads
-kindOf (startUp setup) = startsUp
+kindOf (set m s r) = writes (λ vs. changeIn r vs ∷ [])
+kindOf (get m s k buffer) = reads
+kindOf (next m s k buffer) = reads
+kindOf (startUp setup) = startsUp setup
 
 -- the stores of each kind: get and next-name make none; a start-up decides nothing
 abbrev pub doing : Kind → List ℕ → Plan
 doing reads img = make [] []
 doing (writes changes) img = changesPlan img (changes (valuesOf img))
-doing startsUp img = make [] (startUpStores img)
+doing (startsUp setup) img = make [] (startUpStores img)
 
 -- what each call is to do to an image
 unfoldable pub planOf : Call → List ℕ → Plan
 planOf c img = onSome (callBroken c img) refuse (doing (kindOf c) img)
 
--- a set, a delete or an append, whole; a get; a next-name
-abbrev pub setPlan : Session → Request → List ℕ → Plan
-setPlan s r img = planOf (set s r) img
+-- by a side, a set, a delete or an append, whole; a get; a next-name
+abbrev pub setPlan : Bool → Session → Request → List ℕ → Plan
+setPlan modem s r img = planOf (set modem s r) img
 
-abbrev pub getPlan : Session → Key → List ℕ → List ℕ → Plan
-getPlan s k buffer img = planOf (get s k buffer) img
+abbrev pub getPlan : Bool → Session → Key → List ℕ → List ℕ → Plan
+getPlan modem s k buffer img = planOf (get modem s k buffer) img
 
-abbrev pub nextPlan : Session → Key → List ℕ → List ℕ → Plan
-nextPlan s k buffer img = planOf (next s k buffer) img
+abbrev pub nextPlan : Bool → Session → Key → List ℕ → List ℕ → Plan
+nextPlan modem s k buffer img = planOf (next modem s k buffer) img
 
 -- arguments are bytes, a GUID is 16 of them
 abbrev pub Sized : Call → Type 0
-Sized (set s r) = Bytes (r .name) × Bytes (r .vendor) × (length (r .vendor) ≡ 16) × Bytes (r .bytes)
-Sized (get s k buffer) = Unit {0}
-Sized (next s k buffer) = Unit {0}
+Sized (set m s r) = Bytes (r .name) × Bytes (r .vendor) × (length (r .vendor) ≡ 16) × Bytes (r .bytes)
+Sized (get m s k buffer) = Unit {0}
+Sized (next m s k buffer) = Unit {0}
 Sized (startUp setup) = Unit {0}
 
 -- the changes of each kind
 abbrev pub changesBy : Kind → List Value → List Change
 changesBy reads vs = []
 changesBy (writes changes) vs = changes vs
-changesBy startsUp vs = []
+changesBy (startsUp setup) vs = []
 
 -- the book: "only a set that is done, or had that store complete, changes it"
 unfoldable pub entered : Call → List Value → List Value
@@ -128,12 +128,13 @@ pub data Run (start : List ℕ) : List ℕ → List Value → Type 0 where
 
 -- "an image as a done start-up left it"
 pub record StartedUp (img : List ℕ) : Type 0 where
+  pub setup : Setup
   pub before : List ℕ
   pub bytes : Bytes before
   pub context : Context
   pub stores : ℕ
-  pub finished : outcome context (startUpPlan before) before ≡ done stores
-  pub left : img ≡ imageAfter context (startUpPlan before) before
+  pub finished : outcome context (startUpPlan setup before) before ≡ done stores
+  pub left : img ≡ imageAfter context (startUpPlan setup before) before
 
 -- 02 (d), "on what a done one leaves in the new form a run of 01 may begin"
 pub record MovedInto (img : List ℕ) : Type 0 where
@@ -152,8 +153,8 @@ pub data Begins (img : List ℕ) : Type 0 where
 abbrev pub Agrees : Kind → Context → List ℕ → List Value → Type 0
 Agrees reads x img book = Unit {0}
 Agrees (writes changes) x img book = Unit {0}
-Agrees startsUp x img book =
-    (stores : ℕ) → outcome x (startUpPlan img) img ≡ done stores → valuesOf (imageAfter x (startUpPlan img) img) ≡ book
+Agrees (startsUp setup) x img book =
+    (stores : ℕ) → outcome x (startUpPlan setup img) img ≡ done stores → valuesOf (imageAfter x (startUpPlan setup img) img) ≡ book
 
 -- "after every start-up in it that is done, the image's list of values equals the book as it then stands"
 abbrev pub AgreesAll : {start img : List ℕ} {book : List Value} → Run start img book → Type 0

@@ -1,5 +1,4 @@
--- Not of document 01: what UEFI's QueryVariableInfo asks, as rules 13 and 18 have it. A class of values is the error records, or the others; h is H, and reserve the
--- bytes kept back.
+-- Not of document 01: what UEFI's QueryVariableInfo asks, as rules 13 and 18 have it. A class of values is the error records, or a side's others.
 use Prim.Native.Nat.{ℕ, _+_, _*_, _-_, _/_, min}
 use mathlib.Core.Bool.{Bool, cond, _||_}
 use mathlib.Core.List.{List, _++_, [], _∷_}
@@ -11,22 +10,27 @@ use Rattle.model.specs.declared.Rule.the-variants.{Attributes}
 use Rattle.model.specs.Image.{regionHeaderSize}
 use Rattle.model.specs.Entry.{Value, headerSize}
 use Rattle.model.specs.Region.{maxData}
+use Rattle.model.specs.declared.Terms.{Terms}
 use Rattle.model.specs.Session.{nameSpace}
-use Rattle.model.specs.Change.{spaceOf, recordSizes, otherSizes}
+use Rattle.model.specs.Change.{spaceOf, recordSizes}
+use Rattle.model.specs.Sides.{sideSizes}
 use Rattle.model.specs.Rules.{rule4, firstBroken, imageRules}
 use Rattle.model.specs.Answers.{Outcome, done, refused, ruleNumber}
 
+-- the bytes for error records, which are always ours: H, and nothing for the modem
+abbrev pub recordShare : Terms → ℕ
+recordShare t = cond (t .modem) 0 (t .records)
+
 -- "MaximumVariableStorageSize": the bytes that all values of the class may take, in a region of so many bytes
-unfoldable pub storageFor : Bool → ℕ → ℕ → ℕ → ℕ
-storageFor error h reserve size =
-    cond error (min h (size - regionHeaderSize)) (size - (regionHeaderSize + h + reserve))
+unfoldable pub storageFor : Terms → Bool → ℕ → ℕ
+storageFor t error size = min (size - regionHeaderSize) (cond error (recordShare t) (t .share - t .reserve))
 
 -- "RemainingVariableStorageSize": the bytes that a new value may take beside these, in whole words, as entries do
-unfoldable pub remainingFor : Bool → ℕ → ℕ → ℕ → List Value → ℕ
-remainingFor error h reserve size vs =
+unfoldable pub remainingFor : Terms → Bool → ℕ → List Value → ℕ
+remainingFor t error size vs =
     min
     (size - spaceOf vs)
-    (cond error (h - recordSizes vs) (size - (regionHeaderSize + otherSizes vs + h + reserve)))
+    (cond error (recordShare t - recordSizes vs) (t .share - (sideSizes (t .vendor) (t .modem) vs + t .reserve)))
     / 4
     * 4
 

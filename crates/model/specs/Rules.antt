@@ -6,22 +6,24 @@ use mathlib.Core.Option.{Option, none, some}
 use lib.ListN.{length}
 use lib.Dec.{eqb, leb, ltb}
 use Rattle.model.specs.declared.Layout.{Layout}
+use Rattle.model.specs.declared.Setup.{Setup}
 use Rattle.model.specs.declared.Session.{Session}
 use Rattle.model.specs.declared.Terms.{Terms}
 use Rattle.model.specs.declared.View.{View}
 use Rattle.model.specs.declared.Rule.{Rule}
-use Rattle.model.specs.declared.Rule.the-variants.{Length, Unready, Name, Attributes, KeyAttributes, Locked, Standing, Descriptor, Verdict, Stamp, Absent, DataSize, Room, Buffer, LockPhase, LockSpace, RecordName, RecordSpace, Setting}
+use Rattle.model.specs.declared.Rule.the-variants.{Length, Unready, Name, Attributes, KeyAttributes, Locked, Standing, Descriptor, Verdict, Stamp, Absent, DataSize, Room, Buffer, LockPhase, LockSpace, RecordName, RecordSpace, Setting, Side}
 use Rattle.model.specs.Layout.{authenticated}
 use Rattle.model.specs.Lists.{same, keep, any, among, isEmpty, isSome, onSome, head}
-use Rattle.model.specs.Image.{rightLength, regionHeaderSize, regionSize}
+use Rattle.model.specs.Image.{rightLength, regionSize, spare}
 use Rattle.model.specs.Name.{Key, sameKey, wellNamed, emptyName, recordName}
 use Rattle.model.specs.Entry.{Value, keyOf}
-use Rattle.model.specs.Region.{maxData, storedAttributes, recordBit, valuesOf, find}
-use Rattle.model.specs.Work.{readyIn, readyForStartUp}
-use Rattle.model.specs.Session.{isYes, inBoot, atRuntime, customMode, reserved, countedLocks, lockSpace, locked}
+use Rattle.model.specs.Region.{maxData, storedAttributes, recordBit, entries, values, valuesOf, find}
+use Rattle.model.specs.Work.{readyIn, readyForStartUp, pending}
+use Rattle.model.specs.Session.{isYes, inBoot, atRuntime, customMode, shareOf, reserved, countedLocks, lockSpace, sideLocks, locked}
 use Rattle.model.specs.Request.{Request, requestKey, runtimeAccess, timeBased, appends, withoutAppend, isKeyName, userMode, wantedVerdicts, rightDescriptor, stampToStore, later}
 use Rattle.model.specs.Limits.{Limit, limitsFor, meets}
-use Rattle.model.specs.Change.{Change, nothing, remove, put, changeOf, changeIn, steps, leaves, spaceOf, isErrorRecord, recordSizes, otherSizes}
+use Rattle.model.specs.Change.{Change, nothing, remove, put, changeOf, changeIn, steps, leaves, spaceOf, isErrorRecord, recordSizes}
+use Rattle.model.specs.Sides.{owns, view, sideSizes, allotted, locksOf}
 
 -- "The first broken is the answer": of rules in checking order, each with whether it is broken
 unfoldable pub firstBroken : List (Rule × Bool) → Option Rule
@@ -49,6 +51,20 @@ rule3 k = not (wellNamed (k .name))
 
 unfoldable pub rule3Next : Key → Bool
 rule3Next k = not (wellNamed (k .name) || same (k .name) emptyName)
+
+-- 22. 02 (f): "when a call names the other side's name, the empty one apart, after 3": by the modem's GUID and the side; next-name's empty name is no side's
+unfoldable pub rule22 : List ℕ → Bool → Key → Bool
+rule22 guid modem k = not (owns guid modem k)
+
+unfoldable pub rule22Next : List ℕ → Bool → Key → Bool
+rule22Next guid modem k = not (same (k .name) emptyName) && rule22 guid modem k
+
+--     "when a start-up finds (in the spare if pending) a side above its share, the error records above H, or shares that do not fit, after 2"
+unfoldable pub valuesFound : List ℕ → List Value
+valuesFound img = cond (pending img) (values (entries (spare img))) (valuesOf img)
+
+unfoldable pub rule22StartUp : Setup → List ℕ → Bool
+rule22StartUp u img = not (allotted u (regionSize img) (valuesFound img))
 
 -- 4. "Attributes without 0x40 are none of 0, 0x03, 0x07, 0x23, 0x27, or are exactly 0x40, or at runtime are not 0 and lack RT."; 02 (a):
 --    "Attribute 0x0F becomes legal in rule 4". By whether the phase is runtime, and attributes
@@ -121,38 +137,50 @@ puts f (put v) = f v
 unfoldable pub rule18 : Terms → List Change → List Value → Bool
 rule18 t cs vs = any (puts isErrorRecord) cs && ltb (t .records) (recordSizes (steps cs vs))
 
--- 13. "28 plus the rounded entry sizes of all values after the change, plus R at runtime, exceeds L", which 02 (a) reads: "a set of any other value meets 13 if 28, the
---     other values, H and (at runtime) R exceed L; every set, if 28 and all values do"
+-- 13. "28 plus the rounded entry sizes of all values after the change, plus R at runtime, exceeds L", which 02 (f) reads: "a side's sum without error records, with its
+--     reserve at runtime, against its share, and still 28 plus all values against L (an error record's set meets only this)": of changes of the side's own names
 unfoldable pub rule13 : Terms → ℕ → List Change → List Value → Bool
 rule13 t size cs vs =
-    (any (puts (λ v. not (isErrorRecord v))) cs && ltb size (regionHeaderSize + otherSizes (steps cs vs) + t .records + t .reserve))
+    (any (puts (λ v. not (isErrorRecord v))) cs && ltb (t .share) (sideSizes (t .vendor) (t .modem) (steps cs vs) + t .reserve))
     || (any (puts (λ v. true)) cs && ltb size (spaceOf (steps cs vs)))
 
 -- 15. "A lock is asked after the boot phase."
 unfoldable pub rule15 : Session → Bool
 rule15 s = not (inBoot s)
 
--- 16. "The lock list holds 16 other names."
-unfoldable pub rule16 : Session → Key → Bool
-rule16 s k = leb lockSpace (countedLocks s) && not (locked s k)
+-- 16. "The lock list holds 16 other names.", which 02 (f) reads: "eight of that side's names or no free place"; a name already listed needs none
+unfoldable pub rule16 : Bool → Session → Key → Bool
+rule16 modem s k = (leb sideLocks (locksOf modem s) || leb lockSpace (countedLocks s)) && not (locked s k)
 
--- what a session says to a set of a name: whether the phase is runtime, whether the name is barred by rule 6, custom mode, the bytes kept back, H, and how many rules
--- for settings are in use
-unfoldable pub termsOf : Session → Key → Terms
-termsOf s k = record {
+-- what a session says to a side's set: whether the phase is runtime, whether the call names the other side's name (22), whether rule 6 bars it, custom mode, the side's
+-- bytes kept back and its share, H, and how many rules for settings are in use; which side it is, and the modem's GUID
+abbrev pub termsIf : Bool → Session → Bool → Bool → Terms
+termsIf modem s foreign barred = record {
   runtime = atRuntime s;
-  barred = rule6 s k;
+  foreign = foreign;
+  barred = barred;
   custom = customMode s;
-  reserve = reserved s;
+  reserve = reserved modem s;
+  share = shareOf modem (s .setup);
   records = s .setup .records;
   rules = s .setup .rules;
+  modem = modem;
+  vendor = s .setup .modem .vendor;
 }
 
--- and to a get and a next-name: whether the phase is runtime
-unfoldable pub viewOf : Session → View
-viewOf s = record { runtime = atRuntime s }
+-- to a call of a side that names no name
+unfoldable pub termsFor : Bool → Session → Terms
+termsFor modem s = termsIf modem s false false
 
--- "Sets, deletes among them, meet 1 to 13", with 17, 21 and 18 in their places: the image, the call itself, what stands, the result, the rules for its name, room
+-- to a set of a name
+unfoldable pub termsOf : Bool → Session → Key → Terms
+termsOf modem s k = termsIf modem s (rule22 (s .setup .modem .vendor) modem k) (rule6 s k)
+
+-- and to a side's get and next-name
+unfoldable pub viewOf : Bool → Session → View
+viewOf modem s = record { runtime = atRuntime s; modem = modem; vendor = s .setup .modem .vendor }
+
+-- "Sets, deletes among them, meet 1 to 13", with 22, 17, 21 and 18 in their places: the image, the call itself, what stands, the result, the rules for its name, room
 unfoldable pub imageRulesIn : Layout → List ℕ → List (Rule × Bool)
 imageRulesIn y img = (Length, rule1 img) ∷ (Unready, rule2In y img) ∷ []
 
@@ -162,6 +190,7 @@ imageRules = imageRulesIn authenticated
 unfoldable pub requestRules : Terms → Request → List (Rule × Bool)
 requestRules t r =
     (Name, rule3 (requestKey r))
+    ∷ (Side, t .foreign)
     ∷ (Attributes, rule4 (t .runtime) (r .attributes))
     ∷ (KeyAttributes, rule5 (requestKey r) (r .attributes))
     ∷ (RecordName, rule17 (requestKey r) (r .attributes))
@@ -183,7 +212,7 @@ standingRules t r user old =
 unfoldable pub resultRules : Request → Option Value → List (Rule × Bool)
 resultRules r old = (Absent, rule11 (changeOf r old) old) ∷ (DataSize, rule12 (changeOf r old)) ∷ []
 
--- 01's and (a)'s but room, over a list of values
+-- 01's, (a)'s and (f)'s but room, over a list of values
 unfoldable pub itemRules : Terms → Request → List Value → List (Rule × Bool)
 itemRules t r vs =
     requestRules t r
@@ -198,13 +227,13 @@ settingRules ls r old = (Setting, rule21 ls (changeOf r old) old) ∷ []
 unfoldable pub roomRules : Terms → ℕ → List Change → List Value → List (Rule × Bool)
 roomRules t size cs vs = (RecordSpace, rule18 t cs vs) ∷ (Room, rule13 t size cs vs) ∷ []
 
-unfoldable pub setBroken : Session → Request → List ℕ → Option Rule
-setBroken s r img =
+unfoldable pub setBroken : Bool → Session → Request → List ℕ → Option Rule
+setBroken modem s r img =
     firstBroken
     (imageRules img
-    ++ itemRules (termsOf s (requestKey r)) r (valuesOf img)
+    ++ itemRules (termsOf modem s (requestKey r)) r (valuesOf img)
     ++ settingRules (limitsFor (s .setup) (requestKey r)) r (find (requestKey r) (valuesOf img))
-    ++ roomRules (termsOf s (requestKey r)) (regionSize img) (changeIn r (valuesOf img) ∷ []) (valuesOf img))
+    ++ roomRules (termsOf modem s (requestKey r)) (regionSize img) (changeIn r (valuesOf img) ∷ []) (valuesOf img))
 
 -- "at runtime, values without RT are absent to get and next-name"
 unfoldable pub seen : Bool → List Value → List Value
@@ -219,9 +248,12 @@ unfoldable pub following : Key → List Value → Option Value
 following k [] = none
 following k (v ∷ vs) = cond (sameKey (keyOf v) k) (head vs) (following k vs)
 
--- the next value: the first after the empty name, whatever the GUID
-unfoldable pub valueToName : Bool → Key → List Value → Option Value
-valueToName runtime k vs = cond (same (k .name) emptyName) (head (seen runtime vs)) (following k (seen runtime vs))
+-- the next value: the first after the empty name, whatever the GUID; 02 (f): "Next-name shows a side only its own values"
+unfoldable pub nextOf : Key → List Value → Option Value
+nextOf k vs = cond (same (k .name) emptyName) (head vs) (following k vs)
+
+unfoldable pub valueToName : List ℕ → Bool → Bool → Key → List Value → Option Value
+valueToName guid modem runtime k vs = nextOf k (seen runtime (view guid modem vs))
 
 -- what a get and what next-name writes: the data; "the 16 GUID bytes and name"
 abbrev pub gotBytes : Value → List ℕ
@@ -234,32 +266,45 @@ namedBytes v = v .vendor ++ v .name
 unfoldable pub rule14 : Option Value → (Value → List ℕ) → List ℕ → Bool
 rule14 found bytes buffer = onSome found (λ v. ltb (length buffer) (length (bytes v))) false
 
--- "get and next-name 1, 2, 3, 11 and 14"
-unfoldable pub getBroken : Session → Key → List ℕ → List ℕ → Option Rule
-getBroken s k buffer img =
+-- "get and next-name 1, 2, 3, 11 and 14", with 22 after 3
+unfoldable pub getBroken : Bool → Session → Key → List ℕ → List ℕ → Option Rule
+getBroken modem s k buffer img =
     firstBroken
     (imageRules img
     ++ ((Name, rule3 k)
+    ∷ (Side, rule22 (s .setup .modem .vendor) modem k)
     ∷ (Absent, rule11Read (valueToGet (atRuntime s) k (valuesOf img)))
     ∷ (Buffer, rule14 (valueToGet (atRuntime s) k (valuesOf img)) gotBytes buffer)
     ∷ []))
 
-unfoldable pub nextBroken : Session → Key → List ℕ → List ℕ → Option Rule
-nextBroken s k buffer img =
+-- what next-name shows a side in a session
+abbrev pub valueNamed : Bool → Session → Key → List ℕ → Option Value
+valueNamed modem s k img = valueToName (s .setup .modem .vendor) modem (atRuntime s) k (valuesOf img)
+
+unfoldable pub nextBroken : Bool → Session → Key → List ℕ → List ℕ → Option Rule
+nextBroken modem s k buffer img =
     firstBroken
     (imageRules img
     ++ ((Name, rule3Next k)
-    ∷ (Absent, rule11Read (valueToName (atRuntime s) k (valuesOf img)))
-    ∷ (Buffer, rule14 (valueToName (atRuntime s) k (valuesOf img)) namedBytes buffer)
+    ∷ (Side, rule22Next (s .setup .modem .vendor) modem k)
+    ∷ (Absent, rule11Read (valueNamed modem s k img))
+    ∷ (Buffer, rule14 (valueNamed modem s k img) namedBytes buffer)
     ∷ []))
 
--- "start-up 1 and 2"
-unfoldable pub startUpBroken : List ℕ → Option Rule
-startUpBroken img = firstBroken ((Length, rule1 img) ∷ (Unready, rule2StartUp img) ∷ [])
+-- "start-up 1 and 2", and 22 after them
+unfoldable pub startUpBroken : Setup → List ℕ → Option Rule
+startUpBroken u img =
+    firstBroken ((Length, rule1 img) ∷ (Unready, rule2StartUp img) ∷ (Side, rule22StartUp u img) ∷ [])
 
--- "Locks meet 3, 15, 16 only"
-unfoldable pub lockBroken : Session → Key → Option Rule
-lockBroken s k = firstBroken ((Name, rule3 k) ∷ (LockPhase, rule15 s) ∷ (LockSpace, rule16 s k) ∷ [])
+-- "Locks meet 3, 15, 16 only", and 22 after 3
+unfoldable pub lockBroken : Bool → Session → Key → Option Rule
+lockBroken modem s k =
+    firstBroken
+    ((Name, rule3 k)
+    ∷ (Side, rule22 (s .setup .modem .vendor) modem k)
+    ∷ (LockPhase, rule15 s)
+    ∷ (LockSpace, rule16 modem s k)
+    ∷ [])
 
 -- "Formatting meets 1 only"
 unfoldable pub formatBroken : List ℕ → Option Rule

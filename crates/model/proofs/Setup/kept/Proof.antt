@@ -6,7 +6,7 @@ use Rattle.model.proofs.Setup.kept.Tie as tie
 
 returns : tie.Need-returns
 unfolding kept
-returns c = rw (c .before .flag .ensures, c .capped .ensures)
+returns c = rw (c .before .before .capped .ensures, c .before .flag .ensures, c .capped2 .ensures)
 
 pub kept-spec : {M : Type 1} → statement M
-kept-spec = tie.close (tie.spec (λ c κs. search needs) (λ c κs. search needs) returns)
+kept-spec = tie.close (tie.spec (λ c κs. search needs) (λ c κs. search needs) (λ c κs. search needs) returns)
