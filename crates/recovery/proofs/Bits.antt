@@ -17,12 +17,12 @@ use Rattle.model.specs.Image.{block, rightLength, regionSize, region}
 use Rattle.model.specs.Layout.{stateAt}
 use Rattle.model.specs.Entry.{Value}
 use Rattle.model.specs.Region.{entries, tailAt, valuesOf}
-use Rattle.model.specs.Work.{recordSpace}
+use Rattle.model.specs.Work.{recordSpace, readyForStartUp}
 use Rattle.model.specs.Change.{Change}
 use Rattle.model.specs.Rules.{firstBroken, rule1, formatBroken}
 use Rattle.model.specs.Stores.{stores, Bytes}
 use Rattle.model.specs.Set.{Plan, refuse, make, changesPlan}
-use Rattle.model.specs.StartUp.{formatStores, formatPlan}
+use Rattle.model.specs.StartUp.{startUpStores, formatStores, formatPlan}
 use Rattle.model.specs.Answers.{storesOf}
 use Rattle.model.specs.Book.{Call, callBroken, Kind, reads, writes, startsUp, kindOf, doing, planOf, Sized, changesBy, ClearsOne, isRecord, isState, inPlace, NoBitRises, MarksClearOneBit}
 use Rattle.model.proofs.Parts.{parts-size, parts-region}
@@ -79,7 +79,12 @@ unfolding storesOf stores
 kind-along w img bytes reads a = tt
 kind-along w img bytes (writes changes) a =
     writes-along (isRecord img) w img bytes (λ i j h l n. records-bare img .below j l) changes a (λ h. records-bare img)
-kind-along w img bytes startsUp a = startUp-along (isRecord img) img (a .0) (a .1) bytes (records-bare img) w
+kind-along w img bytes (startsUp setup) a = startUp-along (isRecord img) img (a .0) (a .1) bytes (records-bare img) w
+
+-- of a start-up's stores, whatever it is given
+pub startUp-marks : (w : ℕ) (img : List ℕ) → Bytes img → rightLength img ≡ true → readyForStartUp img ≡ true → ClearsOne (isRecord img) (stores w (startUpStores img)) img
+startUp-marks w img bytes long ready =
+    along-one (isRecord img) (stores w (startUpStores img)) img (startUp-along (isRecord img) img long ready bytes (records-bare img) w)
 
 call-along : (w : ℕ) (img : List ℕ) → Bytes img → (c : Call) → Sized c → Along (isRecord img) (storesOf w (planOf c img)) img
 unfolding planOf
@@ -115,7 +120,7 @@ states-along w img bytes o (writes changes) a c one h =
     along-one (isState img) (storesOf w (onSome o refuse (changesPlan img (changes (valuesOf img))))) img
     (unless-refused (isState img) w img o (changesPlan img (changes (valuesOf img)))
     (λ e. writes-along (isState img) w img bytes (states-tailed img) changes (a e) (λ n. absurd (true≢false (sym placed ∙ n)))))
-states-along w img bytes o startsUp a c one h = absurd (true≢false (ap isEmpty one))
+states-along w img bytes o (startsUp setup) a c one h = absurd (true≢false (ap isEmpty one))
 
 pub marks-clear-one-bit : MarksClearOneBit
 unfolding planOf

@@ -75,9 +75,9 @@ module _ (P : List ℕ → Type 0) {b : ℕ} {r w c : List ℕ} (p : Parts b r w
 
 -- with the values that the spare holds
 pub finish-goes : (K : List Value) {b : ℕ} {r w c : List ℕ} (p : Parts b r w c) → wellFormed w ≡ true → endsInFC w ≡ true → clean c ≡ true → values (entries c) ≡ K
-    → Goes (Holding K) (finish b (usedRecords w - 1) c) (r ++ (w ++ c)) (c ++ (set w (usedRecords w - 1) 0xF8 ++ replicate (block * b) 0xFF))
+    → Goes (Holding b K) (finish b (usedRecords w - 1) c) (r ++ (w ++ c)) (c ++ (set w (usedRecords w - 1) 0xF8 ++ replicate (block * b) 0xFF))
 finish-goes K {b} {r} {w} {c} p formed ended cleaned held =
-    finish-safe (Holding K) p formed ended
+    finish-safe (Holding b K) p formed ended
     (λ x l. spare-holds b x w c (record { low = p .low; high = p .high; region-long = l; work-long = p .work-long; spare-long = p .spare-long }) formed ended cleaned held)
     (λ w′ x m l q. region-holds b c w′ x (record { low = p .low; high = p .high; region-long = p .spare-long; work-long = m; spare-long = l }) (clean-sound c cleaned) held (inl q))
 
@@ -168,8 +168,8 @@ module _ (P : List ℕ → Type 0) {b : ℕ} {r w s : List ℕ} (p : Parts b r w
 -- with the values that the region holds
 module _ (K : List Value) {b : ℕ} {r w s : List ℕ} (p : Parts b r w s)
     (rested : idle w ≡ true) (free : allFF s ≡ true) (sounds : sound r ≡ true) (held : values (entries r) ≡ K) where
-  pub region-keeps : (x y : List ℕ) → length x ≡ block → length y ≡ block * b → (idle x ≡ true) ⊎ (allFF y ≡ true) → Holding K (r ++ (x ++ y))
+  pub region-keeps : (x y : List ℕ) → length x ≡ block → length y ≡ block * b → (idle x ≡ true) ⊎ (allFF y ≡ true) → Holding b K (r ++ (x ++ y))
   region-keeps x y l m q = region-holds b r x y (record { low = p .low; high = p .high; region-long = p .region-long; work-long = l; spare-long = m }) sounds held q
 
-  pub begin-goes : (c : List ℕ) → length c ≡ block * b → Begun (Holding K) p rested free region-keeps c
-  begin-goes c l = begin-safe (Holding K) p rested free region-keeps c l
+  pub begin-goes : (c : List ℕ) → length c ≡ block * b → Begun (Holding b K) p rested free region-keeps c
+  begin-goes c l = begin-safe (Holding b K) p rested free region-keeps c l

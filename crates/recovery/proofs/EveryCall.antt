@@ -39,16 +39,16 @@ pub record Lets (changes : List Value → List Change) (img : List ℕ) : Type 0
 abbrev pub Accepted : Kind → List ℕ → Type 0
 Accepted reads img = (rightLength img ≡ true) × (readyForCall img ≡ true)
 Accepted (writes changes) img = Lets changes img
-Accepted startsUp img = (rightLength img ≡ true) × (readyForStartUp img ≡ true)
+Accepted (startsUp setup) img = (rightLength img ≡ true) × (readyForStartUp img ≡ true)
 
 -- this is what each call has of its own
 pub accepted : (c : Call) (img : List ℕ) → Sized c → callBroken c img ≡ none → Accepted (kindOf c) img
-accepted (set s r) img sized e = record {
-  long = set-length s r img e;
-  ready = set-ready s r img e;
-  fitting = set-fitting s r img e (sized .2);
+accepted (set m s r) img sized e = record {
+  long = set-length m s r img e;
+  ready = set-ready m s r img e;
+  fitting = set-fitting m s r img e (sized .2);
   bytewise = λ bytes. (λ v c. put-bytes r (valuesOf img) v c (image-values img bytes) (sized .0) (sized .1) (sized .3), tt);
 }
-accepted (get s k buffer) img sized e = get-ready s k buffer img e
-accepted (next s k buffer) img sized e = next-ready s k buffer img e
-accepted (startUp setup) img sized e = (startUp-length img e, startUp-ready img e)
+accepted (get m s k buffer) img sized e = get-ready m s k buffer img e
+accepted (next m s k buffer) img sized e = next-ready m s k buffer img e
+accepted (startUp setup) img sized e = (startUp-length setup img e, startUp-ready setup img e)

@@ -11,9 +11,12 @@ use mathlib.Core.Option.{Option, none, some}
 use lib.ListN.{length, take, drop, length-append, take-append-drop}
 use lib.Dec.{eqb, leb, ltb}
 use borrow.Author.Tests.{le-leb}
+use Rattle.model.specs.declared.Setup.{Setup}
 use Rattle.model.specs.declared.Rule.{Rule}
 use Rattle.model.specs.declared.Rule.the-variants as rule
 use Rattle.model.specs.Lists.{isEmpty}
+use Rattle.model.specs.Sides.{allotted}
+use Rattle.model.specs.Image.{blocks, regionSize}
 use Rattle.model.specs.Entry.{Value}
 use Rattle.model.specs.Region.{valuesOf, find}
 use Rattle.model.specs.Request.{requestKey}
@@ -31,12 +34,12 @@ use Rattle.plan.specs.Planned.{upTo}
 use Rattle.plan.specs.Told.{storesOfNumbers, expandNumbers, noOperations, refusalOf, Told}
 use Rattle.recovery.specs.Claims.{forbidden}
 use Rattle.recovery.specs.Host.{carriedOut, decidingDone, Hosting, none-yet, carried-out, power-failed, HostBegun, by-start-up, by-move, HostKeepsTheBook, HostKeepsSettings}
-use Rattle.recovery.proofs.Invariant.{Holding}
+use Rattle.recovery.proofs.Invariant.{Holding, holding-blocks}
 use Rattle.recovery.proofs.EveryCall.{plan-refused}
 use Rattle.recovery.proofs.Done.{settings-kept}
 use Rattle.recovery.proofs.Interface.{move-begins, session-limits}
 use Rattle.recovery.proofs.StartingUp.{Ready, ready-holds}
-use Rattle.recovery.proofs.Theorem.{call-kept, book-cond, call-cut, startUp-plan, startUp-refused, startUp-leaves, startUp-holds, holding-accepted, begins-ready}
+use Rattle.recovery.proofs.Theorem.{call-kept, book-cond, call-cut, startUp-plan, startUp-refused, startUp-leaves, startUp-holds, holding-judged, begins-ready}
 
 -- ---- the stores that were told
 
@@ -56,7 +59,7 @@ unfolding expandNumbers storesOfNumbers noOperations
 none-stored content = refl
 
 -- all operations told are all stores planned
-told-stores : (w : ℕ) (plan : Plan) (content : List ℕ) (p : HostPlan) → Told plan content p → stores w (expandNumbers content (p .ops)) ≡ storesOf w plan
+pub told-stores : (w : ℕ) (plan : Plan) (content : List ℕ) (p : HostPlan) → Told plan content p → stores w (expandNumbers content (p .ops)) ≡ storesOf w plan
 unfolding storesOf stores refusalOf
 told-stores w (refuse r) content p e = ap (λ (h : HostPlan). stores w (expandNumbers content (h .ops))) e ∙ ap (stores w) (none-stored content)
 told-stores w (make to on) content p t =
@@ -73,7 +76,7 @@ told-left w plan content p part t =
 
 -- ---- the rule told
 
-no-rule-zero : (r : Rule) → eqb (ruleNumber r) 0 ≡ false
+pub no-rule-zero : (r : Rule) → eqb (ruleNumber r) 0 ≡ false
 no-rule-zero rule.Length = refl
 no-rule-zero rule.Unready = refl
 no-rule-zero rule.Name = refl
@@ -95,10 +98,11 @@ no-rule-zero rule.RecordSpace = refl
 no-rule-zero rule.Source = refl
 no-rule-zero rule.TimeBased = refl
 no-rule-zero rule.Setting = refl
+no-rule-zero rule.Side = refl
 no-rule-zero rule.Worn = refl
 
 -- rule 0 is told of a plan that is accepted only
-told-accepted : (plan : Plan) (content : List ℕ) (p : HostPlan) → Told plan content p → p .rule ≡ 0 → (r : Rule) → plan ≡ refuse r → ⊥
+pub told-accepted : (plan : Plan) (content : List ℕ) (p : HostPlan) → Told plan content p → p .rule ≡ 0 → (r : Rule) → plan ≡ refuse r → ⊥
 unfolding refusalOf
 told-accepted plan content p t z r e =
     let refused : Told (refuse r) content p = subst (λ (q : Plan). Told q content p) e t in
@@ -107,7 +111,7 @@ told-accepted plan content p t z r e =
 -- ---- the deciding operation told
 
 -- a call of a run whose plan has no deciding store leaves the book
-none-decides : (K : List Value) (part : List ℕ) (c : Call) → Sized c → Holding K part → (to on : List Write) → planOf c part ≡ make to on → isEmpty to ≡ true
+none-decides : (K : List Value) (part : List ℕ) (c : Call) → Sized c → Holding (blocks part) K part → (to on : List Write) → planOf c part ≡ make to on → isEmpty to ≡ true
     → entered c K ≡ K
 none-decides K part c sized holds to on e h = go (callBroken c part) refl
   where
@@ -124,7 +128,7 @@ none-decides K part c sized holds to on e h = go (callBroken c part) refl
     go (some r) f = absurd (not-both r (sym (plan-refused c part r f) ∙ e))
 
 -- in the plan's own numbers, or by the definitions: the book is the same
-module _ (w : ℕ) (K : List Value) (part : List ℕ) (c : Call) (sized : Sized c) (holds : Holding K part) (content : List ℕ) (p : HostPlan) (t : Told (planOf c part) content p) where
+module _ (w : ℕ) (K : List Value) (part : List ℕ) (c : Call) (sized : Sized c) (holds : Holding (blocks part) K part) (content : List ℕ) (p : HostPlan) (t : Told (planOf c part) content p) where
   -- told of a plan with an empty front that it is complete: the call leaves the book anyway
   by-front : (to on : List Write) → planOf c part ≡ make to on → (e : Bool) → isEmpty to ≡ e → (t : Bool)
       → bookAfter c (not e && t) K ≡ bookAfter c t K
@@ -133,7 +137,7 @@ module _ (w : ℕ) (K : List Value) (part : List ℕ) (c : Call) (sized : Sized 
   by-front to on e true f true = book-cond c false K ∙ sym (none-decides K part c sized holds to on e f) ∙ sym (book-cond c true K)
 
   -- cut after k stores
-  told-decided : (k : ℕ) → bookAfter c (decided w k (planOf c part)) K ≡ bookAfter c (decidingDone w k content p) K
+  pub told-decided : (k : ℕ) → bookAfter c (decided w k (planOf c part)) K ≡ bookAfter c (decidingDone w k content p) K
   unfolding decided refusalOf
   told-decided k = by-plan (planOf c part) refl t
     where
@@ -153,7 +157,7 @@ module _ (w : ℕ) (K : List Value) (part : List ℕ) (c : Call) (sized : Sized 
       by-plan (make to on) e t = by-number to on e (ltb (p .deciding) 12) refl (t .1)
 
   -- carried out: the rule 0 tells that it is done
-  told-carried : bookAfter c (decided w (length (storesOf w (planOf c part))) (planOf c part)) K ≡ bookAfter c (eqb (p .rule) 0) K
+  pub told-carried : bookAfter c (decided w (length (storesOf w (planOf c part))) (planOf c part)) K ≡ bookAfter c (eqb (p .rule) 0) K
   unfolding decided storesOf refusalOf
   told-carried = by-plan (planOf c part) refl t
     where
@@ -167,43 +171,58 @@ module _ (w : ℕ) (K : List Value) (part : List ℕ) (c : Call) (sized : Sized 
 
 -- ---- so the part holds the book
 
-hosting-holds : (start : List ℕ) → Ready start → {part : List ℕ} {book : List Value} → Hosting start part book → Holding book part
+pub hosting-holds : (start : List ℕ) → Ready start → {part : List ℕ} {book : List Value} → Hosting start part book → Holding (blocks start) book part
 hosting-holds start ready none-yet = ready-holds start ready
 hosting-holds start ready (carried-out {part} {book} hosting c sized content p planned w) =
+    let b = blocks start in
     let holds = hosting-holds start ready hosting in
+    let here = subst (λ (n : ℕ). Holding n book part) (sym (holding-blocks b book part holds)) holds in
     let plan = planOf c part in
     let k = length (storesOf w plan) in
-    subst (λ (x : List ℕ). Holding (bookAfter c (eqb (p .rule) 0) book) x) (sym (told-left w plan content p part planned))
-    (subst (λ (vs : List Value). Holding vs (after k (storesOf w plan) part)) (told-carried w book part c sized holds content p planned)
-    (call-cut w book part (after k (storesOf w plan) part) c sized holds k (inl refl)))
+    subst (λ (x : List ℕ). Holding b (bookAfter c (eqb (p .rule) 0) book) x) (sym (told-left w plan content p part planned))
+    (subst (λ (vs : List Value). Holding b vs (after k (storesOf w plan) part)) (told-carried w book part c sized here content p planned)
+    (call-cut w b book part (after k (storesOf w plan) part) c sized holds k (inl refl)))
 hosting-holds start ready (power-failed {part} {part′} {book} hosting c sized content p planned w k left) =
+    let b = blocks start in
     let holds = hosting-holds start ready hosting in
-    subst (λ (vs : List Value). Holding vs part′) (told-decided w book part c sized holds content p planned k)
-    (call-cut w book part part′ c sized holds k (subst (λ (ss : List Store). Cut ss k part part′) (told-stores w (planOf c part) content p planned) left))
+    let here = subst (λ (n : ℕ). Holding n book part) (sym (holding-blocks b book part holds)) holds in
+    subst (λ (vs : List Value). Holding b vs part′) (told-decided w book part c sized here content p planned k)
+    (call-cut w b book part part′ c sized holds k (subst (λ (ss : List Store). Cut ss k part part′) (told-stores w (planOf c part) content p planned) left))
 
 -- ---- what it begins on
 
 -- an accepted start-up's stores, and what they leave
-startUp-told : (w : ℕ) (img content : List ℕ) (p : HostPlan) → startUpBroken img ≡ none → Told (startUpPlan img) content p
+pub startUp-told : (u : Setup) (w : ℕ) (img content : List ℕ) (p : HostPlan) → startUpBroken u img ≡ none → Told (startUpPlan u img) content p
     → carriedOut w content p img ≡ applyAll (stores w (startUpStores img)) img
 unfolding storesOf
-startUp-told w img content p accepted t =
-    ap (λ (ss : List Store). applyAll ss img) (told-stores w (startUpPlan img) content p t ∙ ap (storesOf w) (startUp-plan img accepted))
+startUp-told u w img content p accepted t =
+    ap (λ (ss : List Store). applyAll ss img) (told-stores w (startUpPlan u img) content p t ∙ ap (storesOf w) (startUp-plan u img accepted))
 
-host-begins : (start : List ℕ) → HostBegun start → Ready start
-host-begins start (by-start-up before content p bytes up zero w) = go (startUpBroken before) refl
+pub host-begins : (start : List ℕ) → HostBegun start → Ready start
+host-begins start (by-start-up u before content p bytes up zero w) = go (startUpBroken u before) refl
   where
-    go : (o : Option Rule) → startUpBroken before ≡ o → Ready (carriedOut w content p before)
-    go none e = subst Ready (sym (startUp-told w before content p e up)) (startUp-leaves w before e)
-    go (some r) e = absurd (told-accepted (startUpPlan before) content p up zero r (startUp-refused before r e))
+    go : (o : Option Rule) → startUpBroken u before ≡ o → Ready (carriedOut w content p before)
+    go none e = subst Ready (sym (startUp-told u w before content p e up)) (startUp-leaves u w before e)
+    go (some r) e = absurd (told-accepted (startUpPlan u before) content p up zero r (startUp-refused u before r e))
 host-begins start (by-move from source target m) = begins-ready start (move-begins start from source target m)
 
 pub host-keeps-the-book : HostKeepsTheBook
-host-keeps-the-book start part content book p begun hosting again w =
-    let holds = hosting-holds start (host-begins start begun) hosting in
-    let accepted = holding-accepted book part holds in
-    let told : Told (make [] (startUpStores part)) content p = subst (λ (plan : Plan). Told plan content p) (startUp-plan part accepted) again in
-    (told .0, ap valuesOf (startUp-told w part content p accepted again) ∙ startUp-holds w book part holds)
+unfolding refusalOf
+host-keeps-the-book u start part content book p begun hosting again = (
+  λ zero w. left (startUpBroken u part) refl zero w,
+  λ fits. told-as (startUp-plan u part (judged ∙ rw fits)) .0,
+  λ unfit. ap (λ (h : HostPlan). h .rule) (told-as (startUp-refused u part rule.Side (judged ∙ rw unfit))),
+)
+  where
+    judged : startUpBroken u part ≡ cond (allotted u (regionSize part) book) none (some rule.Side)
+    judged = holding-judged u book part (hosting-holds start (host-begins start begun) hosting)
+
+    told-as : {plan : Plan} → startUpPlan u part ≡ plan → Told plan content p
+    told-as e = subst (λ (x : Plan). Told x content p) e again
+
+    left : (o : Option Rule) → startUpBroken u part ≡ o → p .rule ≡ 0 → (w : ℕ) → valuesOf (carriedOut w content p part) ≡ book
+    left none e zero w = ap valuesOf (startUp-told u w part content p e again) ∙ startUp-holds w book part (hosting-holds start (host-begins start begun) hosting)
+    left (some r) e zero w = absurd (told-accepted (startUpPlan u part) content p again zero r (startUp-refused u part r e))
 
 -- ---- rules for settings: rule 0 tells that none is broken
 
@@ -215,11 +234,11 @@ told-unbroken c part content p t zero = go (callBroken c part) refl
     go (some r) e = absurd (told-accepted (planOf c part) content p t zero r (plan-refused c part r e))
 
 pub host-keeps-settings : HostKeepsSettings
-host-keeps-settings setup s r part content p i long planned zero w =
+host-keeps-settings setup m s r part content p i long planned zero w =
     let k = requestKey r in
-    let accepted = told-unbroken (set s r) part content p planned zero in
+    let accepted = told-unbroken (set m s r) part content p planned zero in
     ap₂
     (λ (ls : List Limit) (left : List ℕ). forbidden ls (find k (valuesOf left)))
     (sym (session-limits i k))
-    (ap (λ (ss : List Store). applyAll ss part) (told-stores w (setPlan s r part) content p planned))
-    ∙ settings-kept s r part long accepted w
+    (ap (λ (ss : List Store). applyAll ss part) (told-stores w (setPlan m s r part) content p planned))
+    ∙ settings-kept m s r part long accepted w

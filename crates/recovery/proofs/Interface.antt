@@ -79,7 +79,7 @@ move-begins start from source target m =
 begun-begins : (start : List ℕ) → Begun start → Begins start
 unfolding planOf startUpPlan
 begun-begins start (by-start-up before bytes setup x stores up) =
-    started (record { before = before; bytes = bytes; context = x; stores = stores; finished = sym (up .0); left = up .1 })
+    started (record { setup = setup; before = before; bytes = bytes; context = x; stores = stores; finished = sym (up .0); left = up .1 })
 begun-begins start (by-move from source target m) = move-begins start from source target m
 
 pub interface-keeps-the-book : InterfaceKeepsTheBook
@@ -99,20 +99,20 @@ moved-setup s p = go (leb (countedPhase p) (countedPhase (s .phase)))
     go true = refl
     go false = refl
 
-lock-setup : (s : Session) (k : Key) → lockSession s k .setup ≡ s .setup
+lock-setup : (m : Bool) (s : Session) (k : Key) → lockSession m s k .setup ≡ s .setup
 unfolding lockSession lockedSession withLock
-lock-setup s k = go (lockBroken s k) (locked s k)
+lock-setup m s k = go (lockBroken m s k) (locked s k)
   where
     go : (o : Option Rule) (b : Bool) → onSome o (λ rule. s) (cond b s (withLock s k)) .setup ≡ s .setup
     go (some rule) b = refl
     go none true = refl
     go none false = refl
 
-kept-setup : {setup : Setup} {s : Session} → InSession setup s → s .setup ≡ kept setup
+pub kept-setup : {setup : Setup} {s : Session} → InSession setup s → s .setup ≡ kept setup
 unfolding freshSession
 kept-setup fresh = refl
 kept-setup (moved {s} i p) = moved-setup s p ∙ kept-setup i
-kept-setup (lock-asked {s} i k) = lock-setup s k ∙ kept-setup i
+kept-setup (lock-asked {s} i m k) = lock-setup m s k ∙ kept-setup i
 
 -- and the rules among it are kept as they were given
 kept-limits : (setup : Setup) (k : Key) → limitsFor (kept setup) k ≡ limitsFor setup k
@@ -123,8 +123,8 @@ pub session-limits : {setup : Setup} {s : Session} → InSession setup s → (k 
 session-limits {setup} i k = ap (λ (u : Setup). limitsFor u k) (kept-setup i) ∙ kept-limits setup k
 
 pub interface-keeps-settings : InterfaceKeepsSettings
-interface-keeps-settings setup s r x img img′ stores i long m =
+interface-keeps-settings setup m s r x img img′ stores i long made =
     let k = requestKey r in
     let left : forbidden (limitsFor (s .setup) k) (find k (valuesOf img′)) ≡ false =
-    ap (λ (y : List ℕ). forbidden (limitsFor (s .setup) k) (find k (valuesOf y))) (m .1) ∙ sets-keep-settings s r img x stores long (sym (m .0)) in
+    ap (λ (y : List ℕ). forbidden (limitsFor (s .setup) k) (find k (valuesOf y))) (made .1) ∙ sets-keep-settings m s r img x stores long (sym (made .0)) in
     ap (λ (ls : List Limit). forbidden ls (find k (valuesOf img′))) (sym (session-limits i k)) ∙ left

@@ -19,8 +19,23 @@ pub mod EveryCall
 pub mod Theorem
 -- A call that is done, and what a set leaves
 pub mod Done
+-- What a side sees, and what its values take of its share
+pub mod Views
+pub mod Shares
+-- What a side's call changes is of its own names
+pub mod Owned
 -- The claims beside Demand 3
 pub mod Claims
+-- Sets keep to the shares, so a start-up that is given them is not refused
+pub mod Usable
+-- The lock list of a session of a start-up
+pub mod Locking
+-- A side's set is judged by what the side sees
+pub mod Judging
+-- Nothing that one side asks alters what the other is told or sees
+pub mod Isolation
+-- 01's cases
+pub mod Alone
 -- Lists of bytes: what is written for a value, and what an image of bytes holds
 pub mod ByteLists
 -- Stores that raise no bit, and marks that clear one
@@ -41,7 +56,14 @@ pub mod WholePages
 pub mod Counts
 -- The interface: by their contracts, calls to it are a run
 pub mod Interface
+-- And calls of two sides are a history
+pub mod Uses
 -- A host that carries out plans by itself: what it was told is what the definitions plan
 pub mod Host
--- What a query tells
+-- Its sets keep to shares under which they are planned
+pub mod HostShares
+-- And its calls of two sides are a history
+pub mod HostUses
+-- What a query tells; and the other side alters nothing of it
 pub mod Query
+pub mod QueryApart

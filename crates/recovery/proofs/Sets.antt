@@ -14,7 +14,7 @@ use Rattle.model.specs.Layout.{authenticated, stateAt}
 use Rattle.model.specs.Lists.{any, allFF, onSome, isSome}
 use Rattle.model.specs.Region.{cleanIn, valuesIn}
 use Rattle.model.specs.Name.{Key, sameKey}
-use Rattle.model.specs.Image.{block}
+use Rattle.model.specs.Image.{block, blocks}
 use Rattle.model.specs.Entry.{Value, keyOf, entrySize, entryBytes}
 use Rattle.model.specs.Walk.{Entry, stateOf, entryKey, entryValue}
 use Rattle.model.specs.Region.{entries, tailAt, tail, values, valuesOf, sound, clean, within, isEntry, added, find}
@@ -27,7 +27,7 @@ use Rattle.model.proofs.Tests.{and-split, key-refl, true-and}
 use Rattle.model.proofs.Chunks.{entryOf, Made, made-length, made-entries, made-tailAt, made-tail, soundEntries, Chunked, region-chunked, restated}
 use Rattle.model.proofs.Values.{leftover-marked, add-added}
 use Rattle.recovery.proofs.Cuts.{Goes, goes-nowhere, goes-append, bit-3C}
-use Rattle.model.proofs.Parts.{Parts, parts-region}
+use Rattle.model.proofs.Parts.{Parts, parts-blocks, parts-region}
 use Rattle.model.specs.Beside.{Valid}
 use Rattle.model.proofs.Encode.{AllValid, Distinct, allFF-blank, blank-allFF, blank-stops, entry-reads, entry-framed, right-value, length-entry}
 use Rattle.recovery.proofs.Invariant.{Holding, region-holds}
@@ -36,14 +36,15 @@ use Rattle.recovery.proofs.StartingUp.{Ready, compacted}
 use Rattle.recovery.proofs.Marks.{State, state-sound, state-entries, Place, mark-goes, delete-goes, Old, noOld, oldAt, prepare}
 use Rattle.recovery.proofs.TailWrite.{ff, ff-length, tailPlace, front-of, size-split, with-tail, write-goes}
 
--- ---- a plan that keeps K up to its deciding store, and K′ from there on
+-- ---- a plan that keeps K up to its deciding store, and K′ from there on, in a region of b blocks
 
-pub record Kept (K K′ : List Value) (to on : List Write) (img : List ℕ) : Type 0 where
+pub record Kept (b : ℕ) (K K′ : List Value) (to on : List Write) (img : List ℕ) : Type 0 where
   pub middle : List ℕ
   pub end : List ℕ
-  pub to-goes : Goes (Holding K) to img middle
-  pub on-goes : Goes (Holding K′) on middle end
+  pub to-goes : Goes (Holding b K) to img middle
+  pub on-goes : Goes (Holding b K′) on middle end
   pub ready : Ready end
+  pub sized : blocks end ≡ b
   pub held : valuesOf end ≡ K′
 
 -- ---- an entry written in the tail
@@ -152,7 +153,7 @@ module _ {b : ℕ} {r w s : List ℕ} (p : Parts b r w s) (rested : idle w ≡ t
   pub same-parts : {r′ : List ℕ} → length r′ ≡ block * b → Parts b r′ w s
   same-parts l = record { low = p .low; high = p .high; region-long = l; work-long = p .work-long; spare-long = p .spare-long }
 
-  state-holds : (floor : ℕ) (K : List Value) (r t : List ℕ) (es : List Entry) → State (block * b) floor r t es → values es ≡ K → Holding K (r ++ (w ++ s))
+  state-holds : (floor : ℕ) (K : List Value) (r t : List ℕ) (es : List Entry) → State (block * b) floor r t es → values es ≡ K → Holding b K (r ++ (w ++ s))
   state-holds floor K r t es st kept = region-holds b r w s (same-parts (st .long)) (state-sound st) (ap values (state-entries st) ∙ kept) (inl rested)
 
   state-clean : {floor : ℕ} {r : List ℕ} (j : ℕ) {es : List Entry} → State (block * b) floor r (ff j) es → clean r ≡ true
@@ -171,6 +172,9 @@ module _ {b : ℕ} {r w s : List ℕ} (p : Parts b r w s) (rested : idle w ≡ t
     free = free;
     rested = rested;
   }
+
+  state-sized : {floor : ℕ} {r t : List ℕ} {es : List Entry} → State (block * b) floor r t es → blocks (r ++ (w ++ s)) ≡ b
+  state-sized {floor} {r} st = parts-blocks (same-parts {r′ = r} (st .long))
 
   state-values : {floor : ℕ} {r t : List ℕ} {es : List Entry} → State (block * b) floor r t es → valuesOf (r ++ (w ++ s)) ≡ values es
   unfolding valuesIn
@@ -203,36 +207,38 @@ module _ {b : ℕ} {r w s : List ℕ} (p : Parts b r w s) (rested : idle w ≡ t
   its-state = its-state-above 0 (omega arith)
 
   -- no change
-  pub nothing-kept : Kept K₀ K₀ [] [] (r ++ (w ++ s))
+  pub nothing-kept : Kept b K₀ K₀ [] [] (r ++ (w ++ s))
   nothing-kept =
       let ready : Ready (r ++ (w ++ s)) = record { b = b; r = r; w = w; s = s; parts = p; whole = refl; cleaned = cleaned; free = free; rested = rested } in
       record {
         middle = r ++ (w ++ s);
         end = r ++ (w ++ s);
-        to-goes = goes-nowhere (Holding K₀) (r ++ (w ++ s));
-        on-goes = goes-nowhere (Holding K₀) (r ++ (w ++ s));
+        to-goes = goes-nowhere (Holding b K₀) (r ++ (w ++ s));
+        on-goes = goes-nowhere (Holding b K₀) (r ++ (w ++ s));
         ready = ready;
+        sized = parts-blocks p;
         held = state-values p rested free its-state;
       }
 
   -- a delete
-  pub delete-kept : (k : Key) → isSome (find k K₀) ≡ true → Kept K₀ (without k K₀) (deleteTo k (entries r)) [] (r ++ (w ++ s))
+  pub delete-kept : (k : Key) → isSome (find k K₀) ≡ true → Kept b K₀ (without k K₀) (deleteTo k (entries r)) [] (r ++ (w ++ s))
   delete-kept k present =
-      let d = delete-goes (Holding K₀) K₀ (block * b) 0 (w ++ s) (state-holds p rested free 0 K₀) its-state refl k present in
+      let d = delete-goes (Holding b K₀) K₀ (block * b) 0 (w ++ s) (state-holds p rested free 0 K₀) its-state refl k present in
       let n = length (tail r) in
       let st = subst (λ (t : List ℕ). State (block * b) 0 (d .r′) t (d .es′)) (clean-blank r cleaned) (d .state) in
       record {
         middle = d .r′ ++ (w ++ s);
         end = d .r′ ++ (w ++ s);
         to-goes = d .goes;
-        on-goes = goes-nowhere (Holding (without k K₀)) (d .r′ ++ (w ++ s));
+        on-goes = goes-nowhere (Holding b (without k K₀)) (d .r′ ++ (w ++ s));
         ready = state-ready p rested free n st;
+        sized = state-sized p rested free st;
         held = state-values p rested free st ∙ d .gone;
       }
 
   -- an entry in the tail
   pub tail-kept : (v : Value) → Valid v → fitsTail r v ≡ true
-      → Kept K₀ (without (keyOf v) K₀ ++ (v ∷ [])) (tailTo (tailAt r) v (entries r)) (tailOn v (entries r)) (r ++ (w ++ s))
+      → Kept b K₀ (without (keyOf v) K₀ ++ (v ∷ [])) (tailTo (tailAt r) v (entries r)) (tailOn v (entries r)) (r ++ (w ++ s))
   unfolding fitsTail
   tail-kept v valid fits =
       let j = length (tail r) - entrySize v in
@@ -241,7 +247,7 @@ module _ {b : ℕ} {r w s : List ℕ} (p : Parts b r w s) (rested : idle w ≡ t
       (sym (made-tailAt authenticated (its-state .made))) in
       let enough : length (tail r) ≡ entrySize v + j = omega arith in
       let K′ = without (keyOf v) K₀ ++ (v ∷ []) in
-      let t = tail-written (Holding K₀) (Holding K′) K₀ (block * b) 0 (w ++ s) v valid (state-holds p rested free 0 K₀) (state-holds p rested free 0 K′) its-state refl j
+      let t = tail-written (Holding b K₀) (Holding b K′) K₀ (block * b) 0 (w ++ s) v valid (state-holds p rested free 0 K₀) (state-holds p rested free 0 K′) its-state refl j
       (clean-blank r cleaned ∙ ap ff enough) (omega arith) in
       record {
         middle = t .r₁ ++ (w ++ s);
@@ -249,12 +255,13 @@ module _ {b : ℕ} {r w s : List ℕ} (p : Parts b r w s) (rested : idle w ≡ t
         to-goes = t .to-goes;
         on-goes = t .on-goes;
         ready = state-ready p rested free j (t .state);
+        sized = state-sized p rested free (t .state);
         held = state-values p rested free (t .state) ∙ t .stands;
       }
 
   -- a compaction
   pub compact-kept : (vs : List Value) → AllValid authenticated vs → Distinct vs → spaceOf vs ≤ block * b
-      → Kept K₀ vs (compactTo (r ++ (w ++ s)) vs) (compactOn (r ++ (w ++ s)) vs) (r ++ (w ++ s))
+      → Kept b K₀ vs (compactTo (r ++ (w ++ s)) vs) (compactOn (r ++ (w ++ s)) vs) (r ++ (w ++ s))
   compact-kept vs valid distinct fits =
       let c = compacted K₀ vs p rested free (clean-sound r cleaned) refl valid distinct fits in
-      record { middle = c .middle; end = c .end; to-goes = c .to; on-goes = c .on; ready = c .ready; held = c .held }
+      record { middle = c .middle; end = c .end; to-goes = c .to; on-goes = c .on; ready = c .ready; sized = c .sized; held = c .held }

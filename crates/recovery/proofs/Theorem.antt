@@ -13,10 +13,12 @@ use lib.Seq.{take-nil}
 use lib.Dec.{leb, ltb}
 use borrow.Author.Tests.{leb-true, leb-false, le-leb}
 use Rattle.model.specs.Layout.{authenticated, stateAt}
+use Rattle.model.specs.declared.Setup.{Setup}
 use Rattle.model.specs.declared.Session.{Session}
 use Rattle.model.specs.declared.Context.{Context}
 use Rattle.model.specs.Region.{valuesIn}
 use Rattle.model.specs.declared.Rule.{Rule}
+use Rattle.model.specs.declared.Rule.the-variants.{Side}
 use Rattle.model.specs.Lists.{allFF, onSome, isSome, isEmpty}
 use Rattle.model.specs.Name.{Key}
 use Rattle.model.specs.Image.{block, blocks, rightLength, regionSize, region, work}
@@ -26,6 +28,7 @@ use Rattle.model.specs.Region.{entries, tailAt, tail, values, valuesOf, sound, 
 use Rattle.model.specs.Work.{wellFormed, endsInFC, idle, pending, readyForStartUp, readyIn}
 use Rattle.model.specs.Request.{Request}
 use Rattle.model.specs.Change.{Change, nothing, remove, put, changeIn, step, steps, without}
+use Rattle.model.specs.Sides.{allotted}
 use Rattle.model.specs.Rules.{setBroken, startUpBroken}
 use Rattle.model.specs.Stores.{Store, Write, write, clear, stores, run, mark, applyAll, after, reach, Cut}
 use Rattle.model.specs.Compact.{encode, allUsed, nextRecord, compactTo, compactOn, fillSpare}
@@ -42,33 +45,33 @@ use Rattle.recovery.proofs.EveryCall.{plan-accepted, plan-refused, Acce
 use Rattle.model.proofs.Parts.{Parts, parts-region, parts-work, parts-spare, parts-size, parts-right}
 use Rattle.model.proofs.Changes.{Fitting, steps-valid, steps-distinct}
 use Rattle.model.proofs.Encode.{sound-valid, sound-distinct}
-use Rattle.model.proofs.Requests.{set-length, set-ready, set-fitting, startUp-length, startUp-ready, startUp-accepted}
-use Rattle.recovery.proofs.Invariant.{Holding, in-spare, in-region}
+use Rattle.model.proofs.Requests.{set-length, set-ready, set-fitting, startUp-length, startUp-ready, startUp-judged}
+use Rattle.recovery.proofs.Invariant.{Holding, in-spare, in-region, holding-blocks}
 use Rattle.recovery.proofs.Compaction.{clean-sound}
 use Rattle.model.specs.Move.{moved, imageMoved}
 use Rattle.model.proofs.Moving as moves
-use Rattle.recovery.proofs.StartingUp.{Ready, ready-of, ready-holds, startUp-holding, startUp-any}
+use Rattle.recovery.proofs.StartingUp.{Ready, ready-of, ready-blocks, ready-holds, startUp-holding, startUp-any, found-holding}
 use Rattle.recovery.proofs.Marks.{State}
 use Rattle.recovery.proofs.Sets.{Kept, its-state, nothing-kept, delete-kept, tail-kept, compact-kept}
 
 -- ---- a call that breaks no rule: its plan keeps K up to the deciding store, and K′ from there on
 
-pub record PlanKept (planned : Plan) (img : List ℕ) (K K′ : List Value) : Type 0 where
+pub record PlanKept (b : ℕ) (planned : Plan) (img : List ℕ) (K K′ : List Value) : Type 0 where
   pub to : List Write
   pub on : List Write
   pub plan : planned ≡ make to on
-  pub kept : Kept K K′ to on img
+  pub kept : Kept b K K′ to on img
   pub decides : isEmpty to ≡ true → K′ ≡ K
 
-planned-as : {p q : Plan} {img : List ℕ} {K K′ : List Value} → q ≡ p → PlanKept p img K K′ → PlanKept q img K K′
+planned-as : {b : ℕ} {p q : Plan} {img : List ℕ} {K K′ : List Value} → q ≡ p → PlanKept b p img K K′ → PlanKept b q img K K′
 planned-as e k = record { to = k .to; on = k .on; plan = e ∙ k .plan; kept = k .kept; decides = k .decides }
 
 -- where it enters the changes of its kind
 abbrev KindKept : Kind → List ℕ → List Value → Type 0
-KindKept k img K = PlanKept (doing k img) img K (steps (changesBy k K) K)
+KindKept k img K = PlanKept (blocks img) (doing k img) img K (steps (changesBy k K) K)
 
 abbrev pub CallKept : Call → List ℕ → List Value → Type 0
-CallKept c img K = PlanKept (planOf c img) img K (entered c K)
+CallKept c img K = PlanKept (blocks img) (planOf c img) img K (entered c K)
 
 last-there : {A : Type 0} (l : List A) (a : A) → isEmpty (l ++ (a ∷ [])) ≡ false
 last-there [] a = refl
@@ -88,9 +91,9 @@ module _ {b : ℕ} {r w s : List ℕ} (p : Parts b r w s) (rested : idle w ≡ t
 
   -- by a plan, with changes entered
   abbrev By : Plan → List Change → Type 0
-  By plan cs = PlanKept plan joined-image its-list (steps cs its-list)
+  By plan cs = PlanKept b plan joined-image its-list (steps cs its-list)
 
-  nothing-plan : PlanKept (make [] []) joined-image its-list its-list
+  nothing-plan : PlanKept b (make [] []) joined-image its-list its-list
   nothing-plan = record { to = []; on = []; plan = refl; kept = nothing-kept p rested free cleaned; decides = λ e. refl }
 
   -- a delete of a value that stands has a store
@@ -118,7 +121,7 @@ module _ {b : ℕ} {r w s : List ℕ} (p : Parts b r w s) (rested : idle w ≡ t
     decides = λ e. absurd (true≢false (sym e ∙ delete-some k present));
   }
 
-  put-as : (v : Value) {to on : List Write} → Kept its-list (without (keyOf v) its-list ++ (v ∷ [])) to on joined-image → Kept its-list (steps (put v ∷ []) its-list) to on joined-image
+  put-as : (v : Value) {to on : List Write} → Kept b its-list (without (keyOf v) its-list ++ (v ∷ [])) to on joined-image → Kept b its-list (steps (put v ∷ []) its-list) to on joined-image
   unfolding steps step
   put-as v k = k
 
@@ -184,7 +187,7 @@ module _ {b : ℕ} {r w s : List ℕ} (p : Parts b r w s) (rested : idle w ≡ t
 
 -- ---- the values of a ready image that holds K
 
-pub ready-values : (img : List ℕ) (K : List Value) → Ready img → Holding K img → valuesOf img ≡ K
+pub ready-values : {b : ℕ} (img : List ℕ) (K : List Value) → Ready img → Holding b K img → valuesOf img ≡ K
 unfolding valuesIn idle
 ready-values img K i (in-region h) = ap (λ (l : List ℕ). values (entries l)) (ap region (h .whole) ∙ parts-region (h .parts)) ∙ h .held
 ready-values img K i (in-spare h) =
@@ -195,15 +198,17 @@ ready-values img K i (in-spare h) =
     closed true e f = false≢true (ap not (sym f) ∙ e)
     closed false e f = false≢true e
 
-kept-as : {K K₁ K′ K₁′ : List Value} {to on : List Write} {img img₁ : List ℕ} → K ≡ K₁ → K′ ≡ K₁′ → img ≡ img₁ → Kept K K′ to on img → Kept K₁ K₁′ to on img₁
-kept-as {K} {K₁} {K′} {K₁′} {to} {on} {img} {img₁} e f g k =
-    subst (λ (x : List ℕ). Kept K₁ K₁′ to on x) g (subst (λ (x : List Value). Kept K₁ x to on img) f (subst (λ (x : List Value). Kept x K′ to on img) e k))
+kept-as : {b b₁ : ℕ} {K K₁ K′ K₁′ : List Value} {to on : List Write} {img img₁ : List ℕ} → b ≡ b₁ → K ≡ K₁ → K′ ≡ K₁′ → img ≡ img₁
+    → Kept b K K′ to on img → Kept b₁ K₁ K₁′ to on img₁
+kept-as {b} {b₁} {K} {K₁} {K′} {K₁′} {to} {on} {img} {img₁} s e f g k =
+    subst (λ (n : ℕ). Kept n K₁ K₁′ to on img₁) s
+    (subst (λ (x : List ℕ). Kept b K₁ K₁′ to on x) g (subst (λ (x : List Value). Kept b K₁ x to on img) f (subst (λ (x : List Value). Kept b x K′ to on img) e k)))
 
 -- ---- every kind of call, where no rule is broken
 
 -- changes of a ready image
 writes-kept : (changes : List Value → List Change) (img : List ℕ) (K : List Value) → (i : Ready img) → Fitting (changes (valuesOf img)) (valuesOf img) (regionSize img)
-    → Holding K img → KindKept (writes changes) img K
+    → {b : ℕ} → Holding b K img → KindKept (writes changes) img K
 writes-kept changes img K i f holds =
     let p = i .parts in
     let held = ready-values img K i holds in
@@ -219,64 +224,71 @@ writes-kept changes img K i f holds =
       to = k .to;
       on = k .on;
       plan = ap (λ (x : List ℕ). changesPlan x cs) (i .whole) ∙ k .plan;
-      kept = kept-as here (ap (steps cs) here ∙ ap (λ (x : List Change). steps x K) asked) (sym (i .whole)) (k .kept);
+      kept = kept-as (sym (ready-blocks img i)) here (ap (steps cs) here ∙ ap (λ (x : List Change). steps x K) asked) (sym (i .whole)) (k .kept);
       decides = λ h. ap (λ (x : List Change). steps x K) (sym asked) ∙ ap (steps cs) (sym here) ∙ k .decides h ∙ here;
     }
 
 -- one that decides nothing and enters nothing: what it stores keeps K
-leaving-kept : (img : List ℕ) (K : List Value) (on : List Write) (end : List ℕ) → Goes (Holding K) on img end → Ready end → valuesOf end ≡ K
-    → PlanKept (make [] on) img K K
-leaving-kept img K on end goes ready held = record {
+leaving-kept : (img : List ℕ) (K : List Value) (on : List Write) (end : List ℕ) → Goes (Holding (blocks img) K) on img end → Ready end → blocks end ≡ blocks img → valuesOf end ≡ K
+    → PlanKept (blocks img) (make [] on) img K K
+leaving-kept img K on end goes ready sized held = record {
   to = [];
   on = on;
   plan = refl;
-  kept = record { middle = img; end = end; to-goes = goes-nowhere (Holding K) img; on-goes = goes; ready = ready; held = held };
+  kept = record { middle = img; end = end; to-goes = goes-nowhere (Holding (blocks img) K) img; on-goes = goes; ready = ready; sized = sized; held = held };
   decides = λ e. refl;
 }
 
-kind-kept : (k : Kind) (img : List ℕ) (K : List Value) → Accepted k img → Holding K img → KindKept k img K
+kind-kept : (k : Kind) (img : List ℕ) (K : List Value) → Accepted k img → Holding (blocks img) K img → KindKept k img K
 unfolding steps
 kind-kept reads img K a holds =
     let ready = ready-of img (a .0) (a .1) in
-    leaving-kept img K [] img (goes-nowhere (Holding K) img) ready (ready-values img K ready holds)
+    leaving-kept img K [] img (goes-nowhere (Holding (blocks img) K) img) ready refl (ready-values img K ready holds)
 kind-kept (writes changes) img K a holds = writes-kept changes img K (ready-of img (a .long) (a .ready)) (a .fitting) holds
-kind-kept startsUp img K a holds =
-    let up = startUp-holding K img holds in
-    leaving-kept img K (startUpStores img) (up .end) (up .goes) (up .ready) (up .held)
+kind-kept (startsUp setup) img K a holds =
+    let up = startUp-holding (blocks img) K img holds in
+    leaving-kept img K (startUpStores img) (up .end) (up .goes) (up .ready) (up .sized) (up .held)
 
 -- so of a call
 from-kind : (c : Call) (img : List ℕ) (K : List Value) → callBroken c img ≡ none → KindKept (kindOf c) img K → CallKept c img K
 unfolding entered
 from-kind c img K e k = planned-as (plan-accepted c img e) k
 
-pub call-kept : (c : Call) (img : List ℕ) (K : List Value) → Sized c → callBroken c img ≡ none → Holding K img → CallKept c img K
+pub call-kept : (c : Call) (img : List ℕ) (K : List Value) → Sized c → callBroken c img ≡ none → Holding (blocks img) K img → CallKept c img K
 call-kept c img K sized e holds = from-kind c img K e (kind-kept (kindOf c) img K (accepted c img sized e) holds)
 
 -- of a set, its bytes aside
-pub set-kept : (s : Session) (r : Request) (img : List ℕ) (K : List Value) → setBroken s r img ≡ none → length (r .vendor) ≡ 16 → Holding K img → CallKept (set s r) img K
-set-kept s r img K e long holds =
-    let ready = ready-of img (set-length s r img e) (set-ready s r img e) in
-    from-kind (set s r) img K e (writes-kept (λ vs. changeIn r vs ∷ []) img K ready (set-fitting s r img e long) holds)
+pub set-kept : (m : Bool) (s : Session) (r : Request) (img : List ℕ) (K : List Value) → setBroken m s r img ≡ none → length (r .vendor) ≡ 16 → {b : ℕ} → Holding b K img → CallKept (set m s r) img K
+set-kept m s r img K e long holds =
+    let ready = ready-of img (set-length m s r img e) (set-ready m s r img e) in
+    from-kind (set m s r) img K e (writes-kept (λ vs. changeIn r vs ∷ []) img K ready (set-fitting m s r img e long) holds)
 
--- in a run a start-up is never refused
-pub holding-accepted : (K : List Value) (img : List ℕ) → Holding K img → startUpBroken img ≡ none
+-- in a run a start-up finds the book, and is refused where the book does not keep to its shares, and there only
+holding-right : {b : ℕ} (K : List Value) (img : List ℕ) → Holding b K img → (rightLength img ≡ true) × (readyForStartUp img ≡ true)
 unfolding readyForStartUp pending
-holding-accepted K img (in-spare h) =
-    let p = h .parts in
-    startUp-accepted img (ap rightLength (h .whole) ∙ parts-right p)
-    (ap readyForStartUp (h .whole) ∙ or-left (pending (h .r ++ (h .w ++ h .s))) (sound (region (h .r ++ (h .w ++ h .s)))) (true-and (true-and (ap wellFormed (parts-work p) ∙ h .formed) (ap endsInFC (parts-work p) ∙ h .ended)) (ap clean (parts-spare p) ∙ h .cleaned)))
-holding-accepted K img (in-region h) =
-    let p = h .parts in
-    startUp-accepted img (ap rightLength (h .whole) ∙ parts-right p)
-    (ap readyForStartUp (h .whole) ∙ or-right (pending (h .r ++ (h .w ++ h .s))) (sound (region (h .r ++ (h .w ++ h .s)))) (ap sound (parts-region p) ∙ h .sounds))
+holding-right K img (in-spare h) =
+    let p = h .parts in (
+      ap rightLength (h .whole) ∙ parts-right p,
+      ap readyForStartUp (h .whole) ∙ or-left (pending (h .r ++ (h .w ++ h .s))) (sound (region (h .r ++ (h .w ++ h .s)))) (true-and (true-and (ap wellFormed (parts-work p) ∙ h .formed) (ap endsInFC (parts-work p) ∙ h .ended)) (ap clean (parts-spare p) ∙ h .cleaned)),
+    )
+holding-right K img (in-region h) =
+    let p = h .parts in (
+      ap rightLength (h .whole) ∙ parts-right p,
+      ap readyForStartUp (h .whole) ∙ or-right (pending (h .r ++ (h .w ++ h .s))) (sound (region (h .r ++ (h .w ++ h .s)))) (ap sound (parts-region p) ∙ h .sounds),
+    )
 
-pub startUp-plan : (img : List ℕ) → startUpBroken img ≡ none → startUpPlan img ≡ make [] (startUpStores img)
-unfolding startUpPlan
-startUp-plan img h = rw h
+pub holding-judged : {b : ℕ} (u : Setup) (K : List Value) (img : List ℕ) → Holding b K img → startUpBroken u img ≡ cond (allotted u (regionSize img) K) none (some Side)
+holding-judged {b} u K img holds =
+    let right = holding-right K img holds in
+    startUp-judged u img (right .0) (right .1) ∙ ap (λ (vs : List Value). cond (allotted u (regionSize img) vs) none (some Side)) (found-holding b K img holds)
 
-pub startUp-refused : (img : List ℕ) (rule : Rule) → startUpBroken img ≡ some rule → startUpPlan img ≡ refuse rule
+pub startUp-plan : (u : Setup) (img : List ℕ) → startUpBroken u img ≡ none → startUpPlan u img ≡ make [] (startUpStores img)
 unfolding startUpPlan
-startUp-refused img rule h = rw h
+startUp-plan u img h = rw h
+
+pub startUp-refused : (u : Setup) (img : List ℕ) (rule : Rule) → startUpBroken u img ≡ some rule → startUpPlan u img ≡ refuse rule
+unfolding startUpPlan
+startUp-refused u img rule h = rw h
 
 -- ---- any call, cut after k stores
 
@@ -291,18 +303,18 @@ unfolding bookAfter
 book-cond c true K = refl
 book-cond c false K = refl
 
-module _ (w : ℕ) where
-  module _ (img img′ : List ℕ) (K K′ : List Value) (to on : List Write) (kept : Kept K K′ to on img) (k : ℕ) (left : Cut (stores w (to ++ on)) k img img′) where
-    kept-cut : (k < length (stores w to) → Holding K img′) × (length (stores w to) ≤ k → Holding K′ img′)
+module _ (w b : ℕ) where
+  module _ (img img′ : List ℕ) (K K′ : List Value) (to on : List Write) (kept : Kept b K K′ to on img) (k : ℕ) (left : Cut (stores w (to ++ on)) k img img′) where
+    kept-cut : (k < length (stores w to) → Holding b K img′) × (length (stores w to) ≤ k → Holding b K′ img′)
     kept-cut =
-        let on-safe : Safe (Holding K′) (stores w on) (applyAll (stores w to) img) = subst (Safe (Holding K′) (stores w on)) (sym (kept .to-goes .left w)) (kept .on-goes .safe w) in
-        let end : Holding K′ (applyAll (stores w on) (applyAll (stores w to) img)) =
-        subst (Holding K′) (sym (ap (applyAll (stores w on)) (kept .to-goes .left w) ∙ kept .on-goes .left w)) (subst (λ (vs : List Value). Holding vs (kept .end)) (kept .held) (ready-holds (kept .end) (kept .ready))) in
-        cut-at (Holding K) (Holding K′) (stores w to) (stores w on) k img img′ (kept .to-goes .safe w) on-safe end
+        let on-safe : Safe (Holding b K′) (stores w on) (applyAll (stores w to) img) = subst (Safe (Holding b K′) (stores w on)) (sym (kept .to-goes .left w)) (kept .on-goes .safe w) in
+        let end : Holding b K′ (applyAll (stores w on) (applyAll (stores w to) img)) =
+        subst (Holding b K′) (sym (ap (applyAll (stores w on)) (kept .to-goes .left w) ∙ kept .on-goes .left w)) (subst (λ (n : ℕ). Holding n K′ (kept .end)) (kept .sized) (subst (λ (vs : List Value). Holding (blocks (kept .end)) vs (kept .end)) (kept .held) (ready-holds (kept .end) (kept .ready)))) in
+        cut-at (Holding b K) (Holding b K′) (stores w to) (stores w on) k img img′ (kept .to-goes .safe w) on-safe end
         (subst (λ (ss : List Store). Cut ss k img img′) (stores-append w to on) left)
 
     -- by whether the deciding store is complete
-    kept-decided : (isEmpty to ≡ true → K′ ≡ K) → Holding (cond (decided w k (make to on)) K′ K) img′
+    kept-decided : (isEmpty to ≡ true → K′ ≡ K) → Holding b (cond (decided w k (make to on)) K′ K) img′
     unfolding decided stores
     kept-decided decides = go (isEmpty to) refl (leb (length (stores w to)) k) refl
       where
@@ -310,31 +322,34 @@ module _ (w : ℕ) where
         empty-length [] h = refl
         empty-length (x ∷ l) h = absurd (false≢true h)
 
-        go : (e : Bool) → isEmpty to ≡ e → (t : Bool) → leb (length (stores w to)) k ≡ t → Holding (cond (not (isEmpty to) && leb (length (stores w to)) k) K′ K) img′
-        go true e t f = rw e (subst (λ (vs : List Value). Holding vs img′) (decides e) (kept-cut .1 (let z = empty-length to e in omega arith)))
+        go : (e : Bool) → isEmpty to ≡ e → (t : Bool) → leb (length (stores w to)) k ≡ t → Holding b (cond (not (isEmpty to) && leb (length (stores w to)) k) K′ K) img′
+        go true e t f = rw e (subst (λ (vs : List Value). Holding b vs img′) (decides e) (kept-cut .1 (let z = empty-length to e in omega arith)))
         go false e true f = rw (e, f) (kept-cut .1 (leb-true (length (stores w to)) k f))
         go false e false f = rw (e, f) (kept-cut .0 (leb-false (length (stores w to)) k f))
 
   -- by its plan: a refusal, or what keeps K
-  pub call-cut : (K : List Value) (img img′ : List ℕ) (c : Call) → Sized c → Holding K img → (k : ℕ) → Cut (storesOf w (planOf c img)) k img img′
-      → Holding (bookAfter c (decided w k (planOf c img)) K) img′
+  pub call-cut : (K : List Value) (img img′ : List ℕ) (c : Call) → Sized c → Holding b K img → (k : ℕ) → Cut (storesOf w (planOf c img)) k img img′
+      → Holding b (bookAfter c (decided w k (planOf c img)) K) img′
   unfolding storesOf decided
   call-cut K img img′ c sized holds k left = go (callBroken c img) refl
     where
+      here : blocks img ≡ b
+      here = holding-blocks b K img holds
+
       Left : Plan → Type 0
-      Left p = Cut (storesOf w p) k img img′ → Holding (bookAfter c (decided w k p) K) img′
+      Left p = Cut (storesOf w p) k img img′ → Holding b (bookAfter c (decided w k p) K) img′
 
       refused-left : (rule : Rule) → Left (refuse rule)
-      refused-left rule made = subst (λ (vs : List Value). Holding vs img′) (sym (book-cond c false K)) (subst (Holding K) (sym (cut-none k img img′ made)) holds)
+      refused-left rule made = subst (λ (vs : List Value). Holding b vs img′) (sym (book-cond c false K)) (subst (Holding b K) (sym (cut-none k img img′ made)) holds)
 
       made-left : (kept : CallKept c img K) → Left (make (kept .to) (kept .on))
       made-left kept made =
-          subst (λ (vs : List Value). Holding vs img′) (sym (book-cond c (decided w k (make (kept .to) (kept .on))) K))
-          (kept-decided img img′ K (entered c K) (kept .to) (kept .on) (kept .kept) k made (kept .decides))
+          subst (λ (vs : List Value). Holding b vs img′) (sym (book-cond c (decided w k (make (kept .to) (kept .on))) K))
+          (kept-decided img img′ K (entered c K) (kept .to) (kept .on) (subst (λ (n : ℕ). Kept n K (entered c K) (kept .to) (kept .on) img) here (kept .kept)) k made (kept .decides))
 
-      go : (o : Option Rule) → callBroken c img ≡ o → Holding (bookAfter c (decided w k (planOf c img)) K) img′
+      go : (o : Option Rule) → callBroken c img ≡ o → Holding b (bookAfter c (decided w k (planOf c img)) K) img′
       go (some rule) e = subst Left (sym (plan-refused c img rule e)) (refused-left rule) left
-      go none e = let kept = call-kept c img K sized e holds in subst Left (sym (kept .plan)) (made-left kept) left
+      go none e = let kept = call-kept c img K sized e (subst (λ (n : ℕ). Holding n K img) (sym here) holds) in subst Left (sym (kept .plan)) (made-left kept) left
 
 -- ---- a call that is done
 
@@ -367,15 +382,15 @@ all-made x count (make to on) img h =
     after-all (min (x .limit) reached) ss img (ended-done (x .limit) reached (length ss) count h)
 
 -- a start-up
-pub record Finished (x : Context) (img : List ℕ) : Type 0 where
-  pub accepted : startUpBroken img ≡ none
-  pub left : imageAfter x (startUpPlan img) img ≡ applyAll (stores (pageOf x) (startUpStores img)) img
+pub record Finished (u : Setup) (x : Context) (img : List ℕ) : Type 0 where
+  pub accepted : startUpBroken u img ≡ none
+  pub left : imageAfter x (startUpPlan u img) img ≡ applyAll (stores (pageOf x) (startUpStores img)) img
 
-pub finished : (x : Context) (count : ℕ) (img : List ℕ) → outcome x (startUpPlan img) img ≡ done count → Finished x img
+pub finished : (u : Setup) (x : Context) (count : ℕ) (img : List ℕ) → outcome x (startUpPlan u img) img ≡ done count → Finished u x img
 unfolding startUpPlan storesOf
-finished x count img h =
-    let accepted = done-accepted x count (startUpBroken img) (make [] (startUpStores img)) img h in
-    record { accepted = accepted; left = all-made x count (startUpPlan img) img h ∙ ap (λ (p : Plan). applyAll (storesOf (pageOf x) p) img) (startUp-plan img accepted) }
+finished u x count img h =
+    let accepted = done-accepted x count (startUpBroken u img) (make [] (startUpStores img)) img h in
+    record { accepted = accepted; left = all-made x count (startUpPlan u img) img h ∙ ap (λ (p : Plan). applyAll (storesOf (pageOf x) p) img) (startUp-plan u img accepted) }
 
 -- ---- a call that ran is one cut after the stores that it made
 
@@ -413,7 +428,7 @@ unfolding outcome madeOf storesOf
 made-accepted x c img K to on decides = made-counted (pageOf x) (x .limit) (reach (deadOf x) (stores (pageOf x) (to ++ on)) img) c K to on decides
 
 -- a done call with no deciding store changes nothing
-counted : (K : List Value) (img : List ℕ) (c : Call) → Sized c → Holding K img → (x : Context)
+counted : (K : List Value) (img : List ℕ) (c : Call) → Sized c → Holding (blocks img) K img → (x : Context)
     → bookAfter c (decided (pageOf x) (madeOf x (planOf c img) img) (planOf c img)) K
     ≡ bookAfter c (counts (outcome x (planOf c img) img) (decided (pageOf x) (madeOf x (planOf c img) img) (planOf c img))) K
 counted K img c sized holds x = go (callBroken c img) refl
@@ -430,15 +445,15 @@ counted K img c sized holds x = go (callBroken c img) refl
 -- ---- the run
 
 -- what a start-up leaves that is carried out is ready, whatever image it began on
-pub startUp-leaves : (w : ℕ) (img : List ℕ) → startUpBroken img ≡ none → Ready (applyAll (stores w (startUpStores img)) img)
-startUp-leaves w img accepted =
-    let up = startUp-any img (startUp-length img accepted) (startUp-ready img accepted) .up in
+pub startUp-leaves : (u : Setup) (w : ℕ) (img : List ℕ) → startUpBroken u img ≡ none → Ready (applyAll (stores w (startUpStores img)) img)
+startUp-leaves u w img accepted =
+    let up = startUp-any img (startUp-length u img accepted) (startUp-ready u img accepted) .up in
     subst Ready (sym (up .goes .left w)) (up .ready)
 
 started-ready : (start : List ℕ) → StartedUp start → Ready start
 started-ready start st =
-    let f = finished (st .context) (st .stores) (st .before) (st .finished) in
-    subst Ready (sym (st .left ∙ f .left)) (startUp-leaves (pageOf (st .context)) (st .before) (f .accepted))
+    let f = finished (st .setup) (st .context) (st .stores) (st .before) (st .finished) in
+    subst Ready (sym (st .left ∙ f .left)) (startUp-leaves (st .setup) (pageOf (st .context)) (st .before) (f .accepted))
 
 -- and so is what a done move leaves in the authenticated form
 moved-ready : (start : List ℕ) → MovedInto start → Ready start
@@ -454,28 +469,30 @@ begins-ready start (started st) = started-ready start st
 begins-ready start (moved-in m) = moved-ready start m
 
 -- in a run the image holds the book
-pub run-holds : (start : List ℕ) → Begins start → {img : List ℕ} {book : List Value} → Run start img book → Holding book img
+pub run-holds : (start : List ℕ) → Begins start → {img : List ℕ} {book : List Value} → Run start img book → Holding (blocks start) book img
 unfolding imageAfter
 run-holds start st begin = ready-holds start (begins-ready start st)
 run-holds start st (ran {img} {book} r c sized x) =
+    let b = blocks start in
     let holds = run-holds start st r in
     let k = madeOf x (planOf c img) img in
-    subst (λ (vs : List Value). Holding vs (after k (storesOf (pageOf x) (planOf c img)) img)) (counted book img c sized holds x)
-    (call-cut (pageOf x) book img (after k (storesOf (pageOf x) (planOf c img)) img) c sized holds k (inl refl))
-run-holds start st (cut {img} {img′} {book} r c sized w k left) = call-cut w book img img′ c sized (run-holds start st r) k left
+    let here = subst (λ (n : ℕ). Holding n book img) (sym (holding-blocks b book img holds)) holds in
+    subst (λ (vs : List Value). Holding b vs (after k (storesOf (pageOf x) (planOf c img)) img)) (counted book img c sized here x)
+    (call-cut (pageOf x) b book img (after k (storesOf (pageOf x) (planOf c img)) img) c sized holds k (inl refl))
+run-holds start st (cut {img} {img′} {book} r c sized w k left) = call-cut w (blocks start) book img img′ c sized (run-holds start st r) k left
 
 -- a start-up that is carried out leaves the book's values
-pub startUp-holds : (w : ℕ) (K : List Value) (img : List ℕ) → Holding K img → valuesOf (applyAll (stores w (startUpStores img)) img) ≡ K
-startUp-holds w K img holds = let up = startUp-holding K img holds in ap valuesOf (up .goes .left w) ∙ up .held
+pub startUp-holds : {b : ℕ} (w : ℕ) (K : List Value) (img : List ℕ) → Holding b K img → valuesOf (applyAll (stores w (startUpStores img)) img) ≡ K
+startUp-holds {b} w K img holds = let up = startUp-holding b K img holds in ap valuesOf (up .goes .left w) ∙ up .held
 
-pub startUp-values : (K : List Value) (img : List ℕ) → Holding K img → (x : Context) (count : ℕ) → outcome x (startUpPlan img) img ≡ done count
-    → valuesOf (imageAfter x (startUpPlan img) img) ≡ K
-startUp-values K img holds x count h = ap valuesOf (finished x count img h .left) ∙ startUp-holds (pageOf x) K img holds
+pub startUp-values : {b : ℕ} (K : List Value) (img : List ℕ) → Holding b K img → (u : Setup) (x : Context) (count : ℕ) → outcome x (startUpPlan u img) img ≡ done count
+    → valuesOf (imageAfter x (startUpPlan u img) img) ≡ K
+startUp-values K img holds u x count h = ap valuesOf (finished u x count img h .left) ∙ startUp-holds (pageOf x) K img holds
 
-agrees : (K : List Value) (img : List ℕ) → Holding K img → (k : Kind) (x : Context) → Agrees k x img K
+agrees : {b : ℕ} (K : List Value) (img : List ℕ) → Holding b K img → (k : Kind) (x : Context) → Agrees k x img K
 agrees K img holds reads x = tt
 agrees K img holds (writes changes) x = tt
-agrees K img holds startsUp x = λ count h. startUp-values K img holds x count h
+agrees K img holds (startsUp setup) x = λ count h. startUp-values K img holds setup x count h
 
 agrees-all : (start : List ℕ) → Begins start → {img : List ℕ} {book : List Value} → (r : Run start img book) → AgreesAll r
 agrees-all start st begin = tt

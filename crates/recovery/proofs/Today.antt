@@ -184,7 +184,7 @@ doing-today : (k : Kind) (img : List ℕ) → storesOf 1 (doing k img) ≡ doing
 unfolding storesOf stores
 doing-today reads img = refl
 doing-today (writes changes) img = changes-today img (changes (valuesOf img))
-doing-today startsUp img = is-startUp img .is
+doing-today (startsUp setup) img = is-startUp img .is
 
 call-today : (c : Call) (img : List ℕ) → storesOf 1 (planOf c img) ≡ callToday c img
 unfolding planOf callToday

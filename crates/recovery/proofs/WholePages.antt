@@ -160,14 +160,14 @@ pub whole-pages-stored : WholePagesStored
 unfolding planOf changePlan putPlan storesOf
 whole-pages-stored n img = (of-set, tidy-whole n img, resume-whole n img)
   where
-    of-set : (s : Session) (r : Request) (v : Value) → length (r .vendor) ≡ 16 → setBroken s r img ≡ none → changeIn r (valuesOf img) ≡ put v
-        → fitsTail (region img) v ≡ false → Every (WholeOrRecord (widthOf n) img) (storesOf (widthOf n) (setPlan s r img))
-    of-set s r v long accepted asked short =
-        let i = ready-of img (set-length s r img accepted) (set-ready s r img accepted) in
+    of-set : (m : Bool) (s : Session) (r : Request) (v : Value) → length (r .vendor) ≡ 16 → setBroken m s r img ≡ none → changeIn r (valuesOf img) ≡ put v
+        → fitsTail (region img) v ≡ false → Every (WholeOrRecord (widthOf n) img) (storesOf (widthOf n) (setPlan m s r img))
+    of-set m s r v long accepted asked short =
+        let i = ready-of img (set-length m s r img accepted) (set-ready m s r img accepted) in
         let valid = values-valid img (i .parts) (i .whole) (clean-sound (i .r) (i .cleaned)) .0 in
         rw (accepted, asked, short)
-        (compaction-whole n img (step (put v) (valuesOf img)) (put-valid authenticated v (valuesOf img) (put-is-valid s r img accepted v asked long) valid)
-        (put-fits s r img accepted v asked))
+        (compaction-whole n img (step (put v) (valuesOf img)) (put-valid authenticated v (valuesOf img) (put-is-valid m s r img accepted v asked long) valid)
+        (put-fits m s r img accepted v asked))
 
 -- ---- what writes leave
 

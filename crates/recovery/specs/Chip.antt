@@ -1,7 +1,7 @@
 -- 02 (i): what the chip is asked to do. Each claim is a type.
 use Prim.Native.Nat.{ℕ, _+_, _%_, _≤_}
 use mathlib.Core.Path.{_≡_}
-use mathlib.Core.Bool.{true, false}
+use mathlib.Core.Bool.{Bool, true, false}
 use mathlib.Core.Logic.{_⊎_}
 use mathlib.Core.List.{List, [], _∷_}
 use mathlib.Core.Option.{none}
@@ -44,12 +44,12 @@ InWholePages n img ws = Every (WholeOrRecord (widthOf n) img) (stores (widthOf n
 abbrev pub WholePagesStored : Type 0
 WholePagesStored =
     (n : ℕ) (img : List ℕ)
-    → ((s : Session) (r : Request) (v : Value)
+    → ((m : Bool) (s : Session) (r : Request) (v : Value)
     → length (r .vendor) ≡ 16
-    → setBroken s r img ≡ none
+    → setBroken m s r img ≡ none
     → changeIn r (valuesOf img) ≡ put v
     → fitsTail (region img) v ≡ false
-    → Every (WholeOrRecord (widthOf n) img) (storesOf (widthOf n) (setPlan s r img)))
+    → Every (WholeOrRecord (widthOf n) img) (storesOf (widthOf n) (setPlan m s r img)))
     × (rightLength img ≡ true → sound (region img) ≡ true → InWholePages n img (tidyTail img))
     × (rightLength img ≡ true → InWholePages n img (resume img))
 

@@ -3,7 +3,7 @@
 -- at each step. All that the host does is said in the numbers that it was told, `HostPlan`, as C sees them.
 use Prim.Native.Nat.{ℕ, suc}
 use mathlib.Core.Path.{_≡_}
-use mathlib.Core.Bool.{Bool, false, _&&_}
+use mathlib.Core.Bool.{Bool, true, false, cond, _&&_}
 use mathlib.Core.List.{List}
 use lib.ListN.{length, take}
 use lib.Dec.{eqb, leb, ltb}
@@ -12,22 +12,27 @@ use Rattle.model.specs.declared.Setup.{Setup}
 use Rattle.model.specs.declared.Session.{Session}
 use Rattle.model.specs.declared.Answer.the-variants.{Done}
 use Rattle.model.specs.Layout.{authenticated}
+use Rattle.model.specs.Image.{regionSize}
 use Rattle.model.specs.Entry.{Value}
 use Rattle.model.specs.Region.{valuesOf, find}
+use Rattle.model.specs.Session.{freshSession}
 use Rattle.model.specs.Request.{Request, requestKey}
 use Rattle.model.specs.Limits.{limitsFor}
+use Rattle.model.specs.Sides.{allotted}
 use Rattle.model.specs.Stores.{Bytes, stores, applyAll, Cut}
 use Rattle.model.specs.StartUp.{startUpPlan}
+use Rattle.model.specs.Answers.{Outcome, done, refused}
 use Rattle.model.specs.Book.{Call, set, planOf, Sized, bookAfter}
 use Rattle.plan.specs.declared.HostPlan.{HostPlan}
 use Rattle.plan.specs.Told.{expandNumbers, Told}
-use Rattle.recovery.specs.Claims.{forbidden}
-use Rattle.recovery.specs.Interface.{MoveReturned, InSession}
+use Rattle.recovery.specs.Claims.{forbidden, InShares}
+use Rattle.recovery.specs.Interface.{MoveReturned, InSession, Apart}
 
--- A start-up was planned over these bytes: the plan and the content tell what the definitions plan. Custom mode, R, H and the rules for settings make its session and are no part of its plan.
+-- A start-up was planned over these bytes, given what it is given: the plan and the content tell what the definitions plan. Shares and H are asked before any store; the rest
+-- makes its session and is no part of its plan.
 -- `vs_plan_start_up` of the C interface ensures it of its own arguments, for every image.
-abbrev pub StartUpPlanned : List ℕ → List ℕ → HostPlan → Type 0
-StartUpPlanned part content p = Told (startUpPlan part) content p
+abbrev pub StartUpPlanned : Setup → List ℕ → List ℕ → HostPlan → Type 0
+StartUpPlanned setup part content p = Told (startUpPlan setup part) content p
 
 -- A call was planned over these bytes. `vs_plan_set` ensures it of its own arguments. It and `vs_plan_start_up` require nothing, so such a plan exists for every set
 -- and every start-up, on any part. A get or next-name has no planning function: as a step its plan is its refusal, or operations without a store.
@@ -77,32 +82,69 @@ pub data Hosting (start : List ℕ) : List ℕ → List Value → Type 0 where
 -- What a host begins on: a part that a start-up left, told with rule 0 and carried out, on whatever bytes it found; or one with the bytes that a move into the
 -- form in which calls store left in its target, done.
 pub data HostBegun : List ℕ → Type 0 where
-  by-start-up : (before content : List ℕ) (p : HostPlan)
+  by-start-up : (setup : Setup) (before content : List ℕ) (p : HostPlan)
       → Bytes before
-      → StartUpPlanned before content p
+      → StartUpPlanned setup before content p
       → p .rule ≡ 0
       → (w : ℕ)
       → HostBegun (carriedOut w content p before)
   by-move : {start : List ℕ} (from : Layout) (source target : List ℕ) → MoveReturned from authenticated source target start (Done 0) → HostBegun start
 
--- Begun so, and however often the power failed since: a start-up is not refused, and carried out it leaves exactly the values of the book.
+-- Begun so, and however often the power failed since: a start-up that is told rule 0, carried out, leaves exactly the values of the book. It is told rule 0 if the book
+-- keeps to its shares and H, and 22 if it does not.
 abbrev pub HostKeepsTheBook : Type 0
 HostKeepsTheBook =
-    (start part content : List ℕ) (book : List Value) (p : HostPlan)
+    (setup : Setup) (start part content : List ℕ) (book : List Value) (p : HostPlan)
     → HostBegun start
     → Hosting start part book
-    → StartUpPlanned part content p
-    → (w : ℕ)
-    → (p .rule ≡ 0) × (valuesOf (carriedOut w content p part) ≡ book)
+    → StartUpPlanned setup part content p
+    → (p .rule ≡ 0 → (w : ℕ) → valuesOf (carriedOut w content p part) ≡ book)
+    × (allotted setup (regionSize part) book ≡ true → p .rule ≡ 0)
+    × (allotted setup (regionSize part) book ≡ false → p .rule ≡ 22)
+
+-- 02 (f), of a host: every call was planned in a session with the shares of a setup
+abbrev pub AllPlannedInShares : Setup → {start part : List ℕ} {book : List Value} → Hosting start part book → Type 0
+AllPlannedInShares u none-yet = Unit {0}
+AllPlannedInShares u (carried-out hosting c sized content p planned w) = AllPlannedInShares u hosting × InShares u c
+AllPlannedInShares u (power-failed hosting c sized content p planned w k left) = AllPlannedInShares u hosting × InShares u c
+
+-- So its store stays usable: where what it began on keeps to the shares of a setup, the book keeps to them, and a start-up given them is told rule 0.
+abbrev pub HostSharesKept : Type 0
+HostSharesKept =
+    (u : Setup) (start part content : List ℕ) (book : List Value) (p : HostPlan)
+    → HostBegun start
+    → allotted u (regionSize start) (valuesOf start) ≡ true
+    → (hosting : Hosting start part book)
+    → AllPlannedInShares u hosting
+    → StartUpPlanned u part content p
+    → (allotted u (regionSize part) book ≡ true) × (p .rule ≡ 0)
 
 -- 02 (e), of a host: what a set leaves under its name that was planned in a session with rule 0 told, and carried out, no rule forbids that the session's start-up was
 -- given for that name. On whatever bytes, and for every w.
 abbrev pub HostKeepsSettings : Type 0
 HostKeepsSettings =
-    (setup : Setup) (s : Session) (r : Request) (part content : List ℕ) (p : HostPlan)
+    (setup : Setup) (m : Bool) (s : Session) (r : Request) (part content : List ℕ) (p : HostPlan)
     → InSession setup s
     → length (r .vendor) ≡ 16
-    → PlannedFor (set s r) part content p
+    → PlannedFor (set m s r) part content p
     → p .rule ≡ 0
     → (w : ℕ)
     → forbidden (limitsFor setup (requestKey r)) (find (requestKey r) (valuesOf (carriedOut w content p part))) ≡ false
+
+-- 02 (f), of a host: a call was planned over the part's bytes and carried out with some w; the rule told is the answer, its number of stores aside. A get or next-name, whose plan
+-- has no store, is carried out by doing nothing, and hands out what its function ensures.
+abbrev pub answerTold : HostPlan → Outcome
+answerTold p = cond (eqb (p .rule) 0) (done 0) (refused (p .rule))
+
+abbrev pub CallCarriedOut : Call → List ℕ → List ℕ → Outcome → Type 0
+CallCarriedOut c part part′ o =
+    (content : List ℕ) × (p : HostPlan) × (w : ℕ) × PlannedFor c part content p × (part′ ≡ carriedOut w content p part) × (answerTold p ≡ o)
+
+-- So nothing that one side sets or deletes alters what the other is told or sees, on a part that a start-up left, told with rule 0 and carried out, in its session.
+abbrev pub HostNoInterference : Type 0
+HostNoInterference =
+    (setup : Setup) (before content : List ℕ) (p : HostPlan)
+    → StartUpPlanned setup before content p
+    → p .rule ≡ 0
+    → (w : ℕ)
+    → Apart CallCarriedOut setup (record { session = freshSession setup; image = carriedOut w content p before })

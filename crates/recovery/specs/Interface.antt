@@ -1,8 +1,8 @@
 -- What a call to a function of the interface has done when it returned, in the word of the functions' own contracts, and what holds of every list of calls to them.
 use Prim.Native.Nat.{ℕ}
 use mathlib.Core.Path.{_≡_}
-use mathlib.Core.Bool.{false}
-use mathlib.Core.List.{List}
+use mathlib.Core.Bool.{Bool, true, false, cond}
+use mathlib.Core.List.{List, [], _∷_}
 use lib.ListN.{length}
 use Rattle.model.specs.declared.Layout.{Layout}
 use Rattle.model.specs.declared.Setup.{Setup}
@@ -18,13 +18,14 @@ use Rattle.model.specs.Session.{freshSession, movedTo}
 use Rattle.model.specs.Request.{Request, requestKey}
 use Rattle.model.specs.Limits.{limitsFor}
 use Rattle.model.specs.Stores.{Bytes, Cut}
-use Rattle.model.specs.Answers.{answerOf, outcome, imageAfter, madeOf, pageOf, storesOf, decided, lockSession}
+use Rattle.model.specs.Answers.{Outcome, done, answerOf, outcome, imageAfter, madeOf, pageOf, storesOf, decided, lockOutcome, lockSession}
 use Rattle.model.specs.Move.{moveAnswer, imageMoved}
 use Rattle.model.specs.Book.{Call, set, startUp, planOf, Sized, counts, bookAfter}
 use Rattle.recovery.specs.Claims.{forbidden}
+use Rattle.recovery.specs.Tenants.{World, Asked, callOf, Event, calls, locks, moves, Fitting, no-more, handed, Told, toItsEnd, butStores, isOf, sees}
 
 -- A call of the interface has returned: its arguments, its context, the image before and after, and the answer. `engine::write::set`, `engine::read::get` and `next_name`, which
--- are lent the image shared, and `engine::start::start_up` ensure it of their own arguments, for every input.
+-- are lent the image shared, and `engine::start::start_up` ensure it of their own arguments, in every session that says what they are given.
 abbrev pub Returned : Call → Context → List ℕ → List ℕ → Answer → Type 0
 Returned c x img img′ a = (answerOf a ≡ outcome x (planOf c img) img) × (img′ ≡ imageAfter x (planOf c img) img)
 
@@ -84,13 +85,67 @@ InterfaceKeepsTheBook =
 pub data InSession (setup : Setup) : Session → Type 0 where
   fresh : InSession setup (freshSession setup)
   moved : {s : Session} → InSession setup s → (phase : ℕ) → InSession setup (movedTo s phase)
-  lock-asked : {s : Session} → InSession setup s → (k : Key) → InSession setup (lockSession s k)
+  lock-asked : {s : Session} → InSession setup s → (modem : Bool) (k : Key) → InSession setup (lockSession modem s k)
 
 -- 02 (e), through the interface: what a set leaves under its name that returned done in a session, no rule forbids that the session's start-up was given for that name.
 abbrev pub InterfaceKeepsSettings : Type 0
 InterfaceKeepsSettings =
-    (setup : Setup) (s : Session) (r : Request) (x : Context) (img img′ : List ℕ) (stores : ℕ)
+    (setup : Setup) (m : Bool) (s : Session) (r : Request) (x : Context) (img img′ : List ℕ) (stores : ℕ)
     → InSession setup s
     → length (r .vendor) ≡ 16
-    → Returned (set s r) x img img′ (Done stores)
+    → Returned (set m s r) x img img′ (Done stores)
     → forbidden (limitsFor setup (requestKey r)) (find (requestKey r) (valuesOf img′)) ≡ false
+
+-- A session in use, by what it is that a call has run (the call, the image before and after, its answer): since its start-up, calls of either side ran to their end, each on the
+-- image as the last left it, names were locked, and the phase was moved.
+pub data Used (Ran : Call → List ℕ → List ℕ → Outcome → Type 0) (begin : World) : World → Type 0 where
+  unused : Used Ran begin begin
+  called : {w : World}
+      → Used Ran begin w
+      → (m : Bool) (a : Asked)
+      → Fitting (calls m a)
+      → (img′ : List ℕ) (o : Outcome)
+      → Ran (callOf m (w .session) a) (w .image) img′ o
+      → toItsEnd o ≡ true
+      → Used Ran begin (record { session = w .session; image = img′ })
+  name-locked : {w : World}
+      → Used Ran begin w
+      → (m : Bool) (k : Key)
+      → length (k .vendor) ≡ 16
+      → Used Ran begin (record { session = lockSession m (w .session) k; image = w .image })
+  phase-moved : {w : World} → Used Ran begin w → (p : ℕ) → Used Ran begin (record { session = movedTo (w .session) p; image = w .image })
+
+-- what a side asked in it, the last first, and what it was told: answers but for their numbers of stores, and what a get and a next-name hand out
+module _ {Ran : Call → List ℕ → List ℕ → Outcome → Type 0} (modem : Bool) {begin : World} where
+  unfoldable pub askedIn : {w : World} → Used Ran begin w → List Event
+  askedIn unused = []
+  askedIn (called u m a f img′ o r e) = cond (isOf modem (calls m a)) (calls m a ∷ askedIn u) (askedIn u)
+  askedIn (name-locked u m k long) = cond (isOf modem (locks m k)) (locks m k ∷ askedIn u) (askedIn u)
+  askedIn (phase-moved u p) = moves p ∷ askedIn u
+
+  unfoldable pub heardIn : {w : World} → Used Ran begin w → List Told
+  heardIn unused = []
+  heardIn (called {w} u m a f img′ o r e) =
+      cond (isOf modem (calls m a)) (record { answered = butStores o; given = handed m (w .session) a (w .image) } ∷ heardIn u) (heardIn u)
+  heardIn (name-locked {w} u m k long) =
+      cond (isOf modem (locks m k)) (record { answered = butStores (lockOutcome m (w .session) k); given = no-more } ∷ heardIn u) (heardIn u)
+  heardIn (phase-moved u p) = record { answered = done 0; given = no-more } ∷ heardIn u
+
+-- Two uses of one session in which a side asked the same: it was told the same, and sees the same.
+abbrev pub Apart : (Call → List ℕ → List ℕ → Outcome → Type 0) → Setup → World → Type 0
+Apart Ran setup begin =
+    (modem : Bool) (v w : World) (h : Used Ran begin v) (g : Used Ran begin w)
+    → askedIn modem h ≡ askedIn modem g
+    → (heardIn modem h ≡ heardIn modem g) × (sees setup modem v ≡ sees setup modem w)
+
+-- 02 (f), "nothing that one side sets or deletes alters an answer .., value, stamp or list order that the other sees", of calls to the interface: they returned, whatever their
+-- n, dead bytes and w. (What a lock and a phase do to a session, and what a get and a next-name hand out, their functions ensure in the words that are used here: `lockOutcome`,
+-- `lockSession`, `movedTo`, `getReply`, `nextReply`.)
+abbrev pub CallReturned : Call → List ℕ → List ℕ → Outcome → Type 0
+CallReturned c img img′ o = (x : Context) × (a : Answer) × Returned c x img img′ a × (answerOf a ≡ o)
+
+abbrev pub InterfaceNoInterference : Type 0
+InterfaceNoInterference =
+    (setup : Setup) (before img : List ℕ) (x : Context) (stores : ℕ)
+    → Returned (startUp setup) x before img (Done stores)
+    → Apart CallReturned setup (record { session = freshSession setup; image = img })

@@ -123,7 +123,7 @@ formatToday img = erasesToday 0 (2 * blocks img + 1) ++ bytewise 0 (regionHeader
 abbrev pub doingToday : Kind → List ℕ → List Store
 doingToday reads img = []
 doingToday (writes changes) img = changesToday img (changes (valuesOf img))
-doingToday startsUp img = startUpToday img
+doingToday (startsUp setup) img = startUpToday img
 
 -- and neither does a refused call
 unfoldable pub callToday : Call → List ℕ → List Store

@@ -1,0 +1,51 @@
+-- What a side's call changes is of its own names, where 22 lets it pass; an error record that it puts has a record's name, where 17 does.
+-- Assumes nothing.
+use Prim.Native.Nat.{ℕ}
+use native.Mathlib.Omega.{arith}
+use mathlib.Core.Path.{_≡_, refl, sym, ap, _∙_}
+use mathlib.Core.Bool.{Bool, true, false, not, cond, _&&_, false≢true}
+use mathlib.Core.List.{List}
+use mathlib.Core.Option.{none}
+use lib.Dec.{eqb}
+use borrow.Author.Tests.{eqb-true, not-false}
+use Rattle.model.specs.declared.Session.{Session}
+use Rattle.model.specs.declared.Terms.{Terms}
+use Rattle.model.specs.Name.{recordName}
+use Rattle.model.specs.Entry.{Value}
+use Rattle.model.specs.Region.{recordBit, find}
+use Rattle.model.specs.Request.{Request, requestKey}
+use Rattle.model.specs.Change.{Change, put, newValue, changeIn, isErrorRecord}
+use Rattle.model.specs.Sides.{owns}
+use Rattle.model.specs.Rules.{firstBroken, rule17, rule22, termsOf, requestRules, itemRules}
+use Rattle.model.proofs.Looking.{change-cases}
+use Rattle.model.proofs.Requests.{unbroken, record-append}
+use Rattle.recovery.proofs.Views.{About}
+
+-- a set's change is about the name that it names
+pub change-about : (g : List ℕ) (m x : Bool) (r : Request) (vs : List Value) → owns g m (requestKey r) ≡ x → About g m (changeIn r vs) x
+unfolding changeIn newValue
+change-about g m x r vs o = change-cases (λ (c : Change). About g m c x) r (find (requestKey r) vs) o tt o
+
+-- 22 is kept by own names only
+pub item-own : (m : Bool) (s : Session) (r : Request) (vs : List Value) → firstBroken (itemRules (termsOf m s (requestKey r)) r vs) ≡ none
+    → owns (s .setup .modem .vendor) m (requestKey r) ≡ true
+unfolding itemRules requestRules termsOf rule22
+item-own m s r vs kept = not-false (owns (s .setup .modem .vendor) m (requestKey r)) (unbroken _ 22 kept)
+
+-- 17 is kept by error records only under names of theirs
+pub item-recorded : (t : Terms) (r : Request) (vs : List Value) → firstBroken (itemRules t r vs) ≡ none
+    → (v : Value) → changeIn r vs ≡ put v → isErrorRecord v ≡ true → recordName (requestKey r) ≡ true
+unfolding itemRules requestRules rule17 changeIn newValue
+item-recorded t r vs kept =
+    change-cases (λ (c : Change). (v : Value) → c ≡ put v → isErrorRecord v ≡ true → recordName (requestKey r) ≡ true) r (find (requestKey r) vs)
+    (λ v c e. absurd (let z : _≡_ {A = ℕ} 0 1 = cc in omega (arith, z)))
+    (λ v c e. absurd (let z : _≡_ {A = ℕ} 0 1 = cc in omega (arith, z)))
+    (λ v c e.
+    let put-is : newValue r (find (requestKey r) vs) ≡ v = cc in
+    go (eqb (r .attributes) 0) refl (recordBit (r .attributes)) (sym (record-append (r .attributes)) ∙ ap isErrorRecord put-is ∙ e) refl (unbroken _ 17 kept))
+  where
+    go : (z : Bool) → eqb (r .attributes) 0 ≡ z → (b : Bool) → b ≡ true → recordBit (r .attributes) ≡ b
+        → (not z && cond b (not (recordName (requestKey r))) (recordName (requestKey r))) ≡ false → recordName (requestKey r) ≡ true
+    go z e false h f k = absurd (false≢true h)
+    go true e true h f k = absurd (false≢true (ap recordBit (sym (eqb-true (r .attributes) 0 e)) ∙ f))
+    go false e true h f k = not-false (recordName (requestKey r)) k
