@@ -3,6 +3,7 @@
 -- Assumes nothing.
 use Prim.Native.Nat.{ℕ}
 use mathlib.Core.Path.{refl}
+use mathlib.Core.Bool.{false}
 use mathlib.Core.List.{List, [], _∷_, _++_}
 use lib.ListN.{replicate}
 use Rattle.model.specs.declared.Session.{Session}
@@ -53,7 +54,7 @@ revoked stamp = image (header ++ listed 0x3F stamp ++ ff 3924)
 -- a set of dbx, in a session, with presence and verdict
 abbrev revoking : Session → ℕ → List ℕ → List ℕ → ℕ → ℕ → Call
 revoking s a stamp bytes presence verdict =
-    set s (record { name = dbx; vendor = database; attributes = a; bytes = described stamp ++ bytes; presence = presence; verdict = verdict })
+    set false s (record { name = dbx; vendor = database; attributes = a; bytes = described stamp ++ bytes; presence = presence; verdict = verdict })
 
 abbrev more : List ℕ
 more = 0x72 ∷ 0x73 ∷ []

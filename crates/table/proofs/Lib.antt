@@ -25,3 +25,5 @@ pub mod Worn
 pub mod Records
 -- 02 (e): settings that must make sense
 pub mod Settings
+-- 02 (f): two sides in one region
+pub mod Tenants

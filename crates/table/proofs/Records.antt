@@ -9,46 +9,16 @@ use Rattle.model.specs.declared.Session.{Session}
 use Rattle.model.specs.Session.{freshSession}
 use Rattle.model.specs.Answers.{done}
 use Rattle.table.proofs.Pieces.{store}
-use Rattle.table.proofs.Row.{Row, Holds, HoldAll, end, _and_, computed, refuses, idles, given, sessionOf, settingIn as setting, ff, zeros, header, image, empty, guid, rate, four, behindState, startId, rateHeader, rateEntry, rateStands, rated, platform, errors, named}
+use Rattle.table.proofs.Row.{Row, Holds, HoldAll, end, _and_, computed, refuses, idles, given, sessionOf, settingIn as setting, ff, zeros, header, image, empty, guid, rate, four, behindState, startId, rateHeader, rateEntry, rateStands, rated, platform, errors, named, first, recordHeader, recordEntry as entry, recordStands as stands, logged}
 use Rattle.table.proofs.Held.{held}
 
 -- a session in a phase, with a reserve and H
 abbrev session : ℕ → ℕ → ℕ → Session
 session phase reserve h = sessionOf phase (given 0 reserve h)
 
--- HwErrRec0001, HwErrRec00AF
-abbrev first : List ℕ
-first = named 0x30 0x30 0x30 0x31
-
+-- HwErrRec00AF
 abbrev letters : List ℕ
 letters = named 0x30 0x30 0x41 0x46
-
--- one byte of data: 60 + 26 + 1 bytes and 1 of padding, 28 to 116
-abbrev recordHeader : ℕ → List ℕ
-recordHeader attributes = behindState attributes (zeros 16) 0x1A 0x00 0x01 0x00 errors
-
-abbrev entry : ℕ → ℕ → List ℕ → List ℕ
-entry state attributes name = startId ++ (state ∷ []) ++ recordHeader attributes ++ name ++ (0x65 ∷ []) ++ ff 1
-
-abbrev stands : ℕ → List ℕ → List ℕ
-stands attributes name = image (header ++ entry 0x3F attributes name ++ ff 3980)
-
--- its stores: 59 of the header, 7F, 26 of the name, 1 of the data, 3F
-abbrev logged : Session → List ℕ → Row
-logged s name = record {
-  image = empty;
-  call = setting s name errors 0x0F (0x65 ∷ []);
-  answer = done 88;
-  stores = store 28 startId
-      ∷ store 31 (recordHeader 0x0F)
-      ∷ store 30 (0x7F ∷ [])
-      ∷ store 88 name
-      ∷ store 114 (0x65 ∷ [])
-      ∷ store 30 (0x3F ∷ [])
-      ∷ [];
-  left = stands 0x0F name;
-  tail = 116;
-}
 
 -- ---- "with the name HwErrRec and four digits 0 to F in upper case", "H bytes of their own"
 

@@ -2,6 +2,7 @@
 -- Assumes nothing.
 use Prim.Native.Nat.{ℕ}
 use mathlib.Core.Path.{_≡_, refl}
+use mathlib.Core.Bool.{false}
 use mathlib.Core.List.{List, [], _∷_, _++_}
 use lib.ListN.{replicate}
 use Rattle.model.specs.declared.Session.{Session}
@@ -30,34 +31,34 @@ abbrev no : ℕ → List ℕ → Reply
 no needed buffer = record { size = 0; attributes = 0; needed = needed; buffer = buffer }
 
 -- a get writes the front of the buffer; it tells the size needed where that is too short
-got : getReply boot theRate (room 6) rateStands
+got : getReply false boot theRate (room 6) rateStands
     ≡ record { size = 4; attributes = 0x07; needed = 0; buffer = four 0x64 ++ room 2 }
 unfolding computed
 got = refl
 
-gotShort : getReply boot theRate (room 3) rateStands ≡ no 4 (room 3)
+gotShort : getReply false boot theRate (room 3) rateStands ≡ no 4 (room 3)
 unfolding computed
 gotShort = refl
 
-gotNothing : getReply boot other (room 6) rateStands ≡ no 0 (room 6)
+gotNothing : getReply false boot other (room 6) rateStands ≡ no 0 (room 6)
 unfolding computed
 gotNothing = refl
 
 -- next-name begins with the empty name, whatever its GUID, and ends after the last value
-namedFirst : nextReply boot begin (room 30) rateStands
+namedFirst : nextReply false boot begin (room 30) rateStands
     ≡ record { size = 26; attributes = 0; needed = 0; buffer = guid ++ rate ++ room 4 }
 unfolding computed
 namedFirst = refl
 
-namedShort : nextReply boot begin (room 25) rateStands ≡ no 26 (room 25)
+namedShort : nextReply false boot begin (room 25) rateStands ≡ no 26 (room 25)
 unfolding computed
 namedShort = refl
 
-namedLast : nextReply boot theRate (room 30) rateStands ≡ no 0 (room 30)
+namedLast : nextReply false boot theRate (room 30) rateStands ≡ no 0 (room 30)
 unfolding computed
 namedLast = refl
 
-namedAbsent : nextReply boot other (room 30) rateStands ≡ no 0 (room 30)
+namedAbsent : nextReply false boot other (room 30) rateStands ≡ no 0 (room 30)
 unfolding computed
 namedAbsent = refl
 
@@ -71,19 +72,19 @@ oneLock phase = record {
   locks = rate ++ zeros 118 ++ guid ++ zeros 2160;
 }
 
-lockFirst : lockSession boot theRate ≡ oneLock 0
+lockFirst : lockSession false boot theRate ≡ oneLock 0
 unfolding computed
 lockFirst = refl
 
-lockAgain : lockSession (oneLock 0) theRate ≡ oneLock 0
+lockAgain : lockSession false (oneLock 0) theRate ≡ oneLock 0
 unfolding computed
 lockAgain = refl
 
-lockAgainDone : lockOutcome (oneLock 0) theRate ≡ done 0
+lockAgainDone : lockOutcome false (oneLock 0) theRate ≡ done 0
 unfolding computed
 lockAgainDone = refl
 
-lockLate : lockOutcome (oneLock 1) theRate ≡ refused 15
+lockLate : lockOutcome false (oneLock 1) theRate ≡ refused 15
 unfolding computed
 lockLate = refl
 
@@ -97,11 +98,11 @@ fullLocks count = record {
   locks = rate ++ zeros 118 ++ guid ++ zeros 2160;
 }
 
-lockFull : lockOutcome (fullLocks 17) other ≡ refused 16
+lockFull : lockOutcome false (fullLocks 17) other ≡ refused 16
 unfolding computed
 lockFull = refl
 
-lockListed : lockOutcome (fullLocks 17) theRate ≡ done 0
+lockListed : lockOutcome false (fullLocks 17) theRate ≡ done 0
 unfolding computed
 lockListed = refl
 

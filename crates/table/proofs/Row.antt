@@ -3,9 +3,11 @@
 -- Assumes nothing.
 use Prim.Native.Nat.{ℕ, _-_, _/_, _%_}
 use mathlib.Core.Path.{_≡_}
+use mathlib.Core.Bool.{false}
 use mathlib.Core.List.{List, [], _∷_, _++_, map}
 use lib.ListN.{length, replicate}
 use Rattle.model.specs.declared.Setup.{Setup}
+use Rattle.model.specs.declared.Tenant.{Tenant}
 use Rattle.model.specs.declared.Session.{Session}
 use Rattle.model.specs.declared.Context.{Context}
 use Rattle.model.specs.Image.{region}
@@ -30,7 +32,7 @@ unlimited = 100000
 
 -- no stop, no dead byte, single bytes
 abbrev pub quiet : Context
-quiet = record { limit = unlimited; count = 0; dead = []; width = 1 }
+quiet = record { limit = unlimited; count = 0; dead = []; width = 1; side = 0 }
 
 pub record Holds (row : Row) : Type 0 where
   pub answer : outcome quiet (planOf (row .call) (row .image)) (row .image) ≡ row .answer
@@ -64,9 +66,21 @@ abbrev pub joint : List (List ℕ) → List ℕ
 joint [] = []
 joint (part ∷ parts) = part ++ joint parts
 
--- what a start-up is given: custom mode, R, H, and rules for settings, each by its bytes, so many of them in use; and without such rules
+-- what a start-up is given: custom mode, R, H, and rules for settings, each by its bytes, so many of them in use; and without such rules. 02 (f): "In 01's cases our
+-- share is L less 28, the rest 0", L being 4,096; beside H it is what H leaves
+abbrev pub nobody : Tenant
+nobody = record { share = 0; reserve = 0; vendor = replicate 16 0 }
+
 abbrev pub givenRules : ℕ → ℕ → ℕ → ℕ → List (List ℕ) → Setup
-givenRules custom reserve h n limits = record { custom = custom; reserve = reserve; records = h; rules = n; limits = joint limits }
+givenRules custom reserve h n limits = record {
+  custom = custom;
+  reserve = reserve;
+  records = h;
+  share = 4068 - h;
+  modem = nobody;
+  rules = n;
+  limits = joint limits;
+}
 
 abbrev pub given : ℕ → ℕ → ℕ → Setup
 given custom reserve h = givenRules custom reserve h 0 []
@@ -129,9 +143,12 @@ behindState attributes stamp n₀ n₁ d₀ d₁ vendor =
 abbrev pub startId : List ℕ
 startId = 0xAA ∷ 0x55 ∷ []
 
--- RATE's header behind the state, and its whole entry in a state: 74 bytes, and 2 of padding
+-- the header behind the state of a name of 10 bytes under a GUID, with four bytes of data; RATE's, and its whole entry in a state: 74 bytes, and 2 of padding
+abbrev pub tenAndFour : List ℕ → List ℕ
+tenAndFour vendor = behindState 0x07 (zeros 16) 0x0A 0x00 0x04 0x00 vendor
+
 abbrev pub rateHeader : List ℕ
-rateHeader = behindState 0x07 (zeros 16) 0x0A 0x00 0x04 0x00 guid
+rateHeader = tenAndFour guid
 
 abbrev pub rateEntry : ℕ → ℕ → List ℕ
 rateEntry state b = startId ++ (state ∷ []) ++ rateHeader ++ rate ++ four b ++ ff 2
@@ -139,7 +156,7 @@ rateEntry state b = startId ++ (state ∷ []) ++ rateHeader ++ rate ++ four b ++
 -- a set with neither presence nor verdict; and in the boot phase, under the GUID above
 abbrev pub settingIn : Session → List ℕ → List ℕ → ℕ → List ℕ → Call
 settingIn s name vendor attributes bytes =
-    set s (record { name = name; vendor = vendor; attributes = attributes; bytes = bytes; presence = 0; verdict = 0 })
+    set false s (record { name = name; vendor = vendor; attributes = attributes; bytes = bytes; presence = 0; verdict = 0 })
 
 abbrev pub setting : List ℕ → ℕ → List ℕ → Call
 setting name attributes bytes = settingIn boot name guid attributes bytes
@@ -218,6 +235,37 @@ named a b c d =
     (0x48 ∷ 0x00 ∷ 0x77 ∷ 0x00 ∷ 0x45 ∷ 0x00 ∷ 0x72 ∷ 0x00 ∷ 0x72 ∷ 0x00 ∷ 0x52 ∷ 0x00 ∷ 0x65 ∷ 0x00 ∷ 0x63 ∷ 0x00 ∷ [])
     ++ (a ∷ 0x00 ∷ b ∷ 0x00 ∷ c ∷ 0x00 ∷ d ∷ 0x00 ∷ 0x00 ∷ 0x00 ∷ [])
 
+-- HwErrRec0001
+abbrev pub first : List ℕ
+first = named 0x30 0x30 0x30 0x31
+
+-- a record with one byte of data: 60 + 26 + 1 bytes and 1 of padding, 28 to 116
+abbrev pub recordHeader : ℕ → List ℕ
+recordHeader attributes = behindState attributes (zeros 16) 0x1A 0x00 0x01 0x00 errors
+
+abbrev pub recordEntry : ℕ → ℕ → List ℕ → List ℕ
+recordEntry state attributes name = startId ++ (state ∷ []) ++ recordHeader attributes ++ name ++ (0x65 ∷ []) ++ ff 1
+
+abbrev pub recordStands : ℕ → List ℕ → List ℕ
+recordStands attributes name = image (header ++ recordEntry 0x3F attributes name ++ ff 3980)
+
+-- its stores: 59 of the header, 7F, 26 of the name, 1 of the data, 3F
+abbrev pub logged : Session → List ℕ → Row
+logged s name = record {
+  image = empty;
+  call = settingIn s name errors 0x0F (0x65 ∷ []);
+  answer = done 88;
+  stores = store 28 startId
+      ∷ store 31 (recordHeader 0x0F)
+      ∷ store 30 (0x7F ∷ [])
+      ∷ store 88 name
+      ∷ store 114 (0x65 ∷ [])
+      ∷ store 30 (0x3F ∷ [])
+      ∷ [];
+  left = recordStands 0x0F name;
+  tail = 116;
+}
+
 -- ---- rules for settings
 
 -- what a rule wants of a field: an offset, a width, and a number between two or in a list of eight, of which so many are in use
@@ -266,3 +314,23 @@ below = wanting (between 0 4 0 99)
 -- rules in the boot phase, all of them in use
 abbrev pub under : List (List ℕ) → Session
 under limits = sessionOf 0 (givenRules 0 0 0 (length limits) limits)
+
+-- 02 (f): what a start-up is given: our share and reserve, the modem's, H, and the modem's GUID
+abbrev pub shared : ℕ → ℕ → ℕ → ℕ → ℕ → List ℕ → Setup
+shared share reserve modems kept h vendor = record {
+  custom = 0;
+  reserve = reserve;
+  records = h;
+  share = share;
+  modem = record { share = modems; reserve = kept; vendor = vendor };
+  rules = 0;
+  limits = [];
+}
+
+-- the modem's GUID: 20 up to 2F; one of its names, TEMP, 10 bytes as RATE has
+abbrev pub modem : List ℕ
+modem =
+    0x20 ∷ 0x21 ∷ 0x22 ∷ 0x23 ∷ 0x24 ∷ 0x25 ∷ 0x26 ∷ 0x27 ∷ 0x28 ∷ 0x29 ∷ 0x2A ∷ 0x2B ∷ 0x2C ∷ 0x2D ∷ 0x2E ∷ 0x2F ∷ []
+
+abbrev pub temp : List ℕ
+temp = 0x54 ∷ 0x00 ∷ 0x45 ∷ 0x00 ∷ 0x4D ∷ 0x00 ∷ 0x50 ∷ 0x00 ∷ 0x00 ∷ 0x00 ∷ []

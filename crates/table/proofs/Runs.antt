@@ -38,10 +38,10 @@ bytes [] t = tt
 bytes (b ∷ l) t = let h = both (isByte b) (all isByte l) t in (ltb→lt b 256 (h .0), bytes l (h .1))
 
 -- a start-up with nothing to do has left the image that it found
-pub rested : (img : List ℕ) → T (all isByte img) → outcome (unworn 0) (startUpPlan img) img ≡ done 0 → StartedUp img
+pub rested : (img : List ℕ) → T (all isByte img) → outcome (unworn 0) (startUpPlan plain img) img ≡ done 0 → StartedUp img
 unfolding after applyAll
 rested img small idle =
-    record { before = img; bytes = bytes img small; context = unworn 0; stores = 0; finished = idle; left = sym (plan-left 0 (startUpPlan img) img) }
+    record { setup = plain; before = img; bytes = bytes img small; context = unworn 0; stores = 0; finished = idle; left = sym (plan-left 0 (startUpPlan plain img) img) }
 
 module _ (img : List ℕ) (c : Call) (sized : Sized c) (k : ℕ) where
   -- the image when k stores of the call are complete, and the book then
@@ -78,9 +78,9 @@ pub lost : {start img : List ℕ}
     → StartedUp start
     → Run start img book
     → (n stores : ℕ)
-    → outcome (unworn n) (startUpPlan img) img ≡ done stores
+    → outcome (unworn n) (startUpPlan plain img) img ≡ done stores
     → (left : List ℕ)
-    → imageAfter (unworn n) (startUpPlan img) img ≡ left
+    → imageAfter (unworn n) (startUpPlan plain img) img ≡ left
     → (valuesOf left ≡ book → ⊥)
     → Demand3
     → ⊥
@@ -89,11 +89,11 @@ lost up run n stores finished left same other demand =
 
 -- what follows a resumption is judged on the image that it leaves, found by laying its pieces over the image before
 pub resumption : (img : List ℕ) (ps : List Piece)
-    → startUpBroken img ≡ none
+    → startUpBroken plain img ≡ none
     → resume img ≡ asWrites ps
     → T (allInside (length img) ps)
     → andThen tidySpare (andThen tidyWork tidyTail) (laidAll ps img) ≡ []
-    → startUpPlan img ≡ make [] (asWrites ps ++ [])
+    → startUpPlan plain img ≡ make [] (asWrites ps ++ [])
 unfolding startUpPlan startUpStores
 resumption img ps sound writes inside none-more =
     let tidy = andThen tidySpare (andThen tidyWork tidyTail) in
@@ -113,7 +113,7 @@ pub lost-laid : {start img : List ℕ}
     → StartedUp start
     → Run start img book
     → (ps : List Piece)
-    → startUpPlan img ≡ make [] (asWrites ps ++ [])
+    → startUpPlan plain img ≡ make [] (asWrites ps ++ [])
     → T (allInside (length img) ps)
     → (valuesOf (laidAll ps img) ≡ book → ⊥)
     → Demand3

@@ -3,6 +3,7 @@
 -- Assumes nothing.
 use Prim.Native.Nat.{ℕ}
 use mathlib.Core.Path.{_≡_, refl}
+use mathlib.Core.Bool.{false}
 use mathlib.Core.List.{List, [], _∷_, _++_}
 use lib.ListN.{length, replicate}
 use Rattle.model.specs.Session.{freshSession}
@@ -249,6 +250,7 @@ timedHeader = behindState 0x27 stamp 0x0A 0x00 0x04 0x00 guid
 abbrev timed : List ℕ → List ℕ → Field → Call
 timed name vendor field =
     set
+    false
     (under (rule (length name) name vendor 4 4 0 field ∷ []))
     (record { name = name; vendor = vendor; attributes = 0x27; bytes = described stamp ++ four 0x64; presence = 0; verdict = 3 })
 

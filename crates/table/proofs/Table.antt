@@ -2,6 +2,7 @@
 -- Assumes nothing.
 use Prim.Native.Nat.{ℕ}
 use mathlib.Core.Path.{refl}
+use mathlib.Core.Bool.{false}
 use mathlib.Core.List.{List, [], _∷_, _++_}
 use lib.ListN.{replicate}
 use Rattle.model.specs.Answers.{done}
@@ -192,7 +193,7 @@ attributes40-holds = held (attributes 0x40) refl refl tt tt refl refl
 
 abbrev settingPK : ℕ → List ℕ → ℕ → Call
 settingPK a bytes verdict =
-    set boot (record { name = pk; vendor = platform; attributes = a; bytes = bytes; presence = 0; verdict = verdict })
+    set false boot (record { name = pk; vendor = platform; attributes = a; bytes = bytes; presence = 0; verdict = verdict })
 
 abbrev pk07 : Row
 pk07 = refuses empty 28 (settingPK 0x07 (four 0x64) 0) 5

@@ -23,7 +23,7 @@ pub record Row : Type 0 where
   pub left : List ℕ
 
 abbrev contextOf : Row → Context
-contextOf row = record { limit = row .limit; count = row .count; dead = row .dead; width = 1 }
+contextOf row = record { limit = row .limit; count = row .count; dead = row .dead; width = 1; side = 0 }
 
 pub record Holds (row : Row) : Type 0 where
   pub answer : outcome (contextOf row) (row .plan) (row .image) ≡ row .answer
