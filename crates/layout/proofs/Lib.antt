@@ -7,3 +7,5 @@ pub mod Bytes
 pub mod Named
 -- A record's name by its length and its bytes
 pub mod Records
+-- Whose a name is
+pub mod Owners

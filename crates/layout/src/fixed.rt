@@ -7,6 +7,7 @@ ghost use Rattle.model.specs.Lists.{same};
 ghost use Rattle.model.specs.Image.{regionHeaderIn};
 ghost use Rattle.model.specs.Region.{rightHeaderIn};
 ghost use Rattle.model.specs.Name.{keyed, sameKey, recordVendor, recordFront, isDigit, digits, recordName};
+ghost use Rattle.model.specs.Sides.{modemName, owns};
 ghost use Rattle.model.specs.Request.{globalVendor, databaseVendor, certificate, keyPK, keyKEK, keydb, keydbx, keydbt, isDatabase, isKeyName};
 ghost use Rattle.layout.specs.Digits.{digitAt};
 use model::Layout;
@@ -260,4 +261,28 @@ pub fn is_record_name(name: &[u8], vendor: &[u8]) -> bool
         return slices::equal(vendor, &of);
     }
     false
+}
+
+// Whether a name is the modem's, whose vendor GUID is given: all names under it are, but key names and those of error records.
+fn is_modems(guid: &[u8; 16], name: &[u8], vendor: &[u8]) -> bool
+    ensures { λ r. ⌜ r ≡ modemName (now (guid .entry)) (keyed (now (name .entry)) (now (vendor .entry))) ⌝ }
+{
+    if !slices::equal(vendor, guid) {
+        return false;
+    }
+    if is_key_name(name, guid) {
+        return false;
+    }
+    !is_record_name(name, guid)
+}
+
+// Whether a name is a side's own: the modem's, or ours.
+pub fn is_own(guid: &[u8; 16], modem: bool, name: &[u8], vendor: &[u8]) -> bool
+    ensures { λ r. ⌜ r ≡ owns (now (guid .entry)) modem (keyed (now (name .entry)) (now (vendor .entry))) ⌝ }
+{
+    let theirs = is_modems(guid, name, vendor);
+    if modem {
+        return theirs;
+    }
+    !theirs
 }

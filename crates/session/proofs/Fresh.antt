@@ -1,159 +1,129 @@
--- A session that is renewed in place: of its bytes only those before H and those from the count of locks on are written, so H, the number of rules and their table are
--- as they were; the phase, the count, the sizes and the lock list are zeros.
+-- A session that is renewed in place: of its bytes only the phase, custom mode and the two reserves, and those from the count of locks on are written, so every other
+-- field is as it was; the count, the sizes and the lock list are zeros.
 -- Assumes nothing.
-use Prim.Native.Nat.{ℕ, _+_, _*_, _/_, _%_, _≤_, _<_, min}
+use Prim.Native.Nat.{ℕ, _+_, _*_, _≤_}
 use native.Mathlib.Omega.{arith}
-use native.Mathlib.Nat.{add-zero, zero-add}
-use mathlib.Core.Path.{_≡_, refl, sym, ap, _∙_, fun-ext}
+use mathlib.Core.Path.{_≡_, sym, ap, _∙_, fun-ext}
 use mathlib.Core.Bool.{cond}
-use mathlib.Core.List.{List, [], _∷_, _++_, map, append-nil, append-assoc}
-use lib.ListN.{length, take, drop, getD, replicate, length-append, length-take, length-drop, length-replicate, take-append-drop, drop-of-length-le}
-use lib.Seq.{sets, sets-eq, length-sets, take-append-le, drop-append-le, take-append-add, drop-append-add, getD-append-add, drop-drop}
+use mathlib.Core.List.{List, map}
+use lib.ListN.{length, take, drop, replicate, length-drop, length-replicate}
+use lib.Seq.{sets, length-sets, drop-drop}
 use Rattle.model.specs.declared.Session.{Session}
 use Rattle.model.specs.Lists.{part, range, u32At, numbersAt}
 use Rattle.model.specs.Session.{isYes, countedReserve, kept, noLocks, noSizes, freshSession}
 use Rattle.model.specs.Lent.{setupOf, sessionOf}
-use Rattle.model.proofs.Segments.{getD-segment}
-use Rattle.session.specs.Fresh.{freshFront}
+use Rattle.session.specs.Written.{numberBytes}
+use Rattle.session.proofs.Stored.{drop-to, sets-all, part-before, part-after, number-before, number-after, number-there, number-past}
 
--- ---- numbers and parts of a list in three pieces
+abbrev zeros : List ℕ
+zeros = replicate 2372 0
 
-pub number-as : (s t : List ℕ) (k i : ℕ) → ((j : ℕ) → j < 4 → getD s (k + j) 0 ≡ getD t (i + j) 0) → u32At s k ≡ u32At t i
-number-as s t k i h =
-    let z : 0 < 4 = omega arith in
-    let o : 1 < 4 = omega arith in
-    let w : 2 < 4 = omega arith in
-    let y : 3 < 4 = omega arith in
-    let k₃ : k + 2 + 1 ≡ k + 3 = omega arith in
-    let i₃ : i + 3 ≡ i + 2 + 1 = omega arith in
-    let a : getD s k 0 ≡ getD t i 0 = ap (λ (n : ℕ). getD s n 0) (sym (add-zero k)) ∙ h 0 z ∙ ap (λ (n : ℕ). getD t n 0) (add-zero i) in
-    let b : getD s (k + 1) 0 ≡ getD t (i + 1) 0 = h 1 o in
-    let c : getD s (k + 2) 0 ≡ getD t (i + 2) 0 = h 2 w in
-    let d : getD s (k + 2 + 1) 0 ≡ getD t (i + 2 + 1) 0 = ap (λ (n : ℕ). getD s n 0) k₃ ∙ h 3 y ∙ ap (λ (n : ℕ). getD t n 0) i₃ in
-    omega (arith, a, b, c, d)
+-- by the list after each store
+module _ (b : List ℕ) {p q r t w : List ℕ} (long : length b ≡ 9332)
+    (phased : p ≡ sets b 0 (numberBytes 0))
+    (flagged : q ≡ sets p 4 (numberBytes (cond (isYes (u32At p 4)) 1 0)))
+    (ours : r ≡ sets q 8 (numberBytes (countedReserve (u32At q 8))))
+    (theirs : t ≡ sets r 24 (numberBytes (countedReserve (u32At r 24))))
+    (emptied : w ≡ sets t 6960 zeros) where
+  p-long : length p ≡ 9332
+  p-long = ap length phased ∙ length-sets b 0 (numberBytes 0) ∙ long
 
-module _ (p q z : List ℕ) where
-  -- in the middle piece
-  middle-number : (i : ℕ) → i + 4 ≤ length q → u32At (p ++ (q ++ z)) (length p + i) ≡ u32At q i
-  middle-number i h =
-      number-as (p ++ (q ++ z)) q (length p + i) i
-      (λ j l. let e : length p + i + j ≡ length p + (i + j) = omega arith in
-      let inside : i + j < length q = omega (arith, l) in
-      ap (λ (n : ℕ). getD (p ++ (q ++ z)) n 0) e ∙ getD-segment p q z (i + j) inside)
+  q-long : length q ≡ 9332
+  q-long = ap length flagged ∙ length-sets p 4 (numberBytes (cond (isYes (u32At p 4)) 1 0)) ∙ p-long
 
-  middle-part : (i n : ℕ) → i + n ≤ length q → part (length p + i) n (p ++ (q ++ z)) ≡ part i n q
-  middle-part i n h =
-      let r = length-drop i q in
-      ap (take n) (drop-append-add p (q ++ z) i ∙ drop-append-le i q z (omega arith)) ∙ take-append-le n (drop i q) z (omega arith)
+  r-long : length r ≡ 9332
+  r-long = ap length ours ∙ length-sets q 8 (numberBytes (countedReserve (u32At q 8))) ∙ q-long
 
-  -- in the last one
-  last-byte : (i : ℕ) → getD (p ++ (q ++ z)) (length p + length q + i) 0 ≡ getD z i 0
-  last-byte i =
-      let e : length p + length q + i ≡ length p + (length q + i) = omega arith in
-      ap (λ (n : ℕ). getD (p ++ (q ++ z)) n 0) e ∙ getD-append-add p (q ++ z) (length q + i) 0 ∙ getD-append-add q z i 0
+  t-long : length t ≡ 9332
+  t-long = ap length theirs ∙ length-sets r 24 (numberBytes (countedReserve (u32At r 24))) ∙ r-long
 
-  last-number : (i : ℕ) → u32At (p ++ (q ++ z)) (length p + length q + i) ≡ u32At z i
-  last-number i =
-      number-as (p ++ (q ++ z)) z (length p + length q + i) i
-      (λ j l. let e : length p + length q + i + j ≡ length p + length q + (i + j) = omega arith in
-      ap (λ (n : ℕ). getD (p ++ (q ++ z)) n 0) e ∙ last-byte (i + j))
+  -- a number before what is emptied, and one before the modem's reserve
+  low : (i : ℕ) → i + 4 ≤ 6960 → u32At w i ≡ u32At t i
+  low i h = ap (λ (l : List ℕ). u32At l i) emptied ∙ number-before t zeros 6960 i h
 
-  last-numbers : (i n : ℕ) → numbersAt (p ++ (q ++ z)) (length p + length q + i) n ≡ numbersAt z i n
-  unfolding numbersAt
-  last-numbers i n =
-      ap (λ (f : ℕ → ℕ). map f (range 0 n))
-      (fun-ext (λ j. let e : length p + length q + i + 4 * j ≡ length p + length q + (i + 4 * j) = omega arith in
-      ap (u32At (p ++ (q ++ z))) e ∙ last-number (i + 4 * j)))
+  lower : (i : ℕ) → i + 4 ≤ 24 → u32At w i ≡ u32At r i
+  lower i h = low i (omega arith) ∙ ap (λ (l : List ℕ). u32At l i) theirs ∙ number-before r (numberBytes (countedReserve (u32At r 24))) 24 i h
 
-  last-part : (i n : ℕ) → part (length p + length q + i) n (p ++ (q ++ z)) ≡ part i n z
-  last-part i n =
-      let e : length p + length q + i ≡ length p + (length q + i) = omega arith in
-      ap (λ (m : ℕ). part m n (p ++ (q ++ z))) e ∙ ap (take n) (drop-append-add p (q ++ z) (length q + i) ∙ drop-append-add q z i)
+  -- what comes after our reserve is as it was, but for the modem's
+  after-ours : (i : ℕ) → 12 ≤ i → u32At r i ≡ u32At b i
+  after-ours i h =
+      ap (λ (l : List ℕ). u32At l i) ours ∙ number-after q (numberBytes (countedReserve (u32At q 8))) 8 i (omega arith)
+      ∙ ap (λ (l : List ℕ). u32At l i) flagged ∙ number-after p (numberBytes (cond (isYes (u32At p 4)) 1 0)) 4 i (omega arith)
+      ∙ ap (λ (l : List ℕ). u32At l i) phased ∙ number-after b (numberBytes 0) 0 i (omega arith)
 
--- ---- a session renewed
+  part-stays : (i n : ℕ) → 28 ≤ i → i + n ≤ 6960 → part i n w ≡ part i n b
+  part-stays i n h m =
+      ap (part i n) emptied ∙ part-before t zeros 6960 i n m
+      ∙ ap (part i n) theirs ∙ part-after r (numberBytes (countedReserve (u32At r 24))) 24 i n (omega arith)
+      ∙ ap (part i n) ours ∙ part-after q (numberBytes (countedReserve (u32At q 8))) 8 i n (omega arith)
+      ∙ ap (part i n) flagged ∙ part-after p (numberBytes (cond (isYes (u32At p 4)) 1 0)) 4 i n (omega arith)
+      ∙ ap (part i n) phased ∙ part-after b (numberBytes 0) 0 i n (omega arith)
 
-module _ (b : List ℕ) (long : length b ≡ 9304) where
-  abbrev between : List ℕ
-  between = part 12 6920 b
+  new-phase : u32At w 0 ≡ 0
+  new-phase =
+      lower 0 (omega arith) ∙ ap (λ (l : List ℕ). u32At l 0) ours ∙ number-before q (numberBytes (countedReserve (u32At q 8))) 8 0 (omega arith)
+      ∙ ap (λ (l : List ℕ). u32At l 0) flagged ∙ number-before p (numberBytes (cond (isYes (u32At p 4)) 1 0)) 4 0 (omega arith)
+      ∙ ap (λ (l : List ℕ). u32At l 0) phased ∙ number-there b 0 0 (omega (arith, long))
 
-  abbrev zeros : List ℕ
-  zeros = replicate 2372 0
+  new-custom : u32At w 4 ≡ cond (isYes (u32At b 4)) 1 0
+  new-custom =
+      lower 4 (omega arith) ∙ ap (λ (l : List ℕ). u32At l 4) ours ∙ number-before q (numberBytes (countedReserve (u32At q 8))) 8 4 (omega arith)
+      ∙ ap (λ (l : List ℕ). u32At l 4) flagged ∙ number-there p 4 (cond (isYes (u32At p 4)) 1 0) (omega (arith, p-long))
+      ∙ ap (λ (n : ℕ). cond (isYes n) 1 0) (ap (λ (l : List ℕ). u32At l 4) phased ∙ number-after b (numberBytes 0) 0 4 (omega arith))
 
-  between-long : length between ≡ 6920
-  between-long = let t = length-take 6920 (drop 12 b) in let d = length-drop 12 b in omega (arith, long)
+  new-reserve : u32At w 8 ≡ countedReserve (u32At b 8)
+  new-reserve =
+      lower 8 (omega arith) ∙ ap (λ (l : List ℕ). u32At l 8) ours ∙ number-there q 8 (countedReserve (u32At q 8)) (omega (arith, q-long))
+      ∙ ap countedReserve
+      (ap (λ (l : List ℕ). u32At l 8) flagged ∙ number-after p (numberBytes (cond (isYes (u32At p 4)) 1 0)) 4 8 (omega arith)
+      ∙ ap (λ (l : List ℕ). u32At l 8) phased ∙ number-after b (numberBytes 0) 0 8 (omega arith))
 
-  front-long : length (take 12 b) ≡ 12
-  front-long = let t = length-take 12 b in omega (arith, long)
+  new-modems : u32At w 24 ≡ countedReserve (u32At b 24)
+  new-modems =
+      low 24 (omega arith) ∙ ap (λ (l : List ℕ). u32At l 24) theirs ∙ number-there r 24 (countedReserve (u32At r 24)) (omega (arith, r-long))
+      ∙ ap countedReserve (after-ours 24 (omega arith))
 
-  in-pieces : b ≡ take 12 b ++ (between ++ drop 6932 b)
-  in-pieces =
-      sym (ap (λ (l : List ℕ). take 12 b ++ (between ++ l)) (sym (drop-drop 6920 12 b))
-      ∙ ap (λ (l : List ℕ). take 12 b ++ l) (take-append-drop 6920 (drop 12 b)) ∙ take-append-drop 12 b)
+  new-rules : u32At w 44 ≡ u32At b 44
+  new-rules =
+      low 44 (omega arith) ∙ ap (λ (l : List ℕ). u32At l 44) theirs
+      ∙ number-after r (numberBytes (countedReserve (u32At r 24))) 24 44 (omega arith) ∙ after-ours 44 (omega arith)
 
-  -- what the two stores leave
-  written : (f : List ℕ) → length f ≡ 12 → sets (sets b 0 f) 6932 zeros ≡ f ++ (between ++ zeros)
-  written f l =
+  rest : drop 6960 w ≡ zeros
+  rest =
       let n : length zeros ≡ 2372 = length-replicate {A = ℕ} 2372 0 in
-      let first : sets b 0 f ≡ f ++ drop 12 b = sets-eq f b 0 (omega (arith, l, long)) ∙ ap (λ (m : ℕ). f ++ drop m b) (zero-add (length f) ∙ l) in
-      let r = length-drop 12 b in
-      let whole : length (f ++ drop 12 b) ≡ 9304 = length-append f (drop 12 b) ∙ omega (arith, l, long) in
-      let second : sets (f ++ drop 12 b) 6932 zeros ≡ take 6932 (f ++ drop 12 b) ++ zeros ++ drop (6932 + length zeros) (f ++ drop 12 b) =
-      sets-eq zeros (f ++ drop 12 b) 6932 (omega (arith, n, whole)) in
-      let cut : take 6932 (f ++ drop 12 b) ≡ f ++ between = ap (λ (m : ℕ). take (m + 6920) (f ++ drop 12 b)) (sym l) ∙ take-append-add f (drop 12 b) 6920 in
-      let none : drop (6932 + length zeros) (f ++ drop 12 b) ≡ [] = drop-of-length-le (f ++ drop 12 b) {i = 6932 + length zeros} (omega (arith, n, whole)) in
-      ap (λ (x : List ℕ). sets x 6932 zeros) first ∙ second
-      ∙ ap (λ (x : List ℕ). x ++ zeros ++ drop (6932 + length zeros) (f ++ drop 12 b)) cut
-      ∙ ap (λ (x : List ℕ). (f ++ between) ++ zeros ++ x) none ∙ append-nil ((f ++ between) ++ zeros) ∙ append-assoc f between zeros
+      let d = length-drop 6960 t in
+      let l = t-long in
+      ap (drop 6960) emptied ∙ drop-to zeros t 6960 0 ∙ sets-all (drop 6960 t) zeros (omega (arith, n, d, l))
 
-  -- a number and a part that stay
-  kept-number : (f : List ℕ) → length f ≡ 12 → (i : ℕ) → i + 4 ≤ 6920 → u32At (f ++ (between ++ zeros)) (12 + i) ≡ u32At b (12 + i)
-  kept-number f l i h =
-      let n = between-long in
-      ap (λ (m : ℕ). u32At (f ++ (between ++ zeros)) (m + i)) (sym l) ∙ middle-number f between zeros i (omega (arith, n, h))
-      ∙ sym (ap (λ (x : List ℕ). u32At x (12 + i)) in-pieces ∙ ap (λ (m : ℕ). u32At (take 12 b ++ (between ++ drop 6932 b)) (m + i)) (sym front-long) ∙ middle-number (take 12 b) between (drop 6932 b) i (omega (arith, n, h)))
+  no-count : u32At w 6960 ≡ 0
+  no-count = number-past w 6960 0 ∙ ap (λ (l : List ℕ). u32At l 0) rest
 
-  kept-part : (f : List ℕ) → length f ≡ 12 → (i n : ℕ) → i + n ≤ 6920 → part (12 + i) n (f ++ (between ++ zeros)) ≡ part (12 + i) n b
-  kept-part f l i n h =
-      let m = between-long in
-      ap (λ (x : ℕ). part (x + i) n (f ++ (between ++ zeros))) (sym l) ∙ middle-part f between zeros i n (omega (arith, m, h))
-      ∙ sym (ap (λ (x : List ℕ). part (12 + i) n x) in-pieces ∙ ap (λ (x : ℕ). part (x + i) n (take 12 b ++ (between ++ drop 6932 b))) (sym front-long) ∙ middle-part (take 12 b) between (drop 6932 b) i n (omega (arith, m, h)))
+  no-sizes : numbersAt w 6964 16 ≡ noSizes
+  unfolding noSizes numbersAt
+  no-sizes =
+      ap (λ (f : ℕ → ℕ). map f (range 0 16))
+      (fun-ext (λ j. let e : 6964 + 4 * j ≡ 6960 + (4 + 4 * j) = omega arith in ap (u32At w) e ∙ number-past w 6960 (4 + 4 * j)))
+      ∙ ap (λ (l : List ℕ). map (λ j. u32At l (4 + 4 * j)) (range 0 16)) rest
 
-  module _ (f : List ℕ) (l : length f ≡ 12) where
-    abbrev after : List ℕ
-    after = f ++ (between ++ zeros)
+  no-locks : part 7028 2304 w ≡ noLocks
+  unfolding noLocks
+  no-locks = ap (take 2304) (sym (drop-drop 68 6960 w)) ∙ ap (part 68 2304) rest
 
-    past : length f + length between ≡ 6932
-    past = omega (arith, l, between-long)
-
-    no-count : u32At after 6932 ≡ 0
-    no-count = ap (u32At after) (let e : 6932 ≡ length f + length between + 0 = omega (arith, past) in e) ∙ last-number f between zeros 0
-
-    no-sizes : numbersAt after 6936 16 ≡ noSizes
-    unfolding noSizes numbersAt
-    no-sizes = ap (λ (m : ℕ). numbersAt after m 16) (let e : 6936 ≡ length f + length between + 4 = omega (arith, past) in e) ∙ last-numbers f between zeros 4 16
-
-    no-locks : part 7000 2304 after ≡ noLocks
-    unfolding noLocks
-    no-locks = ap (λ (m : ℕ). part m 2304 after) (let e : 7000 ≡ length f + length between + 68 = omega (arith, past) in e) ∙ last-part f between zeros 68 2304
-
-  two-bytes : (n : ℕ) → n ≤ 4096 → n % 256 + 256 * (n / 256) ≡ n
-  two-bytes n h = omega arith
-
-  pub renewed : {x : List ℕ} → x ≡ sets (sets b 0 (freshFront (u32At b 4) (u32At b 8))) 6932 zeros → sessionOf x ≡ freshSession (sessionOf b .setup)
-  unfolding sessionOf setupOf freshSession kept freshFront
-  renewed {x} e =
-      let f : List ℕ = freshFront (u32At b 4) (u32At b 8) in
-      let s : x ≡ f ++ (between ++ zeros) = e ∙ written f refl in
-      let custom : u32At (f ++ (between ++ zeros)) 4 ≡ cond (isYes (u32At b 4)) 1 0 = omega arith in
-      let reserve : u32At (f ++ (between ++ zeros)) 8 ≡ min (u32At b 8) 4096 = (let t = two-bytes (min (u32At b 8) 4096) (omega arith) in omega (arith, t)) in
-      let records : u32At (f ++ (between ++ zeros)) 12 ≡ u32At b 12 = kept-number f refl 0 (omega arith) in
-      let rules : u32At (f ++ (between ++ zeros)) 16 ≡ u32At b 16 = kept-number f refl 4 (omega arith) in
-      let limits : part 20 6912 (f ++ (between ++ zeros)) ≡ part 20 6912 b = kept-part f refl 8 6912 (omega arith) in
-      ap sessionOf s
-      ∙ (λ i. record {
-        phase = 0;
-        setup = record { custom = custom i; reserve = reserve i; records = records i; rules = rules i; limits = limits i };
-        count = no-count f refl i;
-        sizes = no-sizes f refl i;
-        locks = no-locks f refl i;
+  pub renewed : sessionOf w ≡ freshSession (sessionOf b .setup)
+  unfolding sessionOf setupOf freshSession kept
+  renewed =
+      (λ i. record {
+        phase = new-phase i;
+        setup = record {
+          custom = new-custom i;
+          reserve = new-reserve i;
+          records = (lower 12 (omega arith) ∙ after-ours 12 (omega arith)) i;
+          share = (lower 16 (omega arith) ∙ after-ours 16 (omega arith)) i;
+          modem = record { share = (lower 20 (omega arith) ∙ after-ours 20 (omega arith)) i; reserve = new-modems i; vendor = part-stays 28 16 (omega arith) (omega arith) i };
+          rules = new-rules i;
+          limits = part-stays 48 6912 (omega arith) (omega arith) i;
+        };
+        count = no-count i;
+        sizes = no-sizes i;
+        locks = no-locks i;
       })

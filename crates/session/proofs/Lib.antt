@@ -5,6 +5,8 @@ pub mod Phases
 pub mod Places
 -- A lock by its tests in their order
 pub mod Locking
+-- What is stored into a list before, within and after a part of it
+pub mod Stored
 -- A session renewed in place
 pub mod Fresh
 -- One more lock in place

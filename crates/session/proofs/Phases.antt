@@ -2,40 +2,37 @@
 -- Assumes nothing.
 use Prim.Native.Nat.{ℕ, min}
 use native.Mathlib.Omega.{arith}
-use mathlib.Core.Path.{_≡_, refl, sym}
+use mathlib.Core.Path.{_≡_, refl, ap, _∙_}
 use mathlib.Core.Bool.{Bool, true, false}
-use mathlib.Core.List.{List}
 use lib.Dec.{eqb, leb}
 use borrow.Author.Tests.{eq-eqb, ne-eqb, eqb-true, eqb-false, leb-true, leb-false}
 use Rattle.model.specs.declared.Session.{Session}
-use Rattle.model.specs.Lists.{part, u32At, numbersAt}
+use Rattle.model.specs.declared.Terms.{Terms}
 use Rattle.model.specs.Name.{Key}
 use Rattle.model.specs.Session.{countedPhase, inBoot, atRuntime, customMode, reserved}
-use Rattle.model.specs.Rules.{rule6, termsOf, viewOf}
-use Rattle.model.specs.Lent.{setupOf, sessionOf}
-use Rattle.session.specs.Said.{barredBy, termsBy, viewBy}
+use Rattle.model.specs.Rules.{rule6, termsFor, termsOf, viewOf}
+use Rattle.session.specs.Said.{barredBy, termsBy, termsWith, viewBy}
 use Rattle.session.proofs.Places.{locked-held}
 
-pub terms-said : (s : Session) (k : Key)
-    → termsOf s k
-    ≡ termsBy (s .phase) (s .setup .custom) (s .setup .reserve) (s .setup .records) (s .setup .rules) (barredBy (s .phase) (s .count) (s .sizes) (s .locks) k)
-unfolding termsOf termsBy barredBy rule6 inBoot atRuntime customMode reserved
-terms-said s k = rw (locked-held s k)
+pub terms-for-said : (m : Bool) (s : Session)
+    → termsFor m s ≡ termsBy m (s .phase) (s .setup .custom) (s .setup .reserve) (s .setup .records) (s .setup .share) (s .setup .modem) (s .setup .rules)
+unfolding termsFor termsBy atRuntime customMode reserved
+terms-for-said m s = refl
 
-pub view-said : (s : Session) → viewOf s ≡ viewBy (s .phase)
+pub terms-with : (m : Bool) (s : Session) (k : Key) → termsOf m s k ≡ termsWith (termsFor m s) (barredBy (s .phase) (s .count) (s .sizes) (s .locks) k) k
+unfolding termsOf termsFor termsWith barredBy rule6 inBoot
+terms-with m s k = rw (locked-held s k)
+
+pub terms-said : (m : Bool) (s : Session) (k : Key)
+    → termsOf m s k
+    ≡ termsWith (termsBy m (s .phase) (s .setup .custom) (s .setup .reserve) (s .setup .records) (s .setup .share) (s .setup .modem) (s .setup .rules))
+    (barredBy (s .phase) (s .count) (s .sizes) (s .locks) k) k
+terms-said m s k =
+    terms-with m s k ∙ ap (λ (t : Terms). termsWith t (barredBy (s .phase) (s .count) (s .sizes) (s .locks) k) k) (terms-for-said m s)
+
+pub view-said : (m : Bool) (s : Session) → viewOf m s ≡ viewBy m (s .phase) (s .setup .modem .vendor)
 unfolding viewOf viewBy atRuntime
-view-said s = refl
-
--- and one in its host's memory
-pub terms-lent : (s : List ℕ) (k : Key)
-    → termsBy (u32At s 0) (u32At s 4) (u32At s 8) (u32At s 12) (u32At s 16) (barredBy (u32At s 0) (u32At s 6932) (numbersAt s 6936 16) (part 7000 2304 s) k)
-    ≡ termsOf (sessionOf s) k
-unfolding sessionOf setupOf
-terms-lent s k = sym (terms-said (sessionOf s) k)
-
-pub view-lent : (s : List ℕ) → viewBy (u32At s 0) ≡ viewOf (sessionOf s)
-unfolding sessionOf
-view-lent s = sym (view-said (sessionOf s))
+view-said m s = refl
 
 pub boot-test : (p : ℕ) → eqb (countedPhase p) 0 ≡ eqb p 0
 boot-test p = go (eqb p 0) refl

@@ -3,7 +3,5 @@
 pub mod Places
 -- What a session says to a call, by its parts
 pub mod Said
--- A fresh session in its host's memory
-pub mod Fresh
--- One more lock in a session in its host's memory
-pub mod Enlisted
+-- What is written into a session in its host's memory
+pub mod Written

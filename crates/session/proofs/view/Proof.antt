@@ -1,4 +1,4 @@
--- `session::view` meets its contract: it tells whether the phase is runtime. Assumes nothing.
+-- `session::view` meets its contract: it tells whether the phase is runtime, which side it is, and the modem's GUID. Assumes nothing.
 use mathlib.Core.Path.{sym}
 use Rattle.session.specs.Said.{viewBy}
 use borrow.Author.Needs.{needs}

@@ -1,11 +1,11 @@
 -- `session::lent::enlist` meets its contract: its three stores, one after the other. Assumes nothing.
 use Prim.Native.Nat.{ℕ, _+_, _*_}
 use mathlib.Core.Path.{ap, _∙_}
-use mathlib.Core.List.{List, [], _∷_}
+use mathlib.Core.List.{List}
 use lib.ListN.{length}
 use lib.Seq.{sets}
 use denote.Ref.{now}
-use Rattle.session.specs.Enlisted.{enlisted}
+use Rattle.session.specs.Written.{numberBytes, enlisted}
 use borrow.Author.Needs.{needs}
 use Rattle.session.proofs.lent.enlist.Statement.{statement}
 use Rattle.session.proofs.lent.enlist.Tie as tie
@@ -13,12 +13,11 @@ use Rattle.session.proofs.lent.enlist.Tie as tie
 returns : tie.Need-returns
 unfolding enlisted
 returns c =
-    let a = c .before .before .before .before .before .before .before .before .before .args in
-    let e = c .before .before .before .before .before .before .put-place .ensures in (
-      c .put-bytes2 .ensures .buffer
-          ∙ ap (λ (l : List ℕ). sets l 6932 ((a .place + 1) ∷ 0 ∷ 0 ∷ 0 ∷ []))
-          (c .before .before .before .put-bytes .ensures .buffer
-          ∙ ap (λ (l : List ℕ). sets l (6936 + 4 * a .place) (length (now (a .name)) ∷ 0 ∷ 0 ∷ 0 ∷ [])) (e .0)),
+    let a = c .before .before .before .before .before .before .before .args in
+    let e = c .before .before .before .before .put-place .ensures in (
+      c .put-number2 .ensures
+          ∙ ap (λ (l : List ℕ). sets l 6960 (numberBytes (a .place + 1)))
+          (c .before .before .put-number .ensures ∙ ap (λ (l : List ℕ). sets l (6964 + 4 * a .place) (numberBytes (length (now (a .name))))) (e .0)),
       e .1,
     )
 
@@ -31,11 +30,7 @@ enlist-spec =
     (λ c κs. search needs)
     (λ c. search needs)
     (λ c. search needs)
-    (λ c. search needs)
-    (λ c. search needs)
     (λ c κs. search needs)
-    (λ c. search needs)
-    (λ c. search needs)
     (λ c. search needs)
     (λ c κs. search needs)
     returns)

@@ -1,83 +1,54 @@
--- `session::lent::lock` meets its contract: its tests are those of the rules, in their order, and what it writes is one more lock. Assumes nothing.
-use Prim.Native.Nat.{ℕ, _≤_, _<_}
+-- `session::lent::lock` meets its contract: what it comes to by the parts is what it comes to in the session, and what it writes is one more lock. Assumes nothing.
+use Prim.Native.Nat.{ℕ, _<_}
 use mathlib.Core.Path.{_≡_, sym, ap, subst, _∙_}
 use mathlib.Core.Bool.{true, false}
-use lib.ListN.{length}
-use lib.Dec.{eqb}
+use mathlib.Core.List.{List}
 use denote.Ref.{now}
-use borrow.Author.Needs.{needs}
 use borrow.Author.Tests.{not-true, not-false}
 use Rattle.model.specs.declared.Session.{Session}
-use Rattle.model.specs.Name.{Key, wellNamed}
-use Rattle.model.specs.Session.{countedPhase, locked}
-use Rattle.model.specs.Lent.{sessionOf}
+use Rattle.model.specs.Lists.{part, u32At, numbersAt}
+use Rattle.model.specs.Name.{Key}
+use Rattle.model.specs.Lent.{setupOf, sessionOf}
 use Rattle.model.proofs.Locks.{lock-fits}
-use Rattle.session.proofs.Places.{locked-held}
-use Rattle.session.proofs.Locking.{named-fits, wrong-name, wrong-phase, already, no-space, one-more}
+use Rattle.session.proofs.Locking.{enters-free, outcome-by, session-by}
 use Rattle.session.proofs.Enlisting.{listed}
+use borrow.Author.Needs.{needs}
 use Rattle.session.proofs.lent.lock.Statement.{statement}
 use Rattle.session.proofs.lent.lock.Tie as tie
 
 returns : tie.Need-returns
+unfolding sessionOf setupOf
 returns c =
-    let a = c .before .before .before .before .before .args in
+    let a = c .before .before .before .before .before .before .before .args in
     let s : Session = sessionOf (now (a .s)) in
     let k : Key = record { name = now (a .name); vendor = now (a .vendor) } in
-    wrong-name s k (sym (c .before .is-named .ensures) ∙ not-true (c .before .is-named .result) (c .if1 .taken))
-
-returns-2 : tie.Need-returns-2
-unfolding sessionOf
-returns-2 c =
-    let a = c .before .before .before .before .before .before .before .before .before .before .args in
-    let s : Session = sessionOf (now (a .s)) in
-    let k : Key = record { name = now (a .name); vendor = now (a .vendor) } in
-    let n : wellNamed (k .name) ≡ true = sym (c .before .before .before .before .before .before .is-named .ensures) ∙ not-false (c .before .before .before .before .before .before .is-named .result) (c .before .before .before .before .before .if1 .left) in
-    wrong-phase s k n (sym (c .before .in-boot .ensures ∙ ap (λ (m : ℕ). eqb (countedPhase m) 0) (c .before .before .u32-at .ensures)) ∙ not-true (c .before .in-boot .result) (c .if2 .taken))
-
-returns-3 : tie.Need-returns-3
-unfolding sessionOf
-returns-3 c =
-    let a = c .before .before .before .before .before .before .before .before .before .before .before .before .before .before .args in
-    let s : Session = sessionOf (now (a .s)) in
-    let k : Key = record { name = now (a .name); vendor = now (a .vendor) } in
-    let n : wellNamed (k .name) ≡ true = sym (c .before .before .before .before .before .before .before .before .before .before .is-named .ensures) ∙ not-false (c .before .before .before .before .before .before .before .before .before .before .is-named .result) (c .before .before .before .before .before .before .before .before .before .if1 .left) in
-    let p : eqb (countedPhase (s .phase)) 0 ≡ true = sym (c .before .before .before .before .before .in-boot .ensures ∙ ap (λ (m : ℕ). eqb (countedPhase m) 0) (c .before .before .before .before .before .before .u32-at .ensures)) ∙ not-false (c .before .before .before .before .before .in-boot .result) (c .before .before .before .before .if2 .left) in
-    already s k n p (locked-held s k ∙ sym (c .before .is-locked .ensures) ∙ c .if3 .taken)
-
-returns-4 : tie.Need-returns-4
-unfolding sessionOf
-returns-4 c =
-    let a = c .before .before .before .before .before .before .before .before .before .before .before .before .before .before .before .before .before .before .args in
-    let s : Session = sessionOf (now (a .s)) in
-    let k : Key = record { name = now (a .name); vendor = now (a .vendor) } in
-    let n : wellNamed (k .name) ≡ true = sym (c .before .before .before .before .before .before .before .before .before .before .before .before .before .before .is-named .ensures) ∙ not-false (c .before .before .before .before .before .before .before .before .before .before .before .before .before .before .is-named .result) (c .before .before .before .before .before .before .before .before .before .before .before .before .before .if1 .left) in
-    let p : eqb (countedPhase (s .phase)) 0 ≡ true = sym (c .before .before .before .before .before .before .before .before .before .in-boot .ensures ∙ ap (λ (m : ℕ). eqb (countedPhase m) 0) (c .before .before .before .before .before .before .before .before .before .before .u32-at .ensures)) ∙ not-false (c .before .before .before .before .before .before .before .before .before .in-boot .result) (c .before .before .before .before .before .before .before .before .if2 .left) in
-    let l : locked s k ≡ false = locked-held s k ∙ sym (c .before .before .before .before .before .is-locked .ensures) ∙ c .before .before .before .before .if3 .left in
-    no-space s k n p l (subst (λ (m : ℕ). 16 ≤ m) (c .before .u32-at2 .ensures) (c .if4 .taken))
+    let e = c .before .before .comes-to .ensures in
+    let stays = not-true (c .before .before .comes-to .result .enters) (c .if1 .taken) in
+    (e .0 ∙ outcome-by (a .modem) s k, session-by (a .modem) s k false (sym stays ∙ e .1))
 
 enlist-requires : tie.Need-enlist-requires
-enlist-requires c κs = (
-  c .before .if4 .left,
-  named-fits (now (c .before .before .before .before .before .before .before .before .before .before .before .before .before .before .before .before .before .before .before .args .name)) (sym (c .before .before .before .before .before .before .before .before .before .before .before .before .before .before .before .is-named .ensures) ∙ not-false (c .before .before .before .before .before .before .before .before .before .before .before .before .before .before .before .is-named .result) (c .before .before .before .before .before .before .before .before .before .before .before .before .before .before .if1 .left)),
-)
+enlist-requires c κs =
+    let a = c .before .before .before .before .before .before .before .before .before .before .before .args in
+    let b : List ℕ = now (a .s) in
+    let k : Key = record { name = now (a .name); vendor = now (a .vendor) } in
+    let enters = not-false (c .before .before .before .before .before .before .comes-to .result .enters) (c .before .before .before .before .if1 .left) in
+    let f = enters-free (a .modem) (u32At b 0) (u32At b 6960) (numbersAt b 6964 16) (part 7028 2304 b) (part 28 16 b) k (sym (c .before .before .before .before .before .before .comes-to .ensures .1) ∙ enters) in
+    (subst (λ (m : ℕ). m < 16) (sym (c .before .u32-at .ensures)) (f .1), f .0)
 
-returns-5 : tie.Need-returns-5
-unfolding sessionOf
-returns-5 c =
-    let a = c .before .before .before .before .before .before .before .before .before .before .before .before .before .before .before .before .before .before .before .before .args in
+returns-2 : tie.Need-returns-2
+unfolding sessionOf setupOf
+returns-2 c =
+    let a = c .before .before .before .before .before .before .before .before .before .before .before .before .args in
     let s : Session = sessionOf (now (a .s)) in
     let k : Key = record { name = now (a .name); vendor = now (a .vendor) } in
-    let n : wellNamed (k .name) ≡ true = sym (c .before .before .before .before .before .before .before .before .before .before .before .before .before .before .before .before .is-named .ensures) ∙ not-false (c .before .before .before .before .before .before .before .before .before .before .before .before .before .before .before .before .is-named .result) (c .before .before .before .before .before .before .before .before .before .before .before .before .before .before .before .if1 .left) in
-    let p : eqb (countedPhase (s .phase)) 0 ≡ true = sym (c .before .before .before .before .before .before .before .before .before .before .before .in-boot .ensures ∙ ap (λ (m : ℕ). eqb (countedPhase m) 0) (c .before .before .before .before .before .before .before .before .before .before .before .before .u32-at .ensures)) ∙ not-false (c .before .before .before .before .before .before .before .before .before .before .before .in-boot .result) (c .before .before .before .before .before .before .before .before .before .before .if2 .left) in
-    let l : locked s k ≡ false = locked-held s k ∙ sym (c .before .before .before .before .before .before .before .is-locked .ensures) ∙ c .before .before .before .before .before .before .if3 .left in
-    let free : s .count < 16 = subst (λ (m : ℕ). m < 16) (c .before .before .before .u32-at2 .ensures) (c .before .before .if4 .left) in
-    let fits : length (k .name) ≤ 128 = named-fits (k .name) n in
-    let guid : length (k .vendor) ≡ 16 = c .enlist .ensures .1 in
-    let r = one-more s k n p l free in (
-      r .0,
+    let e = c .before .before .before .before .before .before .before .comes-to .ensures in
+    let enters = not-false (c .before .before .before .before .before .before .before .comes-to .result .enters) (c .before .before .before .before .before .if1 .left) in
+    let f = enters-free (a .modem) (s .phase) (s .count) (s .sizes) (s .locks) (s .setup .modem .vendor) k (sym (e .1) ∙ enters) in
+    let here : s .count ≡ c .before .before .u32-at .result = sym (c .before .before .u32-at .ensures) in (
+      e .0 ∙ outcome-by (a .modem) s k,
       ap sessionOf (c .enlist .ensures .0)
-          ∙ listed (now (a .s)) (c .before .before .before .before .before .before .before .before .before .before .before .before .before .before .before .before .before .long .ensures) k fits guid (c .before .before .before .u32-at2 .result) (c .before .before .if4 .left) (sym (c .before .before .before .u32-at2 .ensures))
-          ∙ sym (lock-fits s k free fits) ∙ r .1,
+          ∙ listed (now (a .s)) (c .before .before .before .before .before .before .before .before .before .long .ensures) k (f .0) (c .enlist .ensures .1) (c .before .before .u32-at .result) (subst (λ (m : ℕ). m < 16) here (f .1)) here
+          ∙ sym (lock-fits s k (f .1) (f .0)) ∙ session-by (a .modem) s k true (sym enters ∙ e .1),
     )
 
 pub lock-spec : {M : Type 1} → statement M
@@ -88,12 +59,6 @@ lock-spec =
     (λ c κs. search needs)
     returns
     (λ c κs. search needs)
-    (λ c κs. search needs)
-    returns-2
-    (λ c κs. search needs)
-    returns-3
-    (λ c κs. search needs)
-    returns-4
     (λ c. search needs)
     enlist-requires
-    returns-5)
+    returns-2)
