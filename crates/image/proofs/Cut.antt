@@ -13,7 +13,7 @@ use Rattle.model.specs.Lists.{part, allFF}
 use Rattle.model.specs.Image.{block, blocks, rightLength, regionSize, region, work, spare}
 use Rattle.model.specs.Region.{tailAtIn, sound, clean, cleanIn}
 use Rattle.model.specs.Work.{usedRecords, wellFormed, endsInFC, idle, pending, readyIn, readyForStartUp}
-use Rattle.model.specs.Rules.{firstBroken, rule1, rule2StartUp, startUpBroken, imageRulesIn, rule2In}
+use Rattle.model.specs.Rules.{firstBroken, rule1, rule2StartUp, imageRulesIn, rule2In}
 use Rattle.model.specs.declared.Rule.the-variants.{Length, Unready}
 use Rattle.model.proofs.Tests.{and-split, true-and}
 use Rattle.records.specs.Look.{lookAt}
@@ -57,7 +57,7 @@ blocks-wrong img wrong = go (rightLength img) refl
 
 -- no blocks: rule 1 is broken
 pub none-refused : (y : Layout) (img : List ℕ) → blocksOf img ≡ 0 → (callIn y img ≡ call.Refused Length) × (startUpOf img ≡ start.Refused Length)
-unfolding blocksOf callIn startUpOf imageRulesIn startUpBroken firstBroken rule1
+unfolding blocksOf callIn startUpOf imageRulesIn firstBroken rule1
 none-refused y img h = go (rightLength img) refl h
   where
     go : (t : Bool) → rightLength img ≡ t → cond t (blocks img) 0 ≡ 0 → (callIn y img ≡ call.Refused Length) × (startUpOf img ≡ start.Refused Length)
@@ -127,13 +127,13 @@ module _ (img : List ℕ) (b : ℕ) (p : Parted img b) where
   not-pending w = rw w
 
   pub start-pending : pending img ≡ true → startUpOf img ≡ start.Pending b (lookAt (work img))
-  unfolding startUpOf startUpBroken firstBroken rule1 rule2StartUp readyForStartUp
+  unfolding startUpOf firstBroken rule1 rule2StartUp readyForStartUp
   start-pending q = rw (p .right-length, q, p .same)
 
   pub start-sound : pending img ≡ false → sound (region img) ≡ true → startUpOf img ≡ start.Sound b (lookAt (work img)) (clean (region img))
-  unfolding startUpOf startUpBroken firstBroken rule1 rule2StartUp readyForStartUp
+  unfolding startUpOf firstBroken rule1 rule2StartUp readyForStartUp
   start-sound q s = rw (p .right-length, q, s, p .same)
 
   pub start-refused : pending img ≡ false → sound (region img) ≡ false → startUpOf img ≡ start.Refused Unready
-  unfolding startUpOf startUpBroken firstBroken rule1 rule2StartUp readyForStartUp
+  unfolding startUpOf firstBroken rule1 rule2StartUp readyForStartUp
   start-refused q s = rw (p .right-length, q, s)

@@ -2,7 +2,7 @@
 use Prim.Native.Nat.{ℕ, _*_, _≤_}
 use mathlib.Core.Path.{_≡_}
 use mathlib.Core.Bool.{true, cond}
-use mathlib.Core.List.{List}
+use mathlib.Core.List.{List, [], _∷_}
 use mathlib.Core.Option.{none}
 use lib.ListN.{length}
 use Rattle.model.specs.declared.Layout.{Layout}
@@ -11,7 +11,8 @@ use Rattle.model.specs.Lists.{part, onSome}
 use Rattle.model.specs.Image.{blocks, rightLength, region, work}
 use Rattle.model.specs.Region.{tailAtIn, soundIn, clean}
 use Rattle.model.specs.Work.{usedRecords, readyIn, pending}
-use Rattle.model.specs.Rules.{firstBroken, imageRulesIn, startUpBroken}
+use Rattle.model.specs.declared.Rule.the-variants.{Length, Unready}
+use Rattle.model.specs.Rules.{firstBroken, rule1, rule2StartUp, imageRulesIn}
 use Rattle.records.specs.Look.{lookAt}
 use Rattle.image.specs.declared.Check.{Check}
 use Rattle.image.specs.declared.Check.the-variants as call
@@ -30,10 +31,11 @@ callIn y img =
 abbrev pub callOf : List ℕ → Check
 callOf = callIn authenticated
 
--- of a start-up: the first broken, or b of what is pending, else of the sound region, and what a look at the work block tells; of the region whether it is clean
+-- of a start-up: the first of rules 1 and 2 broken (22, which comes after them, is asked with what the start-up is given), or b of what is pending, else of the sound
+-- region, and what a look at the work block tells; of the region whether it is clean
 unfoldable pub startUpOf : List ℕ → Start
 startUpOf img =
-    onSome (startUpBroken img) start.Refused
+    onSome (firstBroken ((Length, rule1 img) ∷ (Unready, rule2StartUp img) ∷ [])) start.Refused
     (cond (pending img) (start.Pending (blocks img) (lookAt (work img)))
     (start.Sound (blocks img) (lookAt (work img)) (clean (region img))))
 

@@ -1,18 +1,21 @@
 -- The entries found hold the values that the rules name: an entry and its value have one name, GUID and attributes, so each test passes over the list of
 -- entries as over the list of their values.
 -- Assumes nothing.
+use Prim.Native.Nat.{ℕ}
 use mathlib.Core.Path.{_≡_, refl, ap, _∙_, fun-ext}
 use mathlib.Core.Bool.{Bool, true, false, cond, _&&_, and-true}
 use mathlib.Core.List.{List, [], _∷_, map}
 use mathlib.Core.Option.{Option, none, some}
 use Rattle.model.specs.Lists.{same, keep, first, head, onSome}
 use Rattle.model.specs.Name.{Key, sameKey, emptyName}
-use Rattle.model.specs.Entry.{Value}
+use Rattle.model.specs.Entry.{Value, keyOf}
 use Rattle.model.specs.Walk.{Entry, entryKey, entryValue}
 use Rattle.model.specs.Region.{isValue, values, find}
 use Rattle.model.specs.Request.{runtimeAccess}
-use Rattle.model.specs.Rules.{following, seen, valueToGet, valueToName}
-use Rattle.query.specs.Query.{isSeen, entryToGet, entryFollowing, entryToName}
+use Rattle.model.specs.Rules.{following, seen, valueToGet, nextOf, valueToName}
+use Rattle.model.specs.Sides.{owns, view}
+use Rattle.model.proofs.Values.{keep-twice}
+use Rattle.query.specs.Query.{isSeen, isShown, entryToGet, entryFollowing, entryToName}
 
 -- the value of an entry, where there is one
 abbrev pub valueIn : Option Entry → Option Value
@@ -68,11 +71,25 @@ pub get-value : (runtime : Bool) (k : Key) (es : List Entry) → valueIn (entryT
 unfolding entryToGet valueToGet
 get-value runtime k es = find-values k (keep (isSeen runtime es) es) ∙ ap (find k) (seen-values runtime es)
 
-pub name-value : (runtime : Bool) (k : Key) (es : List Entry) → valueIn (entryToName runtime k es) ≡ valueToName runtime k (values es)
-unfolding entryToName valueToName
-name-value runtime k es = go (same (k .name) emptyName)
+-- what a side is shown: its own of those that are seen, or those seen of its own
+shown-values : (guid : List ℕ) (modem runtime : Bool) (es : List Entry) → map entryValue (keep (isShown guid modem runtime es) es) ≡ seen runtime (view guid modem (values es))
+unfolding isShown view seen
+shown-values guid modem runtime es =
+    keep-values (isSeen runtime es) (λ v. owns guid modem (keyOf v)) es
+    ∙ ap (keep (λ v. owns guid modem (keyOf v))) (seen-values runtime es)
+    ∙ go runtime
   where
-    go : (t : Bool) → valueIn (cond t (head (keep (isSeen runtime es) es)) (entryFollowing k (keep (isSeen runtime es) es)))
-        ≡ cond t (head (seen runtime (values es))) (following k (seen runtime (values es)))
-    go true = head-values (keep (isSeen runtime es) es) ∙ ap head (seen-values runtime es)
-    go false = following-values k (keep (isSeen runtime es) es) ∙ ap (following k) (seen-values runtime es)
+    go : (t : Bool) → keep (λ v. owns guid modem (keyOf v)) (cond t (keep (λ v. runtimeAccess (v .attributes)) (values es)) (values es))
+        ≡ cond t (keep (λ v. runtimeAccess (v .attributes)) (keep (λ v. owns guid modem (keyOf v)) (values es))) (keep (λ v. owns guid modem (keyOf v)) (values es))
+    go true = keep-twice (λ v. owns guid modem (keyOf v)) (λ v. runtimeAccess (v .attributes)) (values es)
+    go false = refl
+
+pub name-value : (guid : List ℕ) (modem runtime : Bool) (k : Key) (es : List Entry)
+    → valueIn (entryToName guid modem runtime k es) ≡ valueToName guid modem runtime k (values es)
+unfolding entryToName valueToName nextOf
+name-value guid modem runtime k es = go (same (k .name) emptyName)
+  where
+    go : (t : Bool) → valueIn (cond t (head (keep (isShown guid modem runtime es) es)) (entryFollowing k (keep (isShown guid modem runtime es) es)))
+        ≡ cond t (head (seen runtime (view guid modem (values es)))) (following k (seen runtime (view guid modem (values es))))
+    go true = head-values (keep (isShown guid modem runtime es) es) ∙ ap head (shown-values guid modem runtime es)
+    go false = following-values k (keep (isShown guid modem runtime es) es) ∙ ap (following k) (shown-values guid modem runtime es)

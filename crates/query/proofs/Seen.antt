@@ -3,7 +3,7 @@
 -- Assumes nothing.
 use Prim.Native.Nat.{ℕ, _-_}
 use mathlib.Core.Path.{_≡_, refl, sym, ap, _∙_}
-use mathlib.Core.Bool.{Bool, true, false, _&&_, and-true, and-false}
+use mathlib.Core.Bool.{Bool, true, false, _&&_, and-true, and-false, true≢false}
 use mathlib.Core.List.{List, [], _∷_}
 use mathlib.Core.Option.{none, some}
 use lib.ListN.{length, take, drop}
@@ -12,6 +12,8 @@ use borrow.Author.Tests.{eq-eqb, eqb-false}
 use Rattle.model.specs.Layout.{authenticated}
 use Rattle.model.specs.Lists.{same, keep, first, head}
 use Rattle.model.specs.Name.{Key, keyed, sameKey, emptyName}
+use Rattle.model.specs.Sides.{owns}
+use Rattle.model.specs.Entry.{keyOf}
 use Rattle.model.specs.Walk as walk
 use Rattle.model.specs.Region.{entries, isEntry, isValue}
 use Rattle.model.specs.Beside.{from}
@@ -24,7 +26,7 @@ use Rattle.region.specs.Judge.{liveState}
 use Rattle.region.proofs.Turns.{Turned, Ended}
 use Rattle.values.proofs.Listed.{value-other}
 use Rattle.values.proofs.Finds.{other-name}
-use Rattle.query.specs.Query.{visible, isSeen, isSought, entryToGet, entryFollowing, goingOn, entryToName}
+use Rattle.query.specs.Query.{visible, isSeen, isSought, isShown, isPassed, entryToGet, entryFollowing, goingOn, entryToName}
 
 -- the entries that are seen from an offset on
 unfoldable pub seenFrom : Bool → List ℕ → ℕ → List walk.Entry
@@ -71,10 +73,19 @@ unfolding entryToGet seenFrom
 get-from runtime k r = ap (λ (es : List walk.Entry). first (λ e. sameKey (walk.entryKey e) k) (keep (isSeen runtime (entries r)) es))
     (entries-from authenticated r)
 
-pub name-from : (runtime : Bool) (k : Key) (r : List ℕ) → entryToName runtime k (entries r) ≡ goingOn (same (k .name) emptyName) k (seenFrom runtime r 28)
-unfolding entryToName seenFrom
-name-from runtime k r = ap (λ (es : List walk.Entry). goingOn (same (k .name) emptyName) k (keep (isSeen runtime (entries r)) es))
+-- the entries that are shown a side from an offset on
+unfoldable pub shownFrom : List ℕ → Bool → Bool → List ℕ → ℕ → List walk.Entry
+shownFrom guid modem runtime r at = keep (isShown guid modem runtime (entries r)) (from r at)
+
+pub name-from : (guid : List ℕ) (modem runtime : Bool) (k : Key) (r : List ℕ)
+    → entryToName guid modem runtime k (entries r) ≡ goingOn (same (k .name) emptyName) k (shownFrom guid modem runtime r 28)
+unfolding entryToName shownFrom
+name-from guid modem runtime k r = ap (λ (es : List walk.Entry). goingOn (same (k .name) emptyName) k (keep (isShown guid modem runtime (entries r)) es))
     (entries-from authenticated r)
+
+pub shown-none : (guid : List ℕ) (modem runtime : Bool) {r : List ℕ} {at : ℕ} → Ended authenticated r at → shownFrom guid modem runtime r at ≡ []
+unfolding shownFrom
+shown-none guid modem runtime {r} z = ap (keep (isShown guid modem runtime (entries r))) (z .walk)
 
 pub seen-none : (runtime : Bool) {r : List ℕ} {at : ℕ} → Ended authenticated r at → seenFrom runtime r at ≡ []
 unfolding seenFrom
@@ -119,22 +130,62 @@ module _ {r : List ℕ} {at : ℕ} {e : numbers.Entry} {n : ℕ} (w : Turned aut
           ap (first (λ y. sameKey (walk.entryKey y) k)) (seen-here s) ∙ rw other
       go false s = ap (first (λ y. sameKey (walk.entryKey y) k)) (seen-next s)
 
-  -- the entry to name, behind the name
-  pub name-here : (k : Key) {p : Bool} → p ≡ true → isSeen runtime (entries r) (entryAt r at e) ≡ true
-      → goingOn p k (seenFrom runtime r at) ≡ some (entryAt r at e)
-  name-here k p h = rw p (ap head (seen-here h))
+-- ---- of one entry that a side is shown
 
-  pub name-next : (k : Key) {p : Bool} → p ≡ true → isSeen runtime (entries r) (entryAt r at e) ≡ false
-      → goingOn p k (seenFrom runtime r at) ≡ goingOn p k (seenFrom runtime r n)
-  name-next k p h = rw p (ap head (seen-next h))
+module _ (guid : List ℕ) (modem runtime : Bool) (r : List ℕ) (at : ℕ) (e : numbers.Entry) where
+  pub shown-seen : isSeen runtime (entries r) (entryAt r at e) ≡ true → isShown guid modem runtime (entries r) (entryAt r at e) ≡ owns guid modem (keyOf (walk.entryValue (entryAt r at e)))
+  unfolding isShown
+  shown-seen h = rw h
+
+  pub shown-unseen : isSeen runtime (entries r) (entryAt r at e) ≡ false → isShown guid modem runtime (entries r) (entryAt r at e) ≡ false
+  unfolding isShown
+  shown-unseen h = rw h
+
+  pub passed-sought : (k : Key) → isSought runtime k (entries r) (entryAt r at e) ≡ true
+      → isPassed guid modem runtime k (entries r) (entryAt r at e) ≡ owns guid modem (keyOf (walk.entryValue (entryAt r at e)))
+  unfolding isSought isPassed isShown
+  passed-sought k h =
+      let p = and-split (sameKey (walk.entryKey (entryAt r at e)) k) (isSeen runtime (entries r) (entryAt r at e)) h in
+      rw (p .0, p .1)
+
+  pub passed-other : (k : Key) → isSought runtime k (entries r) (entryAt r at e) ≡ false → isPassed guid modem runtime k (entries r) (entryAt r at e) ≡ false
+  unfolding isSought isPassed isShown
+  passed-other k h = go (sameKey (walk.entryKey (entryAt r at e)) k) (isSeen runtime (entries r) (entryAt r at e)) (owns guid modem (walk.entryKey (entryAt r at e))) h
+    where
+      go : (x y z : Bool) → (x && y) ≡ false → (x && (y && z)) ≡ false
+      go true true z h = absurd (true≢false h)
+      go true false z h = refl
+      go false y z h = refl
+
+module _ {r : List ℕ} {at : ℕ} {e : numbers.Entry} {n : ℕ} (w : Turned authenticated r at e n) (guid : List ℕ) (modem runtime : Bool) where
+  shown-here : isShown guid modem runtime (entries r) (entryAt r at e) ≡ true → shownFrom guid modem runtime r at ≡ entryAt r at e ∷ shownFrom guid modem runtime r n
+  unfolding shownFrom
+  shown-here h = ap (keep (isShown guid modem runtime (entries r))) (w .walk) ∙ rw h
+
+  shown-next : isShown guid modem runtime (entries r) (entryAt r at e) ≡ false → shownFrom guid modem runtime r at ≡ shownFrom guid modem runtime r n
+  unfolding shownFrom
+  shown-next h = ap (keep (isShown guid modem runtime (entries r))) (w .walk) ∙ rw h
+
+  pub passed-unlike : (name vendor : List ℕ) → Unlike (take (length r - at) (drop at r)) name
+      → isPassed guid modem runtime (keyed name vendor) (entries r) (entryAt r at e) ≡ false
+  passed-unlike name vendor u = passed-other guid modem runtime r at e (keyed name vendor) (sought-unlike w runtime name vendor u)
+
+  -- the entry to name, behind the name
+  pub name-here : (k : Key) {p : Bool} → p ≡ true → isShown guid modem runtime (entries r) (entryAt r at e) ≡ true
+      → goingOn p k (shownFrom guid modem runtime r at) ≡ some (entryAt r at e)
+  name-here k p h = rw p (ap head (shown-here h))
+
+  pub name-next : (k : Key) {p : Bool} → p ≡ true → isShown guid modem runtime (entries r) (entryAt r at e) ≡ false
+      → goingOn p k (shownFrom guid modem runtime r at) ≡ goingOn p k (shownFrom guid modem runtime r n)
+  name-next k p h = rw p (ap head (shown-next h))
 
   -- and before it
-  pub name-before : (k : Key) {p q : Bool} → p ≡ false → q ≡ isSought runtime k (entries r) (entryAt r at e)
-      → goingOn p k (seenFrom runtime r at) ≡ goingOn q k (seenFrom runtime r n)
-  unfolding entryFollowing isSought
-  name-before k p q = rw (p, q) (go (isSeen runtime (entries r) (entryAt r at e)) refl)
+  pub name-before : (k : Key) {p q : Bool} → p ≡ false → q ≡ isPassed guid modem runtime k (entries r) (entryAt r at e)
+      → goingOn p k (shownFrom guid modem runtime r at) ≡ goingOn q k (shownFrom guid modem runtime r n)
+  unfolding entryFollowing isPassed
+  name-before k p q = rw (p, q) (go (isShown guid modem runtime (entries r) (entryAt r at e)) refl)
     where
-      go : (t : Bool) → isSeen runtime (entries r) (entryAt r at e) ≡ t
-          → goingOn false k (seenFrom runtime r at) ≡ goingOn (sameKey (walk.entryKey (entryAt r at e)) k && t) k (seenFrom runtime r n)
-      go true s = ap (entryFollowing k) (seen-here s) ∙ rw (and-true (sameKey (walk.entryKey (entryAt r at e)) k))
-      go false s = ap (entryFollowing k) (seen-next s) ∙ rw (and-false (sameKey (walk.entryKey (entryAt r at e)) k))
+      go : (t : Bool) → isShown guid modem runtime (entries r) (entryAt r at e) ≡ t
+          → goingOn false k (shownFrom guid modem runtime r at) ≡ goingOn (sameKey (walk.entryKey (entryAt r at e)) k && t) k (shownFrom guid modem runtime r n)
+      go true s = ap (entryFollowing k) (shown-here s) ∙ rw (and-true (sameKey (walk.entryKey (entryAt r at e)) k))
+      go false s = ap (entryFollowing k) (shown-next s) ∙ rw (and-false (sameKey (walk.entryKey (entryAt r at e)) k))

@@ -8,6 +8,7 @@ use Rattle.model.specs.Name.{Key, sameKey, emptyName}
 use Rattle.model.specs.Walk.{Entry, entryKey}
 use Rattle.model.specs.Region.{isValue}
 use Rattle.model.specs.Request.{runtimeAccess}
+use Rattle.model.specs.Sides.{owns}
 use Rattle.region.specs.Walk.{entryAt}
 use Rattle.values.specs.declared.Found.{Found}
 use Rattle.values.specs.declared.Found.the-variants.{At, Nothing}
@@ -41,6 +42,13 @@ entryFollowing k (e ∷ es) = cond (sameKey (entryKey e) k) (head es) (entryFoll
 abbrev pub goingOn : Bool → Key → List Entry → Option Entry
 goingOn passed k es = cond passed (head es) (entryFollowing k es)
 
+-- "Next-name shows a side only its own values": an entry is a value that is seen, and the side's own; and it is of this name and GUID besides
+unfoldable pub isShown : List ℕ → Bool → Bool → List Entry → Entry → Bool
+isShown guid modem runtime es e = isSeen runtime es e && owns guid modem (entryKey e)
+
+unfoldable pub isPassed : List ℕ → Bool → Bool → Key → List Entry → Entry → Bool
+isPassed guid modem runtime k es e = sameKey (entryKey e) k && isShown guid modem runtime es e
+
 -- the entry of the next value: the first after the empty name, whatever the GUID
-unfoldable pub entryToName : Bool → Key → List Entry → Option Entry
-entryToName runtime k es = goingOn (same (k .name) emptyName) k (keep (isSeen runtime es) es)
+unfoldable pub entryToName : List ℕ → Bool → Bool → Key → List Entry → Option Entry
+entryToName guid modem runtime k es = goingOn (same (k .name) emptyName) k (keep (isShown guid modem runtime es) es)

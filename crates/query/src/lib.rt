@@ -4,7 +4,7 @@ ghost use Rattle.model.specs.Lists.{same};
 ghost use Rattle.model.specs.Name.{keyed, emptyName};
 ghost use Rattle.model.specs.Region.{entries};
 ghost use Rattle.region.specs.Walk.{entryAt};
-ghost use Rattle.query.specs.Query.{entryIn, visible, isSeen, isSought, entryToGet, entryToName};
+ghost use Rattle.query.specs.Query.{entryIn, visible, isSeen, isSought, isShown, isPassed, entryToGet, entryToName};
 use layout::Entry;
 use model::Layout;
 use region::Turn;
@@ -72,9 +72,47 @@ pub fn is_empty_name(name: &[u8]) -> bool
     slices::equal(name, b"\0\0")
 }
 
-// The value to name: the first that is seen behind the one of this name and GUID, or the first of all behind the empty name.
-pub fn to_name(region: &[u8], runtime: bool, name: &[u8], vendor: &[u8; 16]) -> Found
-    ensures { λ r. ⌜ entryIn (now (region .entry)) r ≡ entryToName runtime (keyed (now (name .entry)) (now (vendor .entry))) (entries (now (region .entry))) ⌝ }
+// Whether an entry is a value that is seen, and a side's own.
+fn is_shown(region: &[u8], at: usize, e: Entry, runtime: bool, guid: &[u8; 16], modem: bool) -> bool
+    ensures { λ r. ⌜ r ≡ isShown (now (guid .entry)) modem runtime (entries (now (region .entry))) (entryAt (now (region .entry)) at e) ⌝ }
+{
+    if is_seen(region, at, e, runtime) {
+        return list::is_own(Layout::AUTHENTICATED, region, at, e, guid, modem);
+    }
+    false
+}
+
+// And of this name and GUID.
+fn is_passed(
+    region: &[u8],
+    at: usize,
+    e: Entry,
+    runtime: bool,
+    guid: &[u8; 16],
+    modem: bool,
+    name: &[u8],
+    vendor: &[u8],
+) -> bool
+    ensures { λ r. ⌜ r ≡ isPassed (now (guid .entry)) modem runtime (keyed (now (name .entry)) (now (vendor .entry)))
+        (entries (now (region .entry))) (entryAt (now (region .entry)) at e) ⌝ }
+{
+    if is_sought(region, at, e, runtime, name, vendor) {
+        return list::is_own(Layout::AUTHENTICATED, region, at, e, guid, modem);
+    }
+    false
+}
+
+// The value to name: of those that are seen and a side's own, the first after the one of this name and GUID, or the first of all after the empty name.
+pub fn to_name(
+    region: &[u8],
+    runtime: bool,
+    guid: &[u8; 16],
+    modem: bool,
+    name: &[u8],
+    vendor: &[u8; 16],
+) -> Found
+    ensures { λ r. ⌜ entryIn (now (region .entry)) r ≡ entryToName (now (guid .entry)) modem runtime (keyed (now (name .entry)) (now (vendor .entry)))
+        (entries (now (region .entry))) ⌝ }
 {
     let mut passed = is_empty_name(name);
     let mut here: usize = layout::REGION_HEADER;
@@ -84,12 +122,12 @@ pub fn to_name(region: &[u8], runtime: bool, name: &[u8], vendor: &[u8; 16]) -> 
             return Found::Nothing;
         };
         if passed {
-            if is_seen(region, here, e, runtime) {
+            if is_shown(region, here, e, runtime, guid, modem) {
                 return Found::At(here, e);
             }
         } else {
             if layout::may_be(&region[here..], name) {
-                passed = is_sought(region, here, e, runtime, name, vendor);
+                passed = is_passed(region, here, e, runtime, guid, modem, name, vendor);
             }
         }
         here = next;

@@ -11,3 +11,5 @@ pub mod Sizes
 pub mod Next
 -- A pass over the values: what is counted, and what is still to come
 pub mod Counting
+-- Shares kept to
+pub mod Allotted

@@ -2,3 +2,5 @@
 pub mod Found
 -- What a pass over the values counts.
 pub mod Sums
+-- Shares kept to
+pub mod Allotted

@@ -22,16 +22,12 @@ pub struct Places {
     pub replacing: Found,
 }
 
-// The rounded entry sizes of values: those of the error records, and those of the others.
-pub struct Sums {
-    pub records: usize,
-    pub others: usize,
-}
-
-// What a pass over the values counts: how many there are, their sums, and whether one has 0x20.
+// What a pass over the values counts: how many there are; the rounded entry sizes of the error records, and of the others those of a side, and those of the other
+// side; and whether one has 0x20.
 pub struct Tally {
     pub number: usize,
     pub records: usize,
+    pub own: usize,
     pub others: usize,
     pub stamped: bool,
 }

@@ -1,17 +1,39 @@
--- `values::list::counted` meets its contract: each sum grows by the value, if it is of its class.
+-- `values::list::counted` meets its contract: one sum grows by the value, that of its class.
 -- Assumes nothing.
+use mathlib.Core.Path.{sym, _∙_}
+use mathlib.Core.Logic.{⊎-elim}
 use borrow.Author.Needs.{needs}
-use Rattle.values.specs.Sums.{counted}
+use Rattle.model.specs.Request.{timeBased}
+use Rattle.values.proofs.Counting.{by-first, by-second, counted-record, counted-own, counted-other}
 use Rattle.values.proofs.list.counted.Statement.{statement}
 use Rattle.values.proofs.list.counted.Tie as tie
 
 returns : tie.Need-returns
-unfolding counted
-returns c = rw (c .before .before .class-sum .ensures, c .before .class-sum2 .ensures, c .before .before .before .is-error-record .ensures, c .if1 .taken)
+returns c =
+    let j = c .before .before in
+    let e = j .before .before in
+    let a = e .before .args in
+    let d = timeBased (a .attributes) in
+    let stamp = ⊎-elim (λ w. by-first d (w .0 .taken) (w .1)) (λ w. by-second d (w .0 .left) (w .2 ∙ w .1 .ensures)) (j .if1 .came) in
+    counted-record (a .t) (a .attributes) (a .own) (a .size) stamp (sym (e .is-error-record .ensures) ∙ c .before .if2 .taken)
 
 returns-2 : tie.Need-returns-2
-unfolding counted
-returns-2 c = rw (c .before .before .before .class-sum .ensures, c .before .before .class-sum2 .ensures, c .before .before .before .before .is-error-record .ensures, c .time-based .ensures, c .before .if1 .left)
+returns-2 c =
+    let j = c .before .before .before in
+    let e = j .before .before in
+    let a = e .before .args in
+    let d = timeBased (a .attributes) in
+    let stamp = ⊎-elim (λ w. by-first d (w .0 .taken) (w .1)) (λ w. by-second d (w .0 .left) (w .2 ∙ w .1 .ensures)) (j .if1 .came) in
+    counted-own (a .t) (a .attributes) (a .own) (a .size) stamp (sym (e .is-error-record .ensures) ∙ c .before .before .if2 .left) (c .before .if3 .taken)
+
+returns-3 : tie.Need-returns-3
+returns-3 c =
+    let j = c .before .before .before in
+    let e = j .before .before in
+    let a = e .before .args in
+    let d = timeBased (a .attributes) in
+    let stamp = ⊎-elim (λ w. by-first d (w .0 .taken) (w .1)) (λ w. by-second d (w .0 .left) (w .2 ∙ w .1 .ensures)) (j .if1 .came) in
+    counted-other (a .t) (a .attributes) (a .own) (a .size) stamp (sym (e .is-error-record .ensures) ∙ c .before .before .if2 .left) (c .before .if3 .left)
 
 pub counted-spec : {M : Type 1} → statement M
 counted-spec =
@@ -20,7 +42,9 @@ counted-spec =
     (λ c κs. search needs)
     (λ c. search needs)
     (λ c κs. search needs)
-    (λ c κs. search needs)
-    (λ c κs. search needs)
+    (λ c. search needs)
     returns
-    returns-2)
+    (λ c. search needs)
+    returns-2
+    (λ c. search needs)
+    returns-3)
