@@ -1,4 +1,4 @@
--- What a decision says to the caller. It names a rule just where one of rules 3 to 13, 17, 18 and 21 is broken; over an image that breaks neither 1 nor 2 that is
+-- What a decision says to the caller. It names a rule just where one of rules 3 to 13, 17, 18, 21 and 22 is broken; over an image that breaks neither 1 nor 2 that is
 -- the answer of the set. Where it names none, it is the kind of the change, and every test is false: so a value to delete stands, and a value to put is small
 -- enough and fits.
 -- Assumes nothing.
@@ -79,7 +79,7 @@ module _ (t : Terms) (q : Request) (vs : List Value) where
   abbrev pub new : Value
   new = newValue q (find (requestKey q) vs)
 
-  -- by rules 3 to 12 and 17
+  -- by rules 3 to 12, 17 and 22
   pub item-small : itemOf t q vs ≡ Put → length (new .bytes) ≤ maxData
   unfolding itemOf itemRules requestRules standingRules resultRules rule12 changeIn
   item-small h =

@@ -1,9 +1,10 @@
--- Room after the tail: all values lie before it, so what fits after it, with what is kept free, fits beside the values.
+-- Room after the tail: all values lie before it, so what fits after it fits beside the values, and what fits in the share beside all that lies before it fits there
+-- beside the side's own.
 -- Assumes nothing.
 use Prim.Native.Nat.{ℕ, _+_, _-_, _≤_}
 use native.Mathlib.Omega.{arith}
 use mathlib.Core.Path.{_≡_, refl, _∙_}
-use mathlib.Core.Bool.{false}
+use mathlib.Core.Bool.{Bool, false, not}
 use mathlib.Core.List.{List}
 use mathlib.Core.Option.{none}
 use lib.ListN.{length}
@@ -11,25 +12,27 @@ use lib.Dec.{ltb}
 use borrow.Author.Tests.{le-ltb}
 use Rattle.model.specs.declared.Terms.{Terms}
 use Rattle.model.specs.Image.{regionHeaderSize}
-use Rattle.model.specs.Region.{entries, values, tailAt}
-use Rattle.model.specs.Change.{recordSizes, otherSizes}
+use Rattle.model.specs.Region.{tailAt}
 use Rattle.model.specs.Rules.{firstBroken}
 use Rattle.values.specs.declared.Found.{Found}
-use Rattle.values.proofs.Sizes.{sizes-before-tail}
 use Rattle.decision.specs.declared.Decision.{Decision}
 use Rattle.decision.specs.declared.Decision.the-variants.{Broken, Nothing, Remove, Put}
-use Rattle.decision.specs.Parts.{oldRecords, oldOthers, recordsAfter, othersAfter, roomBy, roomAfter, roomedBy}
+use Rattle.decision.specs.declared.Sums.{Sums}
+use Rattle.decision.specs.Parts.{sumsAfter, roomBy, roomAfter, roomedBy}
 use Rattle.decision.proofs.Broken.{kept-here, none-here}
+use Rattle.decision.proofs.Classes.{classes-before-tail, classed-once}
 
-pub room-after-tail : (t : Terms) (r : List ℕ) (old : Found) (size : ℕ) → tailAt r + size + t .records + t .reserve ≤ length r
-    → firstBroken (roomAfter t r old false size) ≡ none
-unfolding roomAfter roomBy recordsAfter othersAfter
-room-after-tail t r old size h =
-    let n = sizes-before-tail r in
-    let records : ℕ = recordSizes (values (entries r)) - oldRecords r old + 0 in
-    let others : ℕ = otherSizes (values (entries r)) - oldOthers r old + size in
+-- whosever the name is
+pub room-after-tail : (t : Terms) (r : List ℕ) (old : Found) (own : Bool) (size : ℕ)
+    → tailAt r + size + t .reserve ≤ regionHeaderSize + t .share → tailAt r + size ≤ length r
+    → firstBroken (roomAfter t r old own false size) ≡ none
+unfolding roomAfter roomBy sumsAfter
+room-after-tail t r old own size h l =
+    let n = classes-before-tail (t .vendor) (t .modem) r in
+    let one = classed-once false own size in
+    let s : Sums = sumsAfter t r old own false size in
     kept-here _ _ _ refl
-    ∙ kept-here _ _ _ (rw (le-ltb (length r) (regionHeaderSize + others + t .records + t .reserve) (omega arith), le-ltb (length r) (regionHeaderSize + records + others) (omega arith)))
+    ∙ kept-here _ _ _ (rw (le-ltb (t .share) (s .own + t .reserve) (omega arith), le-ltb (length r) (regionHeaderSize + s .records + s .own + s .others) (omega arith)))
     ∙ none-here
 
 -- where no rule of room is broken, the decision stays

@@ -1,11 +1,11 @@
--- The decision by the parts in which it is judged. Rules 3 to 5, 17 and 6 look at no more of a request than its name and attributes; rules 7 to 10 look at the
+-- The decision by the parts in which it is judged. Rules 3, 22, 4, 5, 17 and 6 look at no more of a request than its name and attributes; rules 7 to 10 look at the
 -- value that stands by its entry, and at the stamp only where rule 8 is kept; the rest goes by what the set asks for, by the
 -- rules for its name, and by room last.
 -- Assumes nothing.
 use Prim.Native.Nat.{ℕ, _+_, _-_, _≤_}
 use native.Mathlib.Omega.{arith}
 use mathlib.Core.Path.{_≡_, refl, sym, ap, ap₂, _∙_}
-use mathlib.Core.Bool.{Bool, true, false, not, cond, _&&_, _||_}
+use mathlib.Core.Bool.{Bool, true, false, not, cond, _&&_, _||_, or-false}
 use mathlib.Core.List.{List, [], _∷_, _++_}
 use mathlib.Core.Option.{Option, none, some}
 use lib.ListN.{length, drop, length-append}
@@ -14,16 +14,19 @@ use Rattle.model.specs.Layout.{authenticated}
 use Rattle.model.specs.declared.Terms.{Terms}
 use Rattle.model.specs.declared.Rule.{Rule}
 use Rattle.model.specs.declared.Rule.the-variants.{Standing, Descriptor, Verdict, Stamp, Absent, DataSize, Setting}
-use Rattle.model.specs.Lists.{keep, isEmpty, isSome, onSome, orElse}
-use Rattle.model.specs.Name.{Key}
-use Rattle.model.specs.Entry.{Value, headerSize, rounded, entrySize}
+use Rattle.model.specs.Lists.{isEmpty, isSome, onSome, orElse}
+use Rattle.model.specs.Name.{Key, sameKey}
+use Rattle.model.specs.Entry.{Value, keyOf, headerSize, rounded, entrySize}
 use Rattle.model.specs.Walk as walk
 use Rattle.model.specs.Region.{maxData, recordBit, sound, entries, values, standing, find}
 use Rattle.model.specs.Request.{Request, requestKey, timeBased, appends, withoutAppend, keyPK, userMode, wantedVerdicts, properAt, dataProper, stampToStore, later}
-use Rattle.model.specs.Change.{Change, nothing, remove, put, deletes, emptyAppend, equalTo, newData, laterOf, newStamp, newValue, changeOf, changeIn, step, steps, entrySizes, isErrorRecord, recordSizes, otherSizes}
+use Rattle.model.specs.Change.{Change, nothing, remove, put, deletes, emptyAppend, equalTo, newData, laterOf, newStamp, newValue, changeOf, changeIn, step, steps, isErrorRecord, recordSizes}
+use Rattle.model.specs.Sides.{owns, sideSizes}
 use Rattle.model.specs.Rules.{firstBroken, rule7, rule8, rule9, rule10, rule11, rule12, rule13, rule18, rule21, wantedOf, requestRules, standingRules, resultRules, itemRules, settingRules, roomRules}
 use Rattle.model.specs.Limits.{Limit}
 use Rattle.model.proofs.Looking.{change-cases}
+use Rattle.model.proofs.Tests.{key-eq}
+use Rattle.model.proofs.Values as listing
 use Rattle.model.proofs.Requests.{broken-append, unbroken, record-append}
 use Rattle.model.proofs.Chunks.{sound-parts}
 use Rattle.model.proofs.Encode as encode
@@ -39,12 +42,14 @@ use Rattle.decision.specs.declared.Decision.{Decision}
 use Rattle.decision.specs.declared.Decision.the-variants.{Broken, Nothing, Remove, Put}
 use Rattle.decision.specs.Decision.{requestOf, kindOf, decided, itemOf, decisionOf}
 use Rattle.decision.specs.declared.NewValue.{NewValue}
-use Rattle.decision.specs.Parts.{onFound, valueAt, stands, standingBy, notLater, verdictBy, equalBy, kindBy, keptData, stampOver, stampKept, valueBy, leavesBy, newSize, oldRecords, oldOthers, recordsAfter, othersAfter, roomBy, roomAfter, resultBy, outcomeBy, limitedBy, roomedBy}
+use Rattle.decision.specs.declared.Sums.{Sums}
+use Rattle.decision.specs.Parts.{onFound, valueAt, stands, standingBy, notLater, verdictBy, equalBy, kindBy, keptData, stampOver, stampKept, valueBy, leavesBy, newSize, classedBy, oldSums, OldCounts, sumsAfter, roomBy, roomAfter, resultBy, outcomeBy, limitedBy, roomedBy}
 use Rattle.decision.proofs.Broken.{later-broken}
+use Rattle.decision.proofs.Classes.{Class, recordsClass, ownClass, othersClass, all-classes}
 use Rattle.decision.proofs.Old.{stands-some, old-value, mode-standing, stamp-read}
-use Rattle.model.proofs.Space.{sizeIf, sizeOf, old-counts, put-sizes, all-sizes}
+use Rattle.model.proofs.Space.{sizeIf, sizeOf, old-counts, put-sizes}
 
--- rules 3 to 5, 17 and 6
+-- rules 3, 22, 4, 5, 17 and 6
 pub request-fields : (t : Terms) (q : Request) → requestRules t q ≡ requestRules t (requestOf (q .name) (q .vendor) (q .attributes) [] 0 0)
 unfolding requestRules
 request-fields t q = refl
@@ -93,21 +98,6 @@ kept-numbers r q k (found.At at e) h =
     ap₂ (λ (a b : List ℕ). cond (appends (q .attributes) && timeBased (q .attributes)) (laterOf a b) a) (stamp-right q k) (sym (stamp-read r (requestKey q) at e h))
 kept-numbers r q k found.Nothing h = ap (λ (a : List ℕ). cond (appends (q .attributes) && timeBased (q .attributes)) a a) (stamp-right q k)
 
--- and of its size, by its class
-records-numbers : (r : List ℕ) (old : Found) → sizeOf isErrorRecord (valueAt r old) ≡ oldRecords r old
-unfolding oldRecords entryAs walk.placed
-records-numbers r (found.At at e) = refl
-records-numbers r found.Nothing = refl
-
-others-numbers : (r : List ℕ) (old : Found) → sizeOf (λ v. not (isErrorRecord v)) (valueAt r old) ≡ oldOthers r old
-unfolding oldOthers entryAs walk.placed
-others-numbers r (found.At at e) = go (recordBit (e .attributes))
-  where
-    go : (t : Bool) → cond (not t) (entrySize (walk.entryValue (entryAt r at e))) 0 ≡ cond t 0 (entrySize (walk.entryValue (entryAt r at e)))
-    go true = refl
-    go false = refl
-others-numbers r found.Nothing = refl
-
 -- what a change comes to: a delete by whether the value is there, a value to put by its size
 outcome-cases : (d n : Bool) (k : Key) (v : Value) (old : Option Value)
     → decided
@@ -155,15 +145,19 @@ limited-put false Nothing h = h
 limited-put false Remove h = h
 limited-put false Put h = h
 
+-- the sums of the values by class
+abbrev sumsOf : Terms → List Value → Sums
+sumsOf t vs = record {
+  records = recordSizes vs;
+  own = sideSizes (t .vendor) (t .modem) vs;
+  others = sideSizes (t .vendor) (not (t .modem)) vs;
+}
+
 -- room is asked last, of a value to put
 room-rules : (t : Terms) (size : ℕ) (v : Value) (vs : List Value)
-    → roomRules t size (put v ∷ []) vs ≡ roomBy t size (isErrorRecord v) (recordSizes (step (put v) vs)) (otherSizes (step (put v) vs))
+    → roomRules t size (put v ∷ []) vs ≡ roomBy t size (isErrorRecord v) (sumsOf t (step (put v) vs))
 unfolding roomRules rule18 rule13 steps roomBy
-room-rules t size v vs = rw (all-sizes (step (put v) vs), or-none (isErrorRecord v), or-none (not (isErrorRecord v)))
-  where
-    or-none : (b : Bool) → (b || false) ≡ b
-    or-none true = refl
-    or-none false = refl
+room-rules t size v vs = rw (all-classes (t .vendor) (t .modem) (step (put v) vs), or-false (isErrorRecord v), or-false (not (isErrorRecord v)))
 
 room-cases : (o : Option Rule) (c : Change) (full : Option Rule) (t : Terms) (size : ℕ) (vs : List Value)
     → ((v : Value) → c ≡ put v → firstBroken (roomRules t size (put v ∷ []) vs) ≡ full)
@@ -241,7 +235,7 @@ module _ (t : Terms) (q : Request) (r : List ℕ) (sounds : sound r ≡ true) (o
       (ap (λ (x : Option Value). onSome x (λ v. equalTo a (dataProper q) (v .attributes) (v .bytes)) false) (sym value) ∙ equal-numbers r q old)
       ∙ ap (resultBy (stands old) (kindBy r old a (dataProper q))) (sym new-size)
 
-  -- rules 3 to 12 and 17, and the change
+  -- rules 3 to 12, 17 and 22, and the change
   item-here : itemOf t q vs
       ≡ decided (firstBroken (requestRules t q)) (decided (firstBroken parts) (outcomeBy r old (q .attributes) (dataProper q) its-size))
   unfolding itemOf itemRules
@@ -284,16 +278,6 @@ module _ (t : Terms) (q : Request) (r : List ℕ) (sounds : sound r ≡ true) (o
   distinct : encode.Distinct vs
   distinct = encode.values-distinct (entries r) (encode.sound-parts (length r) (entries r) (sound-parts authenticated r sounds .1) .single)
 
-  -- the old value counts among the values
-  pub old-records : oldRecords r old ≤ recordSizes vs
-  unfolding recordSizes
-  old-records = rw (sym (ap (sizeOf isErrorRecord) (sym value) ∙ records-numbers r old)) (old-counts isErrorRecord (requestKey q) vs distinct)
-
-  pub old-others : oldOthers r old ≤ otherSizes vs
-  unfolding otherSizes
-  old-others =
-      rw (sym (ap (sizeOf (λ v. not (isErrorRecord v))) (sym value) ∙ others-numbers r old)) (old-counts (λ v. not (isErrorRecord v)) (requestKey q) vs distinct)
-
   -- the size of the entry to write, and its class
   abbrev size : ℕ
   size = rounded (headerSize + length (q .name) + its-size)
@@ -306,29 +290,67 @@ module _ (t : Terms) (q : Request) (r : List ℕ) (sounds : sound r ≡ true) (o
   unfolding newValue
   new-class = sym (record-append (q .attributes))
 
-  records-here : recordsAfter r old (recordBit (q .attributes)) size ≡ recordSizes (step (put new) vs)
-  unfolding recordsAfter recordSizes newValue
-  records-here =
-      let freed : sizeOf isErrorRecord (find (requestKey q) vs) ≡ oldRecords r old = ap (sizeOf isErrorRecord) (sym value) ∙ records-numbers r old in
-      rw (new-class, new-entry, sym freed) (sym (put-sizes isErrorRecord new vs distinct))
+  -- whose the name is
+  abbrev mine : Bool
+  mine = owns (t .vendor) (t .modem) (requestKey q)
 
-  others-here : othersAfter r old (recordBit (q .attributes)) size ≡ otherSizes (step (put new) vs)
-  unfolding othersAfter otherSizes newValue
-  others-here =
-      let freed : sizeOf (λ v. not (isErrorRecord v)) (find (requestKey q) vs) ≡ oldOthers r old = ap (sizeOf (λ v. not (isErrorRecord v))) (sym value) ∙ others-numbers r old in
-      rw (new-class, new-entry, sym freed) (turned (isErrorRecord new) ∙ sym (put-sizes (λ v. not (isErrorRecord v)) new vs distinct))
-    where
-      turned : (b : Bool) → entrySizes (keep (λ v. not (isErrorRecord v)) vs) - sizeOf (λ v. not (isErrorRecord v)) (find (requestKey q) vs) + cond b 0 (entrySize new)
-          ≡ entrySizes (keep (λ v. not (isErrorRecord v)) vs) - sizeOf (λ v. not (isErrorRecord v)) (find (requestKey q) vs) + cond (not b) (entrySize new) 0
-      turned true = refl
-      turned false = refl
+  owner : (v : Value) → find (requestKey q) vs ≡ some v → owns (t .vendor) (t .modem) (keyOf v) ≡ mine
+  unfolding find
+  owner v e = ap (owns (t .vendor) (t .modem)) (key-eq (keyOf v) (requestKey q) (listing.found (λ w. sameKey (keyOf w) (requestKey q)) vs v e .passes))
 
-  room-here : firstBroken (roomAfter t r old (recordBit (q .attributes)) size) ≡ firstBroken (roomRules t (length r) (put new ∷ []) vs)
+  module _ (x : Class (t .vendor) (t .modem)) where
+    -- the values of the class
+    abbrev belongs : Value → Bool
+    belongs v = x .holds (owns (t .vendor) (t .modem) (keyOf v)) (isErrorRecord v)
+
+    gone : x .part (oldSums r old mine) ≡ sizeOf belongs (find (requestKey q) vs)
+    unfolding oldSums entryAs walk.placed
+    gone = go old value
+      where
+        go : (o : Found) → valueAt r o ≡ find (requestKey q) vs → x .part (oldSums r o mine) ≡ sizeOf belongs (find (requestKey q) vs)
+        go (found.At at e) p =
+            let v : Value = walk.entryValue (entryAt r at e) in
+            x .classed (recordBit (e .attributes)) mine (entrySize v)
+            ∙ ap (λ (b : Bool). cond (x .holds b (recordBit (e .attributes))) (entrySize v) 0) (sym (owner v (sym p)))
+            ∙ ap (sizeOf belongs) p
+        go found.Nothing p = x .none ∙ ap (sizeOf belongs) p
+
+    -- the old value counts among its values
+    counts : x .part (oldSums r old mine) ≤ x .total vs
+    counts = omega (arith, gone, x .totals vs, old-counts belongs (requestKey q) vs distinct)
+
+    comes : x .part (classedBy (recordBit (q .attributes)) mine size) ≡ sizeIf belongs new
+    unfolding newValue
+    comes =
+        x .classed (recordBit (q .attributes)) mine size
+        ∙ ap₂ (λ (e : Bool) (n : ℕ). cond (x .holds mine e) n 0) new-class new-entry
+
+    -- the sizes of its values after the set
+    class-here : x .total vs - x .part (oldSums r old mine) + x .part (classedBy (recordBit (q .attributes)) mine size) ≡ x .total (step (put new) vs)
+    unfolding newValue
+    class-here = omega (arith, gone, comes, x .totals vs, x .totals (step (put new) vs), put-sizes belongs new vs distinct)
+
+  pub counts-here : OldCounts t r old mine
+  counts-here = record {
+    records = counts (recordsClass (t .vendor) (t .modem));
+    own = counts (ownClass (t .vendor) (t .modem));
+    others = counts (othersClass (t .vendor) (t .modem));
+  }
+
+  sums-here : sumsAfter t r old mine (recordBit (q .attributes)) size ≡ sumsOf t (step (put new) vs)
+  unfolding sumsAfter
+  sums-here =
+      rw (
+        class-here (recordsClass (t .vendor) (t .modem)),
+        class-here (ownClass (t .vendor) (t .modem)),
+        class-here (othersClass (t .vendor) (t .modem)),
+      )
+
+  room-here : firstBroken (roomAfter t r old mine (recordBit (q .attributes)) size) ≡ firstBroken (roomRules t (length r) (put new ∷ []) vs)
   unfolding roomAfter
   room-here =
       ap firstBroken
-      (ap₂ (λ (x y : ℕ). roomBy t (length r) (recordBit (q .attributes)) x y) records-here others-here
-      ∙ ap (λ (b : Bool). roomBy t (length r) b (recordSizes (step (put new) vs)) (otherSizes (step (put new) vs))) new-class
+      (ap₂ (roomBy t (length r)) new-class sums-here
       ∙ sym (room-rules t (length r) new vs))
 
   -- a change that puts, puts the new value
@@ -342,14 +364,14 @@ module _ (t : Terms) (q : Request) (r : List ℕ) (sounds : sound r ≡ true) (o
       → decisionOf ls t q (length r) vs
       ≡ roomedBy
       (limitedBy (brokenBy ls (leavesBy old (q .attributes) (length (dataProper q))) (keptData r old (q .attributes) ++ dataProper q)) (itemOf t q vs))
-      (firstBroken (roomAfter t r old (recordBit (q .attributes)) size))
+      (firstBroken (roomAfter t r old mine (recordBit (q .attributes)) size))
   unfolding decisionOf itemOf settingRules changeIn
   decision-here ls =
       let c : Change = changeIn q vs in
       let a : List (Rule × Bool) = itemRules t q vs in
       let b : Bool = rule21 ls c (find (requestKey q) vs) in
       let d : List (Rule × Bool) = roomRules t (length r) (c ∷ []) vs in
-      let full : Option Rule = firstBroken (roomAfter t r old (recordBit (q .attributes)) size) in
+      let full : Option Rule = firstBroken (roomAfter t r old mine (recordBit (q .attributes)) size) in
       ap (λ (o : Option Rule). decided o (kindOf c)) (broken-append (a ++ ((Setting, b) ∷ [])) d)
       ∙ room-cases (firstBroken (a ++ ((Setting, b) ∷ []))) c full t (length r) vs
       (λ v e. ap (λ (w : Value). firstBroken (roomRules t (length r) (put w ∷ []) vs)) (puts-new v e) ∙ sym room-here)

@@ -3,6 +3,8 @@
 pub mod Broken
 -- The value that stands, by what was found
 pub mod Old
+-- The sizes of the values by class
+pub mod Classes
 -- Room after the tail
 pub mod AfterTail
 -- The decision by the parts in which it is judged

@@ -1,4 +1,4 @@
--- The decision on a set: the first broken of rules 3 to 13, 17, 18 and 21, or what the set does to the values.
+-- The decision on a set: the first broken of rules 3 to 13, 17, 18, 21 and 22, or what the set does to the values.
 use Prim.Native.Nat.{ℕ}
 use mathlib.Core.List.{List, [], _∷_, _++_}
 use mathlib.Core.Option.{Option, none, some}
@@ -35,7 +35,7 @@ kindOf (put v) = Put
 abbrev pub decided : Option Rule → Decision → Decision
 decided broken what = onSome broken (λ rule. Broken rule) what
 
--- by rules 3 to 12 and 17, over these values
+-- by rules 3 to 12, 17 and 22, over these values
 unfoldable pub itemOf : Terms → Request → List Value → Decision
 itemOf t r vs = decided (firstBroken (itemRules t r vs)) (kindOf (changeIn r vs))
 

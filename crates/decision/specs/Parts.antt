@@ -1,5 +1,5 @@
 -- The parts in which a set is judged, by what each looks at: the value that stands is known by its entry's offset and numbers.
-use Prim.Native.Nat.{ℕ, _+_, _-_}
+use Prim.Native.Nat.{ℕ, _+_, _-_, _≤_}
 use mathlib.Core.Bool.{Bool, true, false, not, cond, _&&_, _||_}
 use mathlib.Core.List.{List, [], _∷_, _++_}
 use mathlib.Core.Option.{Option, none, some}
@@ -14,7 +14,8 @@ use Rattle.model.specs.Entry.{Value, entrySize}
 use Rattle.model.specs.Walk.{entryValue}
 use Rattle.model.specs.Region.{maxData, recordBit, entries, values}
 use Rattle.model.specs.Request.{timeBased, appends, later}
-use Rattle.model.specs.Change.{deletes, emptyAppend, equalTo, laterOf, recordSizes, otherSizes}
+use Rattle.model.specs.Change.{deletes, emptyAppend, equalTo, laterOf, recordSizes}
+use Rattle.model.specs.Sides.{sideSizes}
 use Rattle.model.specs.Rules.{rule7, rule8, rule9}
 use Rattle.layout.specs.declared.Entry as numbers
 use Rattle.region.specs.Walk.{entryAt, stampAt}
@@ -25,6 +26,7 @@ use Rattle.policy.specs.Descriptor.{stampIn}
 use Rattle.decision.specs.declared.Judged.{Judged}
 use Rattle.decision.specs.declared.Judged.the-variants.{Kept, Breaks}
 use Rattle.decision.specs.declared.NewValue.{NewValue}
+use Rattle.decision.specs.declared.Sums.{Sums}
 use Rattle.decision.specs.declared.Decision.{Decision}
 use Rattle.decision.specs.declared.Decision.the-variants.{Broken, Nothing, Remove, Put}
 
@@ -101,29 +103,43 @@ leavesBy old a size = not (deletes a size) && (not (emptyAppend a size) || stand
 unfoldable pub newSize : List ℕ → Found → ℕ → ℕ → ℕ
 newSize r old a size = length (keptData r old a) + size
 
--- the size that the value that stands takes, where it is an error record, and where it is not
-unfoldable pub oldRecords : List ℕ → Found → ℕ
-oldRecords r old = onFound old (λ at e. cond (recordBit (e .attributes)) (entrySize (entryValue (entryAt r at e))) 0) 0
+-- the size of a value in its class: by whether it is an error record, and whether its name is the side's own
+unfoldable pub classedBy : Bool → Bool → ℕ → Sums
+classedBy error own size = record {
+  records = cond error size 0;
+  own = cond (own && not error) size 0;
+  others = cond (not own && not error) size 0;
+}
 
-unfoldable pub oldOthers : List ℕ → Found → ℕ
-oldOthers r old = onFound old (λ at e. cond (recordBit (e .attributes)) 0 (entrySize (entryValue (entryAt r at e)))) 0
+-- that of the value that stands
+unfoldable pub oldSums : List ℕ → Found → Bool → Sums
+oldSums r old own =
+    onFound old (λ at e. classedBy (recordBit (e .attributes)) own (entrySize (entryValue (entryAt r at e))))
+    (record { records = 0; own = 0; others = 0 })
 
--- the sizes of the records and of the other values after a value of a class and size has come in the place of the old one
-unfoldable pub recordsAfter : List ℕ → Found → Bool → ℕ → ℕ
-recordsAfter r old error size = recordSizes (values (entries r)) - oldRecords r old + cond error size 0
+-- the value that stands counts among the values of its class
+pub record OldCounts (t : Terms) (r : List ℕ) (old : Found) (mine : Bool) : Type 0 where
+  pub records : oldSums r old mine .records ≤ recordSizes (values (entries r))
+  pub own : oldSums r old mine .own ≤ sideSizes (t .vendor) (t .modem) (values (entries r))
+  pub others : oldSums r old mine .others ≤ sideSizes (t .vendor) (not (t .modem)) (values (entries r))
 
-unfoldable pub othersAfter : List ℕ → Found → Bool → ℕ → ℕ
-othersAfter r old error size = otherSizes (values (entries r)) - oldOthers r old + cond error 0 size
+-- the sizes of each class after a value of a class and size has come in the place of the old one
+unfoldable pub sumsAfter : Terms → List ℕ → Found → Bool → Bool → ℕ → Sums
+sumsAfter t r old own error size = record {
+  records = recordSizes (values (entries r)) - oldSums r old own .records + classedBy error own size .records;
+  own = sideSizes (t .vendor) (t .modem) (values (entries r)) - oldSums r old own .own + classedBy error own size .own;
+  others = sideSizes (t .vendor) (not (t .modem)) (values (entries r)) - oldSums r old own .others + classedBy error own size .others;
+}
 
 -- rules 18 and 13 by the sums after a set, in a region of so many bytes
-unfoldable pub roomBy : Terms → ℕ → Bool → ℕ → ℕ → List (Rule × Bool)
-roomBy t size error records others =
-    (RecordSpace, error && ltb (t .records) records)
-    ∷ (Room, (not error && ltb size (regionHeaderSize + others + t .records + t .reserve)) || ltb size (regionHeaderSize + records + others))
+unfoldable pub roomBy : Terms → ℕ → Bool → Sums → List (Rule × Bool)
+roomBy t size error s =
+    (RecordSpace, error && ltb (t .records) (s .records))
+    ∷ (Room, (not error && ltb (t .share) (s .own + t .reserve)) || ltb size (regionHeaderSize + s .records + s .own + s .others))
     ∷ []
 
-unfoldable pub roomAfter : Terms → List ℕ → Found → Bool → ℕ → List (Rule × Bool)
-roomAfter t r old error size = roomBy t (length r) error (recordsAfter r old error size) (othersAfter r old error size)
+unfoldable pub roomAfter : Terms → List ℕ → Found → Bool → Bool → ℕ → List (Rule × Bool)
+roomAfter t r old own error size = roomBy t (length r) error (sumsAfter t r old own error size)
 
 -- rule 11 on a delete, rule 12 on a value to put
 unfoldable pub resultBy : Bool → Decision → ℕ → Decision

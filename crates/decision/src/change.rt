@@ -6,24 +6,26 @@ ghost use Prim.Native.Nat.{_+_, _<_, _≤_, _^_};
 ghost use lib.ListN.{length};
 ghost use Rattle.model.specs.Name.{keyed};
 ghost use Rattle.model.specs.Entry.{headerSize, rounded};
-ghost use Rattle.model.specs.Region.{recordBit, entries, values, tailAt};
+ghost use Rattle.model.specs.Image.{regionHeaderSize};
+ghost use Rattle.model.specs.Region.{recordBit, tailAt};
 ghost use Rattle.model.specs.Request.{timeBased, appends, withoutAppend, properAt};
 ghost use Rattle.model.specs.Limits.{limitsIn};
-ghost use Rattle.model.specs.Change.{recordSizes, otherSizes};
+ghost use Rattle.model.specs.Sides.{owns};
 ghost use Rattle.model.specs.Rules.{firstBroken};
 ghost use Rattle.limits.specs.Broken.{brokenBy};
 ghost use Rattle.values.specs.Found.{oldData};
 ghost use Rattle.policy.specs.Descriptor.{stampOf};
-ghost use Rattle.decision.specs.Parts.{judgedOf, stands, equalBy, kindBy, stampOver, stampKept, leavesBy, oldRecords, oldOthers, recordsAfter, othersAfter, roomBy, roomAfter, resultBy, outcomeBy, limitedBy, roomedBy};
+ghost use Rattle.decision.specs.Parts.{judgedOf, stands, equalBy, kindBy, stampOver, stampKept, leavesBy, classedBy, oldSums, OldCounts, sumsAfter, roomBy, roomAfter, resultBy, outcomeBy, limitedBy, roomedBy};
 use crate::Decision;
 use crate::Judged;
 use crate::NewValue;
+use crate::Sums;
+use layout::fixed;
 use model::Layout;
 use model::Rule;
 use model::Terms;
 use region::walk;
 use values::Found;
-use values::Sums;
 use values::list;
 use values::lookup;
 
@@ -177,72 +179,84 @@ pub fn limited(item: Decision, forbidden: bool) -> Decision
     }
 }
 
+// The size of a value in its class: of an error record; else of the side's own values, or of the other side's.
+fn classed(error: bool, own: bool, size: usize) -> Sums
+    ensures { λ r. ⌜ r ≡ classedBy error own size ⌝ }
+{
+    if error {
+        return Sums {
+            records: size,
+            own: 0,
+            others: 0,
+        };
+    }
+    if own {
+        return Sums {
+            records: 0,
+            own: size,
+            others: 0,
+        };
+    }
+    Sums {
+        records: 0,
+        own: 0,
+        others: size,
+    }
+}
+
 // The size that the value that stands takes, by its class.
-fn freed(region: &[u8], old: Found) -> Sums
-    ensures { λ r. ⌜ (r .records ≡ oldRecords (now (region .entry)) old) × (r .others ≡ oldOthers (now (region .entry)) old) ⌝ }
+fn freed(region: &[u8], old: Found, own: bool) -> Sums
+    ensures { λ r. ⌜ r ≡ oldSums (now (region .entry)) old own ⌝ }
 {
     match old {
         Found::At(at, e) => {
             let size = list::size_of(Layout::AUTHENTICATED, region, at, e);
-            if layout::is_error_record(e.attributes) {
-                return Sums {
-                    records: size,
-                    others: 0,
-                };
-            }
-            Sums {
-                records: 0,
-                others: size,
-            }
+            classed(layout::is_error_record(e.attributes), own, size)
         }
         Found::Nothing => Sums {
             records: 0,
+            own: 0,
             others: 0,
         },
     }
 }
 
 // The sums after a value of this class and size has come in the place of the old one.
-fn after(region: &[u8], old: Found, error: bool, size: usize) -> Sums
-    requires { ⌜ (length (now region) ≤ 28672) × (size < 2 ^ 63 + 2 ^ 12)
-        × (oldRecords (now region) old ≤ recordSizes (values (entries (now region))))
-        × (oldOthers (now region) old ≤ otherSizes (values (entries (now region)))) ⌝ }
-    ensures { λ r. ⌜ (r .records ≡ recordsAfter (now (region .entry)) old error size)
-        × (r .others ≡ othersAfter (now (region .entry)) old error size)
-        × (r .records + r .others < 2 ^ 63 + 2 ^ 16) ⌝ }
+fn after(t: Terms, region: &[u8], old: Found, own: bool, error: bool, size: usize) -> Sums
+    requires { ⌜ (length (now region) ≤ 28672) × (size < 2 ^ 63 + 2 ^ 12) × OldCounts t (now region) old own ⌝ }
+    ensures { λ r. ⌜ (r ≡ sumsAfter t (now (region .entry)) old own error size)
+        × (r .records + r .own + r .others < 2 ^ 63 + 2 ^ 16) ⌝ }
 {
-    let sums = list::tally(Layout::AUTHENTICATED, region);
-    let old = freed(region, old);
-    if error {
-        return Sums {
-            records: sums.records - old.records + size,
-            others: sums.others - old.others,
-        };
-    }
+    let guid = t.vendor;
+    let sums = list::tally(Layout::AUTHENTICATED, region, &guid, t.modem);
+    let gone = freed(region, old, own);
+    let new = classed(error, own, size);
     Sums {
-        records: sums.records - old.records,
-        others: sums.others - old.others + size,
+        records: sums.records - gone.records + new.records,
+        own: sums.own - gone.own + new.own,
+        others: sums.others - gone.others + new.others,
     }
 }
 
 // Rules 18 and 13 on the sums after a set, in a region of so many bytes.
-fn room(t: Terms, size: usize, error: bool, records: usize, others: usize) -> Judged
-    requires { ⌜ records + others < 2 ^ 63 + 2 ^ 16 ⌝ }
-    ensures { λ r. ⌜ r ≡ judgedOf (firstBroken (roomBy t size error records others)) ⌝ }
+fn room(t: Terms, size: usize, error: bool, s: Sums) -> Judged
+    requires { ⌜ s .records + s .own + s .others < 2 ^ 63 + 2 ^ 16 ⌝ }
+    ensures { λ r. ⌜ r ≡ judgedOf (firstBroken (roomBy t size error s)) ⌝ }
 {
+    let all = layout::REGION_HEADER + s.records + s.own + s.others;
     if error {
-        if (t.records as usize) < records {
+        if (t.records as usize) < s.records {
             return Judged::Breaks(Rule::RecordSpace);
         }
-        if size < layout::REGION_HEADER + records + others {
+        if size < all {
             return Judged::Breaks(Rule::Room);
         }
         return Judged::Kept;
     }
-    if size < layout::REGION_HEADER + others + t.records as usize + t.reserve as usize {
+    if (t.share as usize) < s.own + t.reserve as usize {
         return Judged::Breaks(Rule::Room);
     }
-    if size < layout::REGION_HEADER + records + others {
+    if size < all {
         return Judged::Breaks(Rule::Room);
     }
     Judged::Kept
@@ -281,8 +295,8 @@ pub fn outcome(region: &[u8], old: Found, attributes: u32, proper: &[u8], size: 
     }
 }
 
-// Whether a value, no error record, with so many bytes of data fits between the tail and what is kept free. Only the yes is proved: where this says no the sums may
-// still leave room, since deleted entries lie before the tail too.
+// Whether a value, no error record, with so many bytes of data fits behind the tail, and in the side's share even if all before the tail were the side's. Only the
+// yes is proved: where this says no the sums may still leave room, since deleted entries and other values lie before the tail too.
 fn fits_after_tail(
     t: Terms,
     region: &[u8],
@@ -293,7 +307,8 @@ fn fits_after_tail(
 ) -> bool
     requires { ⌜ (name < 2 ^ 63) × (tail ≤ 28672) ⌝ }
     ensures { λ r. ⌜ (r ≡ true → (recordBit attributes ≡ false)
-        × (tail + rounded (headerSize + name + size) + t .records + t .reserve ≤ length (now (region .entry)))) ⌝ }
+        × (tail + rounded (headerSize + name + size) + t .reserve ≤ regionHeaderSize + t .share)
+        × (tail + rounded (headerSize + name + size) ≤ length (now (region .entry)))) ⌝ }
 {
     if layout::is_error_record(attributes) {
         return false;
@@ -302,35 +317,43 @@ fn fits_after_tail(
         return false;
     }
     let taken = tail + layout::entry_size(Layout::AUTHENTICATED, name, size);
-    taken + t.records as usize + t.reserve as usize <= region.len()
+    if layout::REGION_HEADER + (t.share as usize) < taken + t.reserve as usize {
+        return false;
+    }
+    taken <= region.len()
 }
 
-// A decision, judged by room where a value with so many bytes of data is to be put: by the sums of all values.
+// A decision, judged by room where a value with so many bytes of data is to be put: by the sums of all values. Only here is it asked whose the name is.
 fn roomed_by_sums(
     item: Decision,
     t: Terms,
     region: &[u8],
     old: Found,
-    name: usize,
+    name: &[u8],
+    vendor: &[u8; 16],
     attributes: u32,
     size: usize,
 ) -> Decision
-    requires { ⌜ (length (now region) ≤ 28672) × (name < 2 ^ 63)
-        × (oldRecords (now region) old ≤ recordSizes (values (entries (now region))))
-        × (oldOthers (now region) old ≤ otherSizes (values (entries (now region)))) ⌝ }
+    requires { ⌜ (length (now region) ≤ 28672) × OldCounts t (now region) old (owns (t .vendor) (t .modem) (keyed (now name) (now vendor))) ⌝ }
     requires { ⌜ (item ≡ Decision.Put → size ≤ 2048) ⌝ }
-    ensures { λ r. ⌜ r ≡ roomedBy item (firstBroken (roomAfter t (now (region .entry)) old (recordBit attributes) (rounded (headerSize + name + size)))) ⌝ }
+    ensures { λ r. ⌜ r ≡ roomedBy item (firstBroken (roomAfter t (now (region .entry)) old
+        (owns (t .vendor) (t .modem) (keyed (now (name .entry)) (now (vendor .entry)))) (recordBit attributes)
+        (rounded (headerSize + length (now (name .entry)) + size)))) ⌝ }
 {
     match item {
         Decision::Put => {
+            let guid = t.vendor;
+            let own = fixed::is_own(&guid, t.modem, name, vendor);
             let error = layout::is_error_record(attributes);
             let sums = after(
+                t,
                 region,
                 old,
+                own,
                 error,
-                layout::entry_size(Layout::AUTHENTICATED, name, size),
+                layout::entry_size(Layout::AUTHENTICATED, name.len(), size),
             );
-            let j = room(t, region.len(), error, sums.records, sums.others);
+            let j = room(t, region.len(), error, sums);
             match j {
                 Judged::Breaks(rule) => Decision::Broken(rule),
                 Judged::Kept => item,
@@ -349,19 +372,20 @@ pub fn roomed(
     region: &[u8],
     tail: usize,
     old: Found,
-    name: usize,
+    name: &[u8],
+    vendor: &[u8; 16],
     attributes: u32,
     size: usize,
 ) -> Decision
-    requires { ⌜ (length (now region) ≤ 28672) × (name < 2 ^ 63)
-        × (oldRecords (now region) old ≤ recordSizes (values (entries (now region))))
-        × (oldOthers (now region) old ≤ otherSizes (values (entries (now region)))) ⌝ }
+    requires { ⌜ (length (now region) ≤ 28672) × OldCounts t (now region) old (owns (t .vendor) (t .modem) (keyed (now name) (now vendor))) ⌝ }
     requires { ⌜ (item ≡ Decision.Put → size ≤ 2048) ⌝ }
     requires { ⌜ (tail ≡ tailAt (now region)) × (tail ≤ length (now region)) ⌝ }
-    ensures { λ r. ⌜ r ≡ roomedBy item (firstBroken (roomAfter t (now (region .entry)) old (recordBit attributes) (rounded (headerSize + name + size)))) ⌝ }
+    ensures { λ r. ⌜ r ≡ roomedBy item (firstBroken (roomAfter t (now (region .entry)) old
+        (owns (t .vendor) (t .modem) (keyed (now (name .entry)) (now (vendor .entry)))) (recordBit attributes)
+        (rounded (headerSize + length (now (name .entry)) + size)))) ⌝ }
 {
-    if fits_after_tail(t, region, tail, name, attributes, size) {
+    if fits_after_tail(t, region, tail, name.len(), attributes, size) {
         return item;
     }
-    roomed_by_sums(item, t, region, old, name, attributes, size)
+    roomed_by_sums(item, t, region, old, name, vendor, attributes, size)
 }

@@ -1,4 +1,4 @@
-// The decision on a set over a sound region: the first broken of rules 3 to 13, 17, 18 and 21, or what the set does to the values.
+// The decision on a set over a sound region: the first broken of rules 3 to 13, 17, 18, 21 and 22, or what the set does to the values.
 ghost use mathlib.Core.Path.{_≡_};
 ghost use mathlib.Core.Bool.{true, cond};
 ghost use mathlib.Core.List.{[], _++_};
@@ -54,6 +54,13 @@ pub struct Decided {
     pub value: NewValue,
 }
 
+// Rounded entry sizes by class: of the error records; and of the other values those of the side that asks, and those of the other side.
+pub struct Sums {
+    pub records: usize,
+    pub own: usize,
+    pub others: usize,
+}
+
 // What some of the rules say: kept, or the first broken.
 pub enum Judged {
     Kept,
@@ -97,7 +104,7 @@ fn judge_standing(
     }
 }
 
-// Rules 3 to 12 and 17 in their order, then the change. `size` is that of the data that a value to put would have.
+// Rules 3 to 12, 17 and 22 in their order, then the change. `size` is that of the data that a value to put would have.
 fn judge(
     t: Terms,
     region: &[u8],
@@ -173,7 +180,8 @@ fn decide_over(
         region,
         tail,
         old,
-        name.len(),
+        name,
+        vendor,
         attributes,
         size,
     )

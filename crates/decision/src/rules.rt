@@ -1,4 +1,4 @@
-// Rules 3 to 10, and 17: on the call itself and on what stands.
+// Rules 3 to 10, 17 and 22: on the call itself and on what stands.
 ghost use mathlib.Core.Path.{_≡_};
 ghost use mathlib.Core.Bool.{false};
 ghost use mathlib.Core.List.{[]};
@@ -19,12 +19,15 @@ use region::walk;
 use values::Found;
 use values::lookup;
 
-// Rules 3 to 5, 17 and 6, on the call itself.
+// Rules 3, 22, 4, 5, 17 and 6, on the call itself.
 pub(crate) fn request(t: Terms, name: &[u8], vendor: &[u8; 16], attributes: u32) -> Judged
     ensures { λ r. ⌜ r ≡ judgedOf (firstBroken (requestRules t (requestOf (now (name .entry)) (now (vendor .entry)) attributes [] 0 0))) ⌝ }
 {
     if !slices::is_named(name) {
         return Judged::Breaks(Rule::Name);
+    }
+    if t.foreign {
+        return Judged::Breaks(Rule::Side);
     }
     if policy::attributes_broken(t.runtime, attributes) {
         return Judged::Breaks(Rule::Attributes);

@@ -10,6 +10,7 @@ use Rattle.model.specs.Name.{keyed}
 use Rattle.model.specs.Entry.{headerSize, rounded}
 use Rattle.model.specs.Region.{recordBit, entries, values}
 use Rattle.model.specs.Limits.{Limit, limitsIn}
+use Rattle.model.specs.Sides.{owns}
 use Rattle.model.specs.Rules.{firstBroken}
 use Rattle.limits.specs.Broken.{brokenBy}
 use Rattle.values.specs.Found.{oldData}
@@ -17,7 +18,7 @@ use Rattle.decision.specs.Decision.{requestOf, itemOf}
 use Rattle.decision.specs.declared.Decision.{Decision}
 use Rattle.decision.specs.declared.Decision.the-variants.{Put}
 use Rattle.decision.specs.Parts.{keptData, leavesBy, newSize, roomAfter, limitedBy, roomedBy}
-use Rattle.decision.proofs.Assembled.{limited-put, new-size, old-records, old-others, decision-here}
+use Rattle.decision.proofs.Assembled.{limited-put, new-size, counts-here, decision-here}
 use Rattle.decision.proofs.Accepted.{item-small}
 use borrow.Author.Needs.{needs}
 use Rattle.decision.proofs.decide_over.Statement.{statement}
@@ -46,7 +47,7 @@ roomed-requires c κs =
     let new = new-size (a .t) q r (p .0) (a .old) old in
     let small : c .limited .result ≡ Put → length (now (c .before .before .before .kept-data .result)) + length (now (c .before .before .before .before .before .proper .result)) ≤ 2048 =
     λ e. omega (arith, kept, proper, new, item-small (a .t) q (values (entries r)) (sym (c .before .judge .ensures) ∙ limited-put (c .before .before .forbids .result) (c .before .judge .result) (sym (c .limited .ensures) ∙ e))) in (
-      (p .1 .0, search (needs, m .good .1 .1 .1 .1 .1 .0), old-records (a .t) q r (p .0) (a .old) old, old-others (a .t) q r (p .0) (a .old) old),
+      (p .1 .0, counts-here (a .t) q r (p .0) (a .old) old),
       (small, p .1 .1 .0),
     )
 
@@ -65,7 +66,7 @@ returns c =
     let proper = c .before .before .before .before .before .before .proper .ensures in
     let size : List ℕ → List ℕ → ℕ = λ x y. rounded (headerSize + length (now (a .name)) + (length x + length y)) in
     c .roomed .ensures
-    ∙ ap₂ (λ (d : Decision) (n : ℕ). roomedBy d (firstBroken (roomAfter (a .t) r (a .old) (recordBit b) n)))
+    ∙ ap₂ (λ (d : Decision) (n : ℕ). roomedBy d (firstBroken (roomAfter (a .t) r (a .old) (owns (a .t .vendor) (a .t .modem) k) (recordBit b) n)))
     (c .before .limited .ensures
     ∙ ap₂ limitedBy
     (c .before .before .before .forbids .ensures ∙ ap₂ (λ (x y : List ℕ). brokenBy ls (leavesBy (a .old) b (length y)) (x ++ y)) kept proper)

@@ -17,13 +17,16 @@ returns-2 : tie.Need-returns-2
 returns-2 c = λ e. absurd (true≢false (sym e))
 
 returns-3 : tie.Need-returns-3
-returns-3 c =
-    let k = c .before .before in
+returns-3 c = λ e. absurd (true≢false (sym e))
+
+returns-4 : tie.Need-returns-4
+returns-4 c =
+    let k = c .before .before .before in
     let m = k .before .before in
     let a = m .before .before .before .args in
     λ e.
-    let fits = leb-true (a .tail + k .entry-size .result + a .t .records + a .t .reserve) (length (now (a .region))) e in
-    (sym (m .before .is-error-record .ensures) ∙ m .if1 .left, omega (arith, fits, k .entry-size .ensures))
+    let fits = leb-true (a .tail + k .entry-size .result) (length (now (a .region))) e in
+    (sym (m .before .is-error-record .ensures) ∙ m .if1 .left, omega (arith, c .if3 .left, k .entry-size .ensures), omega (arith, fits, k .entry-size .ensures))
 
 pub fits-after-tail-spec : {M : Type 1} → statement M
 fits-after-tail-spec =
@@ -39,4 +42,5 @@ fits-after-tail-spec =
     (λ c. search needs)
     (λ c. search needs)
     (λ c. search needs)
-    returns-3)
+    returns-3
+    returns-4)
