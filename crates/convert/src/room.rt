@@ -10,7 +10,7 @@ use crate::put;
 use model::Layout;
 use values::list;
 
-// Rule 20: a value with 0x20 would go to a form without stamps.
+// Rule 20: a value with 0x20 would go to a form without stamps. Whose the values are does not matter.
 pub(crate) fn is_unstampable(from: Layout, to: Layout, region: &[u8]) -> bool
     requires { ⌜ length (now region) ≤ 28672 ⌝ }
     ensures { λ r. ⌜ r ≡ rule20 to (values (entriesIn from (now (region .entry)))) ⌝ }
@@ -18,7 +18,8 @@ pub(crate) fn is_unstampable(from: Layout, to: Layout, region: &[u8]) -> bool
     if to.is_stamped() {
         return false;
     }
-    let t = list::tally(from, region);
+    let any = [0u8; 16];
+    let t = list::tally(from, region, &any, false);
     t.stamped
 }
 

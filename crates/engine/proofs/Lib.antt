@@ -13,3 +13,5 @@ pub mod Setting
 pub mod Carrying
 -- What a query answers
 pub mod Rooms
+-- The plan of a start-up, by what was found
+pub mod Starts

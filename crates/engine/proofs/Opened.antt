@@ -1,4 +1,4 @@
--- Rules are checked in stages: the first rule broken of two lists is the first of the one list, else of the other. So where rules 1 to 3 are kept the later ones
+-- Rules are checked in stages: the first rule broken of two lists is the first of the one list, else of the other. So where rules 1, 2, 3 and 22 are kept the later ones
 -- decide, and where one of them is broken it is the answer, which is not rule 14.
 -- Assumes nothing.
 use Prim.Native.Nat.{ℕ}
@@ -17,32 +17,37 @@ use Rattle.model.specs.Rules.{firstBroken, rule1, rule2, imageRules, imageRules
 use Rattle.model.specs.Answers.{ruleNumber}
 use Rattle.model.proofs.Requests.{broken-append}
 use Rattle.model.specs.declared.Rule.{Rule}
-use Rattle.model.specs.declared.Rule.the-variants.{Length, Unready, Name}
+use Rattle.model.specs.declared.Rule.the-variants.{Length, Unready, Name, Side}
 use Rattle.image.specs.Check.{callIn, callOf, IsReady}
 use Rattle.image.specs.declared.Check.the-variants.{Ready, Refused}
 use Rattle.image.proofs.Ready.{is-ready, refused-rule}
 use Rattle.engine.specs.Read.{openOf}
 
--- ---- rules 1 to 3 as the code checks them
+-- ---- rules 1, 2, 3 and 22 as the code checks them
 
 module _ (img : List ℕ) where
-  with-name : (named : Bool) → firstBroken (imageRules img ++ ((Name, not named) ∷ [])) ≡ orElse (firstBroken (imageRules img)) (cond (not named) (some Name) none)
+  with-name : (named foreign : Bool)
+      → firstBroken (imageRules img ++ ((Name, not named) ∷ (Side, foreign) ∷ [])) ≡ orElse (firstBroken (imageRules img)) (cond (not named) (some Name) (cond foreign (some Side) none))
   unfolding firstBroken
-  with-name named = broken-append (imageRules img) ((Name, not named) ∷ [])
+  with-name named foreign = broken-append (imageRules img) ((Name, not named) ∷ (Side, foreign) ∷ [])
 
-  pub open-named : {b t u : ℕ} → callOf img ≡ Ready b t u → openOf img true ≡ Ready b t u
+  pub open-own : {b t u : ℕ} → callOf img ≡ Ready b t u → openOf img true false ≡ Ready b t u
   unfolding openOf
-  open-named p =
+  open-own p =
       let r = is-ready authenticated p in
-      rw (with-name true, r .unbroken, r .number, r .tail-at, r .used)
+      rw (with-name true false, r .unbroken, r .number, r .tail-at, r .used)
 
-  pub open-unnamed : {b t u : ℕ} → callOf img ≡ Ready b t u → openOf img false ≡ Refused Name
+  pub open-foreign : {b t u : ℕ} → callOf img ≡ Ready b t u → openOf img true true ≡ Refused Side
   unfolding openOf
-  open-unnamed p = rw (with-name false, is-ready authenticated p .unbroken)
+  open-foreign p = rw (with-name true true, is-ready authenticated p .unbroken)
 
-  pub open-refused : (rule : Rule) (named : Bool) → callOf img ≡ Refused rule → openOf img named ≡ Refused rule
+  pub open-unnamed : {b t u : ℕ} (foreign : Bool) → callOf img ≡ Ready b t u → openOf img false foreign ≡ Refused Name
   unfolding openOf
-  open-refused rule named p = rw (with-name named, refused-rule authenticated img rule p)
+  open-unnamed foreign p = rw (with-name false foreign, is-ready authenticated p .unbroken)
+
+  pub open-refused : (rule : Rule) (named foreign : Bool) → callOf img ≡ Refused rule → openOf img named foreign ≡ Refused rule
+  unfolding openOf
+  open-refused rule named foreign p = rw (with-name named foreign, refused-rule authenticated img rule p)
 
   -- ---- what they leave to the later rules
 
@@ -55,53 +60,64 @@ module _ (img : List ℕ) where
       go false true = refl
       go false false = refl
 
-  pub record Opens (b t u : ℕ) (named : Bool) : Type 0 where
+  pub record Opens (b t u : ℕ) (named foreign : Bool) : Type 0 where
     pub ready : IsReady img b t u
-    pub later : (ts : List (Rule × Bool)) → firstBroken (imageRules img ++ ((Name, not named) ∷ ts)) ≡ firstBroken ts
+    pub later : (ts : List (Rule × Bool)) → firstBroken (imageRules img ++ ((Name, not named) ∷ (Side, foreign) ∷ ts)) ≡ firstBroken ts
 
-  pub opens : {b t u : ℕ} (named : Bool) → openOf img named ≡ Ready b t u → Opens b t u named
+  pub opens : {b t u : ℕ} (named foreign : Bool) → openOf img named foreign ≡ Ready b t u → Opens b t u named foreign
   unfolding openOf callIn firstBroken
-  opens {b} {t} {u} named p = go (firstBroken (imageRules img)) refl named refl
+  opens {b} {t} {u} named foreign p = go (firstBroken (imageRules img)) refl named refl foreign refl
     where
-      go : (o : Option Rule) → firstBroken (imageRules img) ≡ o → (n : Bool) → named ≡ n → Opens b t u named
-      go (some x) q n m =
-          let p : onSome (firstBroken (imageRules img ++ ((Name, not named) ∷ []))) Refused (Ready (blocks img) (tailAt (region img)) (usedRecords (work img))) ≡ Ready b t u = p in
-          let p′ = rw (with-name named, q) at p in
+      go : (o : Option Rule) → firstBroken (imageRules img) ≡ o → (n : Bool) → named ≡ n → (f : Bool) → foreign ≡ f → Opens b t u named foreign
+      go (some x) q n m f e =
+          let p : onSome (firstBroken (imageRules img ++ ((Name, not named) ∷ (Side, foreign) ∷ []))) Refused (Ready (blocks img) (tailAt (region img)) (usedRecords (work img))) ≡ Ready b t u = p in
+          let p′ = rw (with-name named foreign, q) at p in
           let z : _≡_ {A = ℕ} 0 1 = cc in
           absurd (omega arith)
-      go none q false m =
-          let p′ = rw (with-name named, q, m) at p in
+      go none q false m f e =
+          let p′ = rw (with-name named foreign, q, m) at p in
           let z : _≡_ {A = ℕ} 0 1 = cc in
           absurd (omega arith)
-      go none q true m = record {
-        ready = is-ready authenticated (rw q (rw (with-name named, q, m) at p));
-        later = λ ts. broken-append (imageRules img) ((Name, not named) ∷ ts) ∙ rw (q, m);
+      go none q true m true e =
+          let p′ = rw (with-name named foreign, q, m, e) at p in
+          let z : _≡_ {A = ℕ} 0 1 = cc in
+          absurd (omega arith)
+      go none q true m false e = record {
+        ready = is-ready authenticated (rw q (rw (with-name named foreign, q, m, e) at p));
+        later = λ ts. broken-append (imageRules img) ((Name, not named) ∷ (Side, foreign) ∷ ts) ∙ rw (q, m, e);
       }
 
-  pub record Refuses (rule : Rule) (named : Bool) : Type 0 where
+  pub record Refuses (rule : Rule) (named foreign : Bool) : Type 0 where
     pub before-14 : eqb (ruleNumber rule) 14 ≡ false
-    pub broken : (ts : List (Rule × Bool)) → firstBroken (imageRules img ++ ((Name, not named) ∷ ts)) ≡ some rule
+    pub broken : (ts : List (Rule × Bool)) → firstBroken (imageRules img ++ ((Name, not named) ∷ (Side, foreign) ∷ ts)) ≡ some rule
 
-  pub refuses : (rule : Rule) (named : Bool) → openOf img named ≡ Refused rule → Refuses rule named
+  pub refuses : (rule : Rule) (named foreign : Bool) → openOf img named foreign ≡ Refused rule → Refuses rule named foreign
   unfolding openOf firstBroken
-  refuses rule named p = go (firstBroken (imageRules img)) refl named refl
+  refuses rule named foreign p = go (firstBroken (imageRules img)) refl named refl foreign refl
     where
-      go : (o : Option Rule) → firstBroken (imageRules img) ≡ o → (n : Bool) → named ≡ n → Refuses rule named
-      go (some x) q n m =
-          let p′ = rw (with-name named, q) at p in
+      go : (o : Option Rule) → firstBroken (imageRules img) ≡ o → (n : Bool) → named ≡ n → (f : Bool) → foreign ≡ f → Refuses rule named foreign
+      go (some x) q n m f e =
+          let p′ = rw (with-name named foreign, q) at p in
           let same : x ≡ rule = cc in
           record {
             before-14 = sym (ap (λ (y : Rule). eqb (ruleNumber y) 14) same) ∙ early (some x) q;
-            broken = λ ts. broken-append (imageRules img) ((Name, not named) ∷ ts) ∙ rw (q, same);
+            broken = λ ts. broken-append (imageRules img) ((Name, not named) ∷ (Side, foreign) ∷ ts) ∙ rw (q, same);
           }
-      go none q false m =
-          let p′ = rw (with-name named, q, m) at p in
+      go none q false m f e =
+          let p′ = rw (with-name named foreign, q, m) at p in
           let same : Name ≡ rule = cc in
           record {
             before-14 = ap (λ (y : Rule). eqb (ruleNumber y) 14) (sym same);
-            broken = λ ts. broken-append (imageRules img) ((Name, not named) ∷ ts) ∙ rw (q, m, same);
+            broken = λ ts. broken-append (imageRules img) ((Name, not named) ∷ (Side, foreign) ∷ ts) ∙ rw (q, m, same);
           }
-      go none q true m =
-          let p′ = rw (with-name named, q, m) at p in
+      go none q true m true e =
+          let p′ = rw (with-name named foreign, q, m, e) at p in
+          let same : Side ≡ rule = cc in
+          record {
+            before-14 = ap (λ (y : Rule). eqb (ruleNumber y) 14) (sym same);
+            broken = λ ts. broken-append (imageRules img) ((Name, not named) ∷ (Side, foreign) ∷ ts) ∙ rw (q, m, e, same);
+          }
+      go none q true m false e =
+          let p′ = rw (with-name named foreign, q, m, e) at p in
           let z : _≡_ {A = ℕ} 0 1 = cc in
           absurd (omega arith)

@@ -18,7 +18,7 @@ use Rattle.model.specs.Entry.{Value}
 use Rattle.model.specs.Walk.{Entry, entryValue, placed}
 use Rattle.model.specs.Region.{entries, values, valuesOf, valuesIn}
 use Rattle.model.specs.Session.{atRuntime}
-use Rattle.model.specs.Rules.{firstBroken, viewOf, rule3, rule3Next, rule11Read, rule14, valueToGet, valueToName, gotBytes, namedBytes, getBroken, nextBroken}
+use Rattle.model.specs.Rules.{firstBroken, viewOf, rule3, rule3Next, rule11Read, rule14, rule22, rule22Next, valueToGet, valueToName, valueNamed, gotBytes, namedBytes, getBroken, nextBroken}
 use Rattle.model.specs.Answers.{ruleNumber, refusal, written, done, refused, outcome, getReply, nextReply}
 use Rattle.model.specs.Beside.{Gives}
 use Rattle.model.specs.Book as book
@@ -117,63 +117,63 @@ short-name r at e = let l = lengths authenticated r at e in omega (arith, l .who
 pub short-vendor : (r : List ℕ) (at : ℕ) → length (vendorAt r at) ≤ 16
 short-vendor r at = rw (vendor authenticated r at, length-take 16 (drop (at + 44) r)) (min-le-left 16 (length (drop (at + 44) r)))
 
--- ---- rules 1 to 3 before 11 and 14
+-- ---- rules 1, 2, 3 and 22 before 11 and 14
 
 module _ (img : List ℕ) (found : Option Value) (bytes : Value → List ℕ) (attributes : Value → ℕ) (buffer : List ℕ) where
-  abbrev Read : Bool → Got → List ℕ → Type 0
-  Read named got after =
-      Answered (readBroken img named found bytes buffer) (replyOf (readBroken img named found bytes buffer) found bytes attributes buffer) got after
+  abbrev Read : Bool → Bool → Got → List ℕ → Type 0
+  Read named foreign got after =
+      Answered (readBroken img named foreign found bytes buffer) (replyOf (readBroken img named foreign found bytes buffer) found bytes attributes buffer) got after
 
-  pub read-found : {b t u : ℕ} {named : Bool} → Opens img b t u named → {got : Got} {after : List ℕ}
-      → Answered (foundBroken found bytes buffer) (foundReply found bytes attributes buffer) got after → Read named got after
+  pub read-found : {b t u : ℕ} {named foreign : Bool} → Opens img b t u named foreign → {got : Got} {after : List ℕ}
+      → Answered (foundBroken found bytes buffer) (foundReply found bytes attributes buffer) got after → Read named foreign got after
   unfolding readBroken foundBroken
-  read-found {named = named} o {got} {after} h =
+  read-found o {got} {after} h =
       subst (λ (x : Option Rule). Answered x (replyOf x found bytes attributes buffer) got after)
       (sym (o .later ((Absent, rule11Read found) ∷ (Buffer, rule14 found bytes buffer) ∷ []))) h
 
-  pub read-refused : {rule : Rule} {named : Bool} → Refuses img rule named → Read named (refusedGot rule 0) buffer
+  pub read-refused : {rule : Rule} {named foreign : Bool} → Refuses img rule named foreign → Read named foreign (refusedGot rule 0) buffer
   unfolding readBroken
-  read-refused {rule} {named} x =
-      answered-refused rule (x .before-14) (readBroken img named found bytes buffer)
+  read-refused {rule} {named} {foreign} x =
+      answered-refused rule (x .before-14) (readBroken img named foreign found bytes buffer)
       (x .broken ((Absent, rule11Read found) ∷ (Buffer, rule14 found bytes buffer) ∷ [])) found bytes attributes buffer
 
-pub read-as : (img : List ℕ) (bytes : Value → List ℕ) (attributes : Value → ℕ) (buffer : List ℕ) {found found′ : Option Value} {named named′ : Bool} {got : Got} {after : List ℕ}
-    → found ≡ found′ → named ≡ named′ → Read img found bytes attributes buffer named got after → Read img found′ bytes attributes buffer named′ got after
-read-as img bytes attributes buffer {found} {found′} {named} {named′} {got} {after} f n h =
-    subst (λ (x : Option Value). Read img x bytes attributes buffer named′ got after) f
-    (subst (λ (x : Bool). Read img found bytes attributes buffer x got after) n h)
+pub read-as : (img : List ℕ) (bytes : Value → List ℕ) (attributes : Value → ℕ) (buffer : List ℕ) {found found′ : Option Value} {named named′ foreign foreign′ : Bool} {got : Got} {after : List ℕ}
+    → found ≡ found′ → named ≡ named′ → foreign ≡ foreign′
+    → Read img found bytes attributes buffer named foreign got after → Read img found′ bytes attributes buffer named′ foreign′ got after
+read-as img bytes attributes buffer {found} {found′} {named} {named′} {foreign} {foreign′} {got} {after} f n o h =
+    subst (λ (x : Option Value). Read img x bytes attributes buffer named′ foreign′ got after) f
+    (subst (λ (x : Bool). Read img found bytes attributes buffer x foreign′ got after) n
+    (subst (λ (x : Bool). Read img found bytes attributes buffer named x got after) o h))
 
 -- the region that was cut
 pub region-get : (runtime : Bool) (k : Key) (img r : List ℕ) → r ≡ region img → valueToGet runtime k (values (entries r)) ≡ valueToGet runtime k (valuesOf img)
 unfolding valuesIn
 region-get runtime k img r p = ap (λ (x : List ℕ). valueToGet runtime k (values (entries x))) p
 
-pub region-name : (runtime : Bool) (k : Key) (img r : List ℕ) → r ≡ region img → valueToName runtime k (values (entries r)) ≡ nextAt runtime k img
+pub region-name : (v : View) (k : Key) (img r : List ℕ) → r ≡ region img → valueToName (v .vendor) (v .modem) (v .runtime) k (values (entries r)) ≡ nextAt v k img
 unfolding valuesIn
-region-name runtime k img r p = ap (λ (x : List ℕ). valueToName runtime k (values (entries x))) p
+region-name v k img r p = ap (λ (x : List ℕ). valueToName (v .vendor) (v .modem) (v .runtime) k (values (entries x))) p
 
 -- ---- whole calls, of every session that says what they are given
 
--- whether the phase is runtime
-said : (s : Session) {v : View} → viewOf s ≡ v → v .runtime ≡ atRuntime s
-unfolding viewOf
-said s e = sym (ap (λ (x : View). x .runtime) e)
+abbrev GetRead : View → Key → List ℕ → List ℕ → Got → List ℕ → Type 0
+GetRead v k buffer img got after =
+    Read img (valueToGet (v .runtime) k (valuesOf img)) gotBytes (λ v. v .attributes) buffer (wellNamed (k .name)) (rule22 (v .vendor) (v .modem) k) got after
 
 pub get-answered : (x : Context) (v : View) (k : Key) (buffer img : List ℕ) {got : Got} {after : List ℕ}
-    → Read img (valueToGet (v .runtime) k (valuesOf img)) gotBytes (λ v. v .attributes) buffer (wellNamed (k .name)) got after
-    → (s : Session) → viewOf s ≡ v
-    → Returned (book.get s k buffer) x img img (got .answer)
-    × Gives (getReply s k buffer img) (got .size) (got .attributes) (got .needed) after
-unfolding planOf getReply getBroken rule3 readBroken replyOf
-get-answered x v k buffer img {got} {after} r s e =
-    let h : Read img (valueToGet (atRuntime s) k (valuesOf img)) gotBytes (λ v. v .attributes) buffer (wellNamed (k .name)) got after =
-    subst (λ (t : Bool). Read img (valueToGet t k (valuesOf img)) gotBytes (λ v. v .attributes) buffer (wellNamed (k .name)) got after) (said s e) r in
-    ((h .answer ∙ sym (no-stores x (getBroken s k buffer img) img), sym (reading-image x (book.get s k buffer) img refl)), (h .size, h .attributes, h .needed, h .buffer))
+    → GetRead v k buffer img got after
+    → (m : Bool) (s : Session) → viewOf m s ≡ v
+    → Returned (book.get m s k buffer) x img img (got .answer)
+    × Gives (getReply m s k buffer img) (got .size) (got .attributes) (got .needed) after
+unfolding planOf getReply getBroken viewOf rule3 readBroken replyOf
+get-answered x v k buffer img {got} {after} r m s e =
+    let h : GetRead (viewOf m s) k buffer img got after = subst (λ (w : View). GetRead w k buffer img got after) (sym e) r in
+    ((h .answer ∙ sym (no-stores x (getBroken m s k buffer img) img), sym (reading-image x (book.get m s k buffer) img refl)), (h .size, h .attributes, h .needed, h .buffer))
 
 -- a name has no attributes
-no-attributes : (s : Session) (k : Key) (buffer img : List ℕ) → nextReply s k buffer img .attributes ≡ 0
+no-attributes : (m : Bool) (s : Session) (k : Key) (buffer img : List ℕ) → nextReply m s k buffer img .attributes ≡ 0
 unfolding nextReply refusal written
-no-attributes s k buffer img = go (nextBroken s k buffer img) (valueToName (atRuntime s) k (valuesOf img))
+no-attributes m s k buffer img = go (nextBroken m s k buffer img) (valueNamed m s k img)
   where
     go : (o : Option Rule) (v : Option Value)
         → (onSome o (λ rule. refusal rule (onSome v (λ w. length (namedBytes w)) 0) buffer) (onSome v (λ w. written (namedBytes w) 0 buffer) (written [] 0 buffer))) .attributes ≡ 0
@@ -182,12 +182,12 @@ no-attributes s k buffer img = go (nextBroken s k buffer img) (valueToName (atRu
     go none none = refl
 
 pub next-answered : (x : Context) (v : View) (k : Key) (buffer img : List ℕ) {got : Got} {after : List ℕ}
-    → Answered (nextBrokenAt (v .runtime) k buffer img) (nextReplyAt (v .runtime) k buffer img) got after
-    → (s : Session) → viewOf s ≡ v
-    → Returned (book.next s k buffer) x img img (got .answer)
-    × Gives (nextReply s k buffer img) (got .size) 0 (got .needed) after
-unfolding planOf nextReply nextBroken rule3Next readBroken replyOf
-next-answered x v k buffer img {got} {after} r s e =
-    let h : Answered (nextBrokenAt (atRuntime s) k buffer img) (nextReplyAt (atRuntime s) k buffer img) got after =
-    subst (λ (t : Bool). Answered (nextBrokenAt t k buffer img) (nextReplyAt t k buffer img) got after) (said s e) r in
-    ((h .answer ∙ sym (no-stores x (nextBroken s k buffer img) img), sym (reading-image x (book.next s k buffer) img refl)), (h .size, sym (no-attributes s k buffer img), h .needed, h .buffer))
+    → Answered (nextBrokenAt v k buffer img) (nextReplyAt v k buffer img) got after
+    → (m : Bool) (s : Session) → viewOf m s ≡ v
+    → Returned (book.next m s k buffer) x img img (got .answer)
+    × Gives (nextReply m s k buffer img) (got .size) 0 (got .needed) after
+unfolding planOf nextReply nextBroken viewOf rule3Next readBroken replyOf
+next-answered x v k buffer img {got} {after} r m s e =
+    let h : Answered (nextBrokenAt (viewOf m s) k buffer img) (nextReplyAt (viewOf m s) k buffer img) got after =
+    subst (λ (w : View). Answered (nextBrokenAt w k buffer img) (nextReplyAt w k buffer img) got after) (sym e) r in
+    ((h .answer ∙ sym (no-stores x (nextBroken m s k buffer img) img), sym (reading-image x (book.next m s k buffer) img refl)), (h .size, sym (no-attributes m s k buffer img), h .needed, h .buffer))

@@ -3,11 +3,12 @@
 use Prim.Native.Nat.{ℕ, _+_, _*_, _-_, _/_, _≤_, min}
 use native.Mathlib.Omega.{arith}
 use mathlib.Core.Path.{_≡_, refl, sym, ap, _∙_}
-use mathlib.Core.Bool.{Bool, true, false, cond, _||_, or-true}
+use mathlib.Core.Bool.{Bool, true, false, not, cond, _||_, or-true}
 use mathlib.Core.List.{List, [], _∷_, _++_}
 use mathlib.Core.Option.{Option, none, some}
 use lib.ListN.{length}
 use lib.Dec.{eqb}
+use Rattle.model.specs.declared.Terms.{Terms}
 use Rattle.model.specs.declared.Rule.{Rule}
 use Rattle.model.specs.declared.Rule.the-variants.{Attributes}
 use Rattle.model.specs.declared.Queried.{Queried}
@@ -17,12 +18,14 @@ use Rattle.model.specs.Lists.{onSome, orElse}
 use Rattle.model.specs.Image.{regionHeaderSize, block, region, regionSize}
 use Rattle.model.specs.Entry.{Value}
 use Rattle.model.specs.Region.{recordBit, entries, values, valuesOf, valuesIn}
-use Rattle.model.specs.Change.{recordSizes, otherSizes, spaceOf}
+use Rattle.model.specs.Change.{recordSizes, spaceOf}
+use Rattle.model.specs.Sides.{sideSizes}
 use Rattle.model.specs.Rules.{firstBroken, rule4, imageRules}
 use Rattle.model.specs.Answers.{answerOf, done}
-use Rattle.model.specs.Query.{storageFor, remainingFor, largestFor, queryBroken, queryOutcome, queryGives}
+use Rattle.model.specs.Query.{recordShare, storageFor, remainingFor, largestFor, queryBroken, queryOutcome, queryGives}
 use Rattle.model.proofs.Requests.{broken-append}
 use Rattle.model.proofs.Space.{all-sizes}
+use Rattle.values.proofs.Counting.{both-sides}
 use Rattle.image.specs.Check.{callOf, IsReady}
 use Rattle.image.specs.declared.Check.the-variants as call
 use Rattle.image.proofs.Ready.{is-ready, refused-rule}
@@ -41,46 +44,56 @@ unknown-some runtime a e b = b ∙ sym (rw e (go (rule4 runtime a)))
 
 -- ---- the room by the sums
 
-pub remaining-by : (error : Bool) (h reserve size : ℕ) (vs : List Value)
-    → min (size - (regionHeaderSize + recordSizes vs + otherSizes vs)) (cond error (h - recordSizes vs) (size - (regionHeaderSize + otherSizes vs + h + reserve))) / 4 * 4
-    ≡ remainingFor error h reserve size vs
+pub remaining-by : (t : Terms) (error : Bool) (size : ℕ) (vs : List Value)
+    → min
+    (size - (regionHeaderSize + recordSizes vs + sideSizes (t .vendor) (t .modem) vs + sideSizes (t .vendor) (not (t .modem)) vs))
+    (cond error (recordShare t - recordSizes vs) (t .share - (sideSizes (t .vendor) (t .modem) vs + t .reserve)))
+    / 4
+    * 4
+    ≡ remainingFor t error size vs
 unfolding remainingFor
-remaining-by error h reserve size vs = rw (all-sizes vs)
+remaining-by t error size vs =
+    let all : regionHeaderSize + recordSizes vs + sideSizes (t .vendor) (t .modem) vs + sideSizes (t .vendor) (not (t .modem)) vs ≡ spaceOf vs =
+    omega (arith, all-sizes vs, both-sides (t .vendor) (t .modem) vs) in
+    rw all
 
 -- ---- what a query answers
 
-abbrev pub Told : Bool → ℕ → ℕ → List ℕ → ℕ → Queried → Type 0
-Told runtime h reserve img a q =
-    (answerOf (q .answer) ≡ queryOutcome runtime a img)
-    × (q .storage ≡ queryGives runtime a img (storageFor (recordBit a) h reserve (regionSize img)))
-    × (q .remaining ≡ queryGives runtime a img (remainingFor (recordBit a) h reserve (regionSize img) (valuesOf img)))
-    × (q .largest ≡ queryGives runtime a img (largestFor (remainingFor (recordBit a) h reserve (regionSize img) (valuesOf img))))
+abbrev pub Told : Terms → List ℕ → ℕ → Queried → Type 0
+Told t img a q =
+    (answerOf (q .answer) ≡ queryOutcome (t .runtime) a img)
+    × (q .storage ≡ queryGives (t .runtime) a img (storageFor t (recordBit a) (regionSize img)))
+    × (q .remaining ≡ queryGives (t .runtime) a img (remainingFor t (recordBit a) (regionSize img) (valuesOf img)))
+    × (q .largest ≡ queryGives (t .runtime) a img (largestFor (remainingFor t (recordBit a) (regionSize img) (valuesOf img))))
 
-module _ (runtime : Bool) (h reserve : ℕ) (img : List ℕ) (a : ℕ) where
+module _ (t : Terms) (img : List ℕ) (a : ℕ) where
+  abbrev runtime : Bool
+  runtime = t .runtime
+
   judged : queryBroken runtime a img ≡ orElse (firstBroken (imageRules img)) (cond (rule4 runtime a || eqb a 0) (some Attributes) none)
   unfolding queryBroken firstBroken
   judged = broken-append (imageRules img) ((Attributes, rule4 runtime a || eqb a 0) ∷ [])
 
-  told-rule : {q : Queried} (rule : Rule) → queryBroken runtime a img ≡ some rule → q ≡ record { answer = Refused rule; storage = 0; remaining = 0; largest = 0 } → Told runtime h reserve img a q
+  told-rule : {q : Queried} (rule : Rule) → queryBroken runtime a img ≡ some rule → q ≡ record { answer = Refused rule; storage = 0; remaining = 0; largest = 0 } → Told t img a q
   unfolding queryOutcome queryGives
   told-rule rule b e = rw (e, b) (refl, refl, refl, refl)
 
-  pub told-refused : {q : Queried} (rule : Rule) → callOf img ≡ call.Refused rule → q ≡ record { answer = Refused rule; storage = 0; remaining = 0; largest = 0 } → Told runtime h reserve img a q
+  pub told-refused : {q : Queried} (rule : Rule) → callOf img ≡ call.Refused rule → q ≡ record { answer = Refused rule; storage = 0; remaining = 0; largest = 0 } → Told t img a q
   told-refused rule p = told-rule rule (judged ∙ rw (refused-rule authenticated img rule p))
 
-  module _ {b t u : ℕ} (p : callOf img ≡ call.Ready b t u) where
-    ready : IsReady img b t u
+  module _ {b at u : ℕ} (p : callOf img ≡ call.Ready b at u) where
+    ready : IsReady img b at u
     ready = is-ready authenticated p
 
-    pub told-unknown : {q : Queried} → (rule4 runtime a || eqb a 0) ≡ true → q ≡ record { answer = Refused Attributes; storage = 0; remaining = 0; largest = 0 } → Told runtime h reserve img a q
+    pub told-unknown : {q : Queried} → (rule4 runtime a || eqb a 0) ≡ true → q ≡ record { answer = Refused Attributes; storage = 0; remaining = 0; largest = 0 } → Told t img a q
     told-unknown k = told-rule Attributes (judged ∙ rw (ready .unbroken, k))
 
     pub told-room : {q : Queried} {r : List ℕ} → (rule4 runtime a || eqb a 0) ≡ false → r ≡ region img
         → q .answer ≡ Done 0
-        → q .storage ≡ storageFor (recordBit a) h reserve (length r)
-        → q .remaining ≡ remainingFor (recordBit a) h reserve (length r) (values (entries r))
-        → q .largest ≡ largestFor (remainingFor (recordBit a) h reserve (length r) (values (entries r)))
-        → Told runtime h reserve img a q
+        → q .storage ≡ storageFor t (recordBit a) (length r)
+        → q .remaining ≡ remainingFor t (recordBit a) (length r) (values (entries r))
+        → q .largest ≡ largestFor (remainingFor t (recordBit a) (length r) (values (entries r)))
+        → Told t img a q
     unfolding queryOutcome queryGives valuesIn regionSize block
     told-room k same x y z w =
         let long : regionSize img ≡ length (region img) = ap (λ (n : ℕ). 4096 * n) (ready .number) ∙ sym (ready .long) in

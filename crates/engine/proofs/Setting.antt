@@ -53,14 +53,14 @@ use Rattle.decision.proofs.Accepted.{rules-broken, nothing-change, remove-chang
 use Rattle.engine.proofs.Bits.{remove-clears}
 
 -- rule 1 or 2 is broken
-pub image-refused : (s : Session) (q : Request) (img : List ℕ) (rule : Rule) → callOf img ≡ Refused rule → setPlan s q img ≡ refuse rule
+pub image-refused : (m : Bool) (s : Session) (q : Request) (img : List ℕ) (rule : Rule) → callOf img ≡ Refused rule → setPlan m s q img ≡ refuse rule
 unfolding planOf setBroken
-image-refused s q img rule h =
+image-refused m s q img rule h =
     let vs : List Value = valuesOf img in
     let i : List (Rule × Bool) = imageRules img in
-    let a : List (Rule × Bool) = itemRules (termsOf s (requestKey q)) q vs in
+    let a : List (Rule × Bool) = itemRules (termsOf m s (requestKey q)) q vs in
     let e : List (Rule × Bool) = settingRules (limitsFor (s .setup) (requestKey q)) q (find (requestKey q) vs) in
-    let d : List (Rule × Bool) = roomRules (termsOf s (requestKey q)) (regionSize img) (changeIn q vs ∷ []) vs in
+    let d : List (Rule × Bool) = roomRules (termsOf m s (requestKey q)) (regionSize img) (changeIn q vs ∷ []) vs in
     let first : firstBroken i ≡ some rule = refused-rule authenticated img rule h in
     let broken : firstBroken (i ++ a ++ e ++ d) ≡ some rule = broken-append (i ++ a ++ e) d ∙ rw (broken-append (i ++ a) e, broken-append i a, first) in
     ap (λ (o : Option Rule). onSome o refuse (changePlan img (changeIn q vs))) broken
@@ -132,31 +132,31 @@ module _ (t : Terms) (table name vendor : List ℕ) (a : ℕ) (bytes : List ℕ)
 
   -- ---- in a session that says so
 
-  module _ (s : Session) (says : Says s (keyed name vendor) t table) where
-    broken : setBroken s q img ≡ brokenOf what
+  module _ (m : Bool) (s : Session) (says : Says m s (keyed name vendor) t table) where
+    broken : setBroken m s q img ≡ brokenOf what
     unfolding setBroken termsOf
     broken =
         ap₂ (λ (y : Terms) (l : List Limit). firstBroken (setRules y l q img)) (says .0)
         (ap₂ (λ (x : List ℕ) (n : ℕ). limitsIn x n (keyed name vendor)) (says .1) (ap (λ (y : Terms). y .rules) (says .0)))
         ∙ kept
 
-    plan : (c : Change) → brokenOf what ≡ none → changeIn q (valuesOf img) ≡ c → setPlan s q img ≡ changePlan img c
+    plan : (c : Change) → brokenOf what ≡ none → changeIn q (valuesOf img) ≡ c → setPlan m s q img ≡ changePlan img c
     unfolding planOf
     plan c n e = rw (broken ∙ n, e)
 
     -- refused, or no stores
 
-    pub set-refused : {rule : Rule} → what ≡ decision.Broken rule → setPlan s q img ≡ refuse rule
+    pub set-refused : {rule : Rule} → what ≡ decision.Broken rule → setPlan m s q img ≡ refuse rule
     unfolding planOf
     set-refused h = rw (broken ∙ ap brokenOf h)
 
-    pub set-nothing : what ≡ decision.Nothing → setPlan s q img ≡ make [] []
+    pub set-nothing : what ≡ decision.Nothing → setPlan m s q img ≡ make [] []
     unfolding changePlan
     set-nothing h = plan nothing (ap brokenOf h) (nothing-change ls t q (regionSize img) (valuesOf img) (decided ∙ h))
 
     -- a delete
 
-    pub remove-plan : what ≡ decision.Remove → setPlan s q img ≡ make (deleteTo (keyed name vendor) (entries (region img))) []
+    pub remove-plan : what ≡ decision.Remove → setPlan m s q img ≡ make (deleteTo (keyed name vendor) (entries (region img))) []
     unfolding changePlan
     remove-plan h = plan (remove (requestKey q)) (ap brokenOf h) (remove-change ls t q (regionSize img) (valuesOf img) (decided ∙ h))
 
@@ -167,7 +167,7 @@ module _ (t : Terms) (table name vendor : List ℕ) (a : ℕ) (bytes : List ℕ)
         let k = keyed name vendor in
         let es = entries (region img) in
         let present : isSome (find k (valuesOf img)) ≡ true =
-        remove-present s q img (broken ∙ ap brokenOf h) k (remove-change ls t q (regionSize img) (valuesOf img) (decided ∙ h)) in
+        remove-present m s q img (broken ∙ ap brokenOf h) k (remove-change ls t q (regionSize img) (valuesOf img) (decided ∙ h)) in
         let looked : find k (values es) ≡ onSome (standing k es) (λ e. some (walk.entryValue e)) none =
         find-standing (length (region img)) es k (sound-parts authenticated (region img) (ready .sounds) .1) in
         go (standing k es) (ap isSome (sym looked) ∙ present)
@@ -187,32 +187,32 @@ module _ (t : Terms) (table name vendor : List ℕ) (a : ℕ) (bytes : List ℕ)
         (delete-to c places k es found-added found-replacing)
 
     -- *what was planned*
-    pub remove-plans : what ≡ decision.Remove → Bytes img → Sized (set s q) → (before c : List ℕ) {ops : List Op} {p : Planned} → ops ≡ deletePlan places → p ≡ accepted ops 1
-        → Plans (setPlan s q img) img before c p
+    pub remove-plans : what ≡ decision.Remove → Bytes img → Sized (set m s q) → (before c : List ℕ) {ops : List Op} {p : Planned} → ops ≡ deletePlan places → p ≡ accepted ops 1
+        → Plans (setPlan m s q img) img before c p
     unfolding block
     remove-plans h bytes-img args before c {ops} {p} o e =
         let k = keyed name vendor in
         let es = entries (region img) in
         let l = image-long img b (ready .right) (ready .number) in
         let x = below (length img) (omega (arith, ready .long, l .1)) in
-        let clears = remove-clears s q img k bytes-img args (remove-change ls t q (regionSize img) (valuesOf img) (decided ∙ h)) (remove-plan h) in
-        accepted-plans before c img (setPlan s q img) (deletePlan places) 1 (deleteTo k es) [] e o (delete-to c places k es found-added found-replacing)
+        let clears = remove-clears m s q img k bytes-img args (remove-change ls t q (regionSize img) (valuesOf img) (decided ∙ h)) (remove-plan h) in
+        accepted-plans before c img (setPlan m s q img) (deletePlan places) 1 (deleteTo k es) [] e o (delete-to c places k es found-added found-replacing)
         (delete-on c places k es found-added found-replacing) (remove-plan h) (remove-decides h c o e) (delete-ready c img places k found-added found-replacing (x .0) (x .1) clears)
 
     -- a put
 
-    pub put-plan : what ≡ decision.Put → setPlan s q img ≡ putPlan img v
+    pub put-plan : what ≡ decision.Put → setPlan m s q img ≡ putPlan img v
     unfolding changePlan
     put-plan h = plan (put v) (ap brokenOf h) (asked-change h)
 
-    put-kept : (before c : List ℕ) → what ≡ decision.Put → Kept (setPlan s q img) before c
+    put-kept : (before c : List ℕ) → what ≡ decision.Put → Kept (setPlan m s q img) before c
     unfolding putPlan
     put-kept before c h =
         subst (λ (p : Plan). Kept p before c) (sym (put-plan h)) (either-kept (fitsTail (region img) v) _ _ _ _ before c)
 
     -- *what was planned*
-    pub put-plans : what ≡ decision.Put → Bytes img → Sized (set s q) → (before : List ℕ) {c : List ℕ} {p : Planned} → PutPlanned img v c p
-        → Plans (setPlan s q img) img before c p
+    pub put-plans : what ≡ decision.Put → Bytes img → Sized (set m s q) → (before : List ℕ) {c : List ℕ} {p : Planned} → PutPlanned img v c p
+        → Plans (setPlan m s q img) img before c p
     unfolding inPlace
     put-plans h bytes-img args before {c} {p} d =
         record {
@@ -222,6 +222,6 @@ module _ (t : Terms) (table name vendor : List ℕ) (a : ℕ) (bytes : List ℕ)
           ready =
               d .ready
               (λ fits w. subst (λ (ss : List Store). ClearsOne (isState img) ss img) (ap (storesOf w) (put-plan h))
-              (marks-clear-one-bit w img bytes-img (set s q) args .1 (changeIn q (valuesOf img)) refl (ap (inPlace img) (asked-change h) ∙ fits)))
-              (λ w. subst (λ (ss : List Store). ClearsOne (isRecord img) ss img) (ap (storesOf w) (put-plan h)) (marks-clear-one-bit w img bytes-img (set s q) args .0));
+              (marks-clear-one-bit w img bytes-img (set m s q) args .1 (changeIn q (valuesOf img)) refl (ap (inPlace img) (asked-change h) ∙ fits)))
+              (λ w. subst (λ (ss : List Store). ClearsOne (isRecord img) ss img) (ap (storesOf w) (put-plan h)) (marks-clear-one-bit w img bytes-img (set m s q) args .0));
         }

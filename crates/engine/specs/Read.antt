@@ -1,4 +1,4 @@
--- What a call that reads answers, rule by rule as the code checks them: first 1, 2 and 3, then of the value found 11 and 14.
+-- What a call that reads answers, rule by rule as the code checks them: first 1, 2, 3 and 22, then of the value found 11 and 14.
 use Prim.Native.Nat.{ℕ}
 use mathlib.Core.Path.{_≡_}
 use mathlib.Core.Bool.{Bool, not, cond, _||_}
@@ -12,29 +12,30 @@ use Rattle.model.specs.Name.{Key, wellNamed, emptyName}
 use Rattle.model.specs.Entry.{Value}
 use Rattle.model.specs.Region.{tailAt, valuesOf}
 use Rattle.model.specs.Work.{usedRecords}
-use Rattle.model.specs.Rules.{firstBroken, imageRules, rule11Read, rule14, namedBytes, valueToName}
+use Rattle.model.specs.Rules.{firstBroken, imageRules, rule11Read, rule14, rule22Next, namedBytes, valueToName}
 use Rattle.model.specs.Answers.{ruleNumber, Reply, refusal, written, answerOf, done, refused}
+use Rattle.model.specs.declared.View.{View}
 use Rattle.model.specs.declared.Rule.{Rule}
-use Rattle.model.specs.declared.Rule.the-variants.{Name, Absent, Buffer}
+use Rattle.model.specs.declared.Rule.the-variants.{Name, Side, Absent, Buffer}
 use Rattle.model.specs.declared.Answer.the-variants.{Refused}
 use Rattle.model.specs.declared.Got.{Got}
 use Rattle.image.specs.declared.Check.{Check}
 use Rattle.image.specs.declared.Check.the-variants as call
 
--- rules 1, 2 and 3, of an image and of whether the name is one that the call takes
-unfoldable pub openOf : List ℕ → Bool → Check
-openOf img named =
-    onSome (firstBroken (imageRules img ++ ((Name, not named) ∷ []))) call.Refused
+-- rules 1, 2, 3 and 22, of an image, of whether the name is one that the call takes, and of whether it is the other side's
+unfoldable pub openOf : List ℕ → Bool → Bool → Check
+openOf img named foreign =
+    onSome (firstBroken (imageRules img ++ ((Name, not named) ∷ (Side, foreign) ∷ []))) call.Refused
     (call.Ready (blocks img) (tailAt (region img)) (usedRecords (work img)))
 
 -- rules 11 and 14, of the value found and of what the call writes of it
 unfoldable pub foundBroken : Option Value → (Value → List ℕ) → List ℕ → Option Rule
 foundBroken found bytes buffer = firstBroken ((Absent, rule11Read found) ∷ (Buffer, rule14 found bytes buffer) ∷ [])
 
--- all five
-unfoldable pub readBroken : List ℕ → Bool → Option Value → (Value → List ℕ) → List ℕ → Option Rule
-readBroken img named found bytes buffer =
-    firstBroken (imageRules img ++ ((Name, not named) ∷ (Absent, rule11Read found) ∷ (Buffer, rule14 found bytes buffer) ∷ []))
+-- all six
+unfoldable pub readBroken : List ℕ → Bool → Bool → Option Value → (Value → List ℕ) → List ℕ → Option Rule
+readBroken img named foreign found bytes buffer =
+    firstBroken (imageRules img ++ ((Name, not named) ∷ (Side, foreign) ∷ (Absent, rule11Read found) ∷ (Buffer, rule14 found bytes buffer) ∷ []))
 
 -- the reply, by the rule broken and the value found
 unfoldable pub replyOf : Option Rule → Option Value → (Value → List ℕ) → (Value → ℕ) → List ℕ → Reply
@@ -55,19 +56,19 @@ unfoldable pub replyTo : List ℕ → ℕ → List ℕ → Reply
 replyTo bytes attributes buffer =
     onSome (shortOf bytes buffer) (λ rule. refusal rule (length bytes) buffer) (written bytes attributes buffer)
 
--- of next-name, at runtime or not: the value found, the rule broken, the reply
-abbrev pub nextAt : Bool → Key → List ℕ → Option Value
-nextAt runtime k img = valueToName runtime k (valuesOf img)
+-- of next-name, by what its session says to it: the value found, the rule broken, the reply
+abbrev pub nextAt : View → Key → List ℕ → Option Value
+nextAt v k img = valueToName (v .vendor) (v .modem) (v .runtime) k (valuesOf img)
 
 abbrev pub nextNamed : Key → Bool
 nextNamed k = wellNamed (k .name) || same (k .name) emptyName
 
-abbrev pub nextBrokenAt : Bool → Key → List ℕ → List ℕ → Option Rule
-nextBrokenAt runtime k buffer img = readBroken img (nextNamed k) (nextAt runtime k img) namedBytes buffer
+abbrev pub nextBrokenAt : View → Key → List ℕ → List ℕ → Option Rule
+nextBrokenAt v k buffer img = readBroken img (nextNamed k) (rule22Next (v .vendor) (v .modem) k) (nextAt v k img) namedBytes buffer
 
-abbrev pub nextReplyAt : Bool → Key → List ℕ → List ℕ → Reply
-nextReplyAt runtime k buffer img =
-    replyOf (nextBrokenAt runtime k buffer img) (nextAt runtime k img) namedBytes (λ v. 0) buffer
+abbrev pub nextReplyAt : View → Key → List ℕ → List ℕ → Reply
+nextReplyAt v k buffer img =
+    replyOf (nextBrokenAt v k buffer img) (nextAt v k img) namedBytes (λ v. 0) buffer
 
 -- what is given back when a rule is broken
 abbrev pub refusedGot : Rule → ℕ → Got

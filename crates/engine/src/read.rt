@@ -1,7 +1,7 @@
 // The calls that read: get and next-name. They make no stores, so n never stops them, and they write the front of the buffer and no more. What they ensure holds of every
 // session that says what they are given.
 ghost use mathlib.Core.Path.{_≡_};
-ghost use mathlib.Core.Bool.{_||_};
+ghost use mathlib.Core.Bool.{Bool, _||_};
 ghost use mathlib.Core.List.{_++_};
 ghost use Prim.Native.Nat.{_≤_};
 ghost use lib.ListN.{length};
@@ -9,13 +9,14 @@ ghost use Rattle.model.specs.Lists.{same, overlay};
 ghost use Rattle.model.specs.Name.{keyed, wellNamed, emptyName};
 ghost use Rattle.model.specs.Region.{entries, values};
 ghost use Rattle.model.specs.declared.Session.{Session};
-ghost use Rattle.model.specs.Rules.{viewOf, gotBytes, namedBytes, valueToGet, valueToName};
+ghost use Rattle.model.specs.Rules.{viewOf, rule22, rule22Next, gotBytes, namedBytes, valueToGet, valueToName};
 ghost use Rattle.model.specs.Answers.{getReply, nextReply};
 ghost use Rattle.model.specs.Beside.{Gives};
 ghost use Rattle.model.specs.Book as book;
 ghost use Rattle.recovery.specs.Interface.{Returned};
 ghost use Rattle.engine.specs.Read.{openOf, refusedGot, Answered, shortOf, replyTo, foundBroken, foundReply, nextBrokenAt, nextReplyAt};
 use image::Check;
+use layout::fixed;
 use model::Answer;
 use model::Context;
 use model::Got;
@@ -50,17 +51,28 @@ fn refused(rule: Rule, needed: u32) -> Got
     }
 }
 
-// Rules 1, 2 and 3, the last as the name was found: what they leave to a call, or the rule broken.
-fn open(image: &[u8], named: bool) -> Check
-    ensures { λ r. ⌜ r ≡ openOf (now (image .entry)) named ⌝ }
+// Whether a name is the other side's: rule 22.
+fn is_foreign(view: View, name: &[u8], vendor: &[u8; 16]) -> bool
+    ensures { λ r. ⌜ r ≡ rule22 (view .vendor) (view .modem) (keyed (now (name .entry)) (now (vendor .entry))) ⌝ }
+{
+    let guid = view.vendor;
+    !fixed::is_own(&guid, view.modem, name, vendor)
+}
+
+// Rules 1, 2, 3 and 22, the last two as the name was found: what they leave to a call, or the rule broken.
+fn open(image: &[u8], named: bool, foreign: bool) -> Check
+    ensures { λ r. ⌜ r ≡ openOf (now (image .entry)) named foreign ⌝ }
 {
     let check = image::check_call(Layout::AUTHENTICATED, image);
     match check {
         Check::Ready(_, _, _) => {
-            if named {
-                return check;
+            if !named {
+                return Check::Refused(Rule::Name);
             }
-            Check::Refused(Rule::Name)
+            if foreign {
+                return Check::Refused(Rule::Side);
+            }
+            check
         }
         Check::Refused(_) => check,
     }
@@ -134,18 +146,19 @@ fn get_from(region: &[u8], runtime: bool, name: &[u8], vendor: &[u8; 16], buffer
 }
 
 // Rules 11 and 14 of a next-name, from a region.
-fn name_from(region: &[u8], runtime: bool, name: &[u8], vendor: &[u8; 16], buffer: &mut [u8]) -> Got
+fn name_from(region: &[u8], view: View, name: &[u8], vendor: &[u8; 16], buffer: &mut [u8]) -> Got
     requires { ⌜ length (now region) ≤ 28672 ⌝ }
     ensures { λ r. ⌜ Answered
         (foundBroken
-        (valueToName runtime (keyed (now (name .entry)) (now (vendor .entry))) (values (entries (now (region .entry)))))
+        (valueToName (view .vendor) (view .modem) (view .runtime) (keyed (now (name .entry)) (now (vendor .entry))) (values (entries (now (region .entry)))))
         namedBytes (now (buffer .entry)))
         (foundReply
-        (valueToName runtime (keyed (now (name .entry)) (now (vendor .entry))) (values (entries (now (region .entry)))))
+        (valueToName (view .vendor) (view .modem) (view .runtime) (keyed (now (name .entry)) (now (vendor .entry))) (values (entries (now (region .entry)))))
         namedBytes (λ v. 0) (now (buffer .entry)))
         r (now (buffer .exit)) ⌝ }
 {
-    let found = query::to_name(region, runtime, name, vendor);
+    let guid = view.vendor;
+    let found = query::to_name(region, view.runtime, &guid, view.modem, name, vendor);
     let Found::At(at, e) = found else {
         return refused(Rule::Absent, 0);
     };
@@ -156,7 +169,7 @@ fn name_from(region: &[u8], runtime: bool, name: &[u8], vendor: &[u8; 16], buffe
     )
 }
 
-// A get: the data of the value of a name and GUID. Rules 1, 2, 3, 11 and 14.
+// A get: the data of the value of a name and GUID. Rules 1, 2, 3, 22, 11 and 14.
 pub fn get(
     c: Context,
     view: View,
@@ -165,15 +178,19 @@ pub fn get(
     vendor: &[u8; 16],
     buffer: &mut [u8],
 ) -> Got
-    ensures { λ r. ⌜ ((s : Session) → viewOf s ≡ view
+    ensures { λ r. ⌜ ((m : Bool) (s : Session) → viewOf m s ≡ view
         → Returned
-        (book.get s (keyed (now (name .entry)) (now (vendor .entry))) (now (buffer .entry)))
+        (book.get m s (keyed (now (name .entry)) (now (vendor .entry))) (now (buffer .entry)))
         c (now (image .entry)) (now (image .entry)) (r .answer)
         × Gives
-        (getReply s (keyed (now (name .entry)) (now (vendor .entry))) (now (buffer .entry)) (now (image .entry)))
+        (getReply m s (keyed (now (name .entry)) (now (vendor .entry))) (now (buffer .entry)) (now (image .entry)))
         (r .size) (r .attributes) (r .needed) (now (buffer .exit))) ⌝ }
 {
-    let opened = open(image, slices::is_named(name));
+    let opened = open(
+        image,
+        slices::is_named(name),
+        is_foreign(view, name, vendor),
+    );
     match opened {
         Check::Ready(b, _, _) => get_from(
             slices::cut(image, 0, layout::BLOCK * b),
@@ -196,24 +213,32 @@ fn is_next_named(name: &[u8]) -> bool
     query::is_empty_name(name)
 }
 
-// What next-name answers, at runtime or not.
-fn name_behind(
-    runtime: bool,
-    image: &[u8],
-    name: &[u8],
-    vendor: &[u8; 16],
-    buffer: &mut [u8],
-) -> Got
+// Whether a name from which next-name goes on is the other side's; the empty one is no side's.
+fn is_next_foreign(view: View, name: &[u8], vendor: &[u8; 16]) -> bool
+    ensures { λ r. ⌜ r ≡ rule22Next (view .vendor) (view .modem) (keyed (now (name .entry)) (now (vendor .entry))) ⌝ }
+{
+    if query::is_empty_name(name) {
+        return false;
+    }
+    is_foreign(view, name, vendor)
+}
+
+// What next-name answers, by what its session says to it.
+fn name_behind(view: View, image: &[u8], name: &[u8], vendor: &[u8; 16], buffer: &mut [u8]) -> Got
     ensures { λ r. ⌜ Answered
-        (nextBrokenAt runtime (keyed (now (name .entry)) (now (vendor .entry))) (now (buffer .entry)) (now (image .entry)))
-        (nextReplyAt runtime (keyed (now (name .entry)) (now (vendor .entry))) (now (buffer .entry)) (now (image .entry)))
+        (nextBrokenAt view (keyed (now (name .entry)) (now (vendor .entry))) (now (buffer .entry)) (now (image .entry)))
+        (nextReplyAt view (keyed (now (name .entry)) (now (vendor .entry))) (now (buffer .entry)) (now (image .entry)))
         r (now (buffer .exit)) ⌝ }
 {
-    let opened = open(image, is_next_named(name));
+    let opened = open(
+        image,
+        is_next_named(name),
+        is_next_foreign(view, name, vendor),
+    );
     match opened {
         Check::Ready(b, _, _) => name_from(
             slices::cut(image, 0, layout::BLOCK * b),
-            runtime,
+            view,
             name,
             vendor,
             buffer,
@@ -222,7 +247,7 @@ fn name_behind(
     }
 }
 
-// A next-name: the GUID and name of the value behind a name and GUID. Rules 1, 2, 3, 11 and 14.
+// A next-name: the GUID and name of the value behind a name and GUID. Rules 1, 2, 3, 22, 11 and 14.
 pub fn next_name(
     c: Context,
     view: View,
@@ -231,15 +256,15 @@ pub fn next_name(
     vendor: &[u8; 16],
     buffer: &mut [u8],
 ) -> Named
-    ensures { λ r. ⌜ ((s : Session) → viewOf s ≡ view
+    ensures { λ r. ⌜ ((m : Bool) (s : Session) → viewOf m s ≡ view
         → Returned
-        (book.next s (keyed (now (name .entry)) (now (vendor .entry))) (now (buffer .entry)))
+        (book.next m s (keyed (now (name .entry)) (now (vendor .entry))) (now (buffer .entry)))
         c (now (image .entry)) (now (image .entry)) (r .answer)
         × Gives
-        (nextReply s (keyed (now (name .entry)) (now (vendor .entry))) (now (buffer .entry)) (now (image .entry)))
+        (nextReply m s (keyed (now (name .entry)) (now (vendor .entry))) (now (buffer .entry)) (now (image .entry)))
         (r .size) 0 (r .needed) (now (buffer .exit))) ⌝ }
 {
-    let got = name_behind(view.runtime, image, name, vendor, buffer);
+    let got = name_behind(view, image, name, vendor, buffer);
     let answer = got.answer;
     Named {
         answer,

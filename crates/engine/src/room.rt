@@ -1,4 +1,4 @@
-// What UEFI's QueryVariableInfo asks: the room for values of a class, the error records or the others, as rules 13 and 18 have it. No stores are made.
+// What UEFI's QueryVariableInfo asks: the room for values of a class, the error records or a side's others, as rules 13 and 18 have it. No stores are made.
 ghost use mathlib.Core.Path.{_≡_};
 ghost use mathlib.Core.Bool.{cond, _||_};
 ghost use Prim.Native.Nat.{_+_, _*_, _-_, _/_, _≤_, _<_, _^_, min};
@@ -8,12 +8,13 @@ ghost use Rattle.model.specs.Rules.{rule4};
 ghost use Rattle.model.specs.Image.{regionHeaderSize, regionSize};
 ghost use Rattle.model.specs.Region.{recordBit, entries, values, valuesOf};
 ghost use Rattle.model.specs.Answers.{answerOf};
-ghost use Rattle.model.specs.Query.{storageFor, remainingFor, largestFor, queryOutcome, queryGives};
+ghost use Rattle.model.specs.Query.{recordShare, storageFor, remainingFor, largestFor, queryOutcome, queryGives};
 use image::Check;
 use model::Answer;
 use model::Layout;
 use model::Queried;
 use model::Rule;
+use model::Terms;
 use values::list;
 
 // The room for values of a class, in numbers.
@@ -42,35 +43,39 @@ fn least(a: usize, b: usize) -> usize
     a
 }
 
-// The bytes that all values of a class may take.
-fn storage(error: bool, h: u32, reserve: u32, size: usize) -> usize
-    ensures { λ r. ⌜ (r ≡ storageFor error h reserve size) × (r ≤ size) ⌝ }
+// The bytes for error records, which are always ours.
+fn record_share(t: Terms) -> usize
+    ensures { λ r. ⌜ r ≡ recordShare t ⌝ }
 {
-    if error {
-        return least(h as usize, less(size, layout::REGION_HEADER));
+    if t.modem {
+        return 0;
     }
-    less(size, layout::REGION_HEADER + h as usize + reserve as usize)
+    t.records as usize
+}
+
+// The bytes that all values of a class may take.
+fn storage(t: Terms, error: bool, size: usize) -> usize
+    ensures { λ r. ⌜ (r ≡ storageFor t error size) × (r ≤ size) ⌝ }
+{
+    let all = less(size, layout::REGION_HEADER);
+    if error {
+        return least(all, record_share(t));
+    }
+    least(all, less(t.share as usize, t.reserve as usize))
 }
 
 // The bytes that a new value may take, by the sums of those that are there.
-fn remaining(error: bool, h: u32, reserve: u32, size: usize, records: usize, others: usize) -> usize
-    requires { ⌜ records + others < 2 ^ 32 ⌝ }
-    ensures { λ r. ⌜ (r ≡ min (size - (regionHeaderSize + records + others))
-        (cond error (h - records) (size - (regionHeaderSize + others + h + reserve))) / 4 * 4) × (r ≤ size) ⌝ }
+fn remaining(t: Terms, error: bool, size: usize, records: usize, own: usize, others: usize) -> usize
+    requires { ⌜ records + own + others < 2 ^ 32 ⌝ }
+    ensures { λ r. ⌜ (r ≡ min (size - (regionHeaderSize + records + own + others))
+        (cond error (recordShare t - records) (t .share - (own + t .reserve))) / 4 * 4)
+        × (r ≤ size) ⌝ }
 {
-    let all = less(size, layout::REGION_HEADER + records + others);
+    let all = less(size, layout::REGION_HEADER + records + own + others);
     if error {
-        return least(all, less(h as usize, records)) / 4 * 4;
+        return least(all, less(record_share(t), records)) / 4 * 4;
     }
-    least(
-        all,
-        less(
-            size,
-            layout::REGION_HEADER + others + h as usize + reserve as usize,
-        ),
-    )
-        / 4
-        * 4
+    least(all, less(t.share as usize, own + t.reserve as usize)) / 4 * 4
 }
 
 // The bytes that its name and data may have.
@@ -84,18 +89,19 @@ fn largest(remaining: usize) -> usize
 }
 
 // The room in a region.
-fn room_in(region: &[u8], error: bool, h: u32, reserve: u32) -> Room
+fn room_in(t: Terms, region: &[u8], error: bool) -> Room
     requires { ⌜ length (now region) ≤ 28672 ⌝ }
-    ensures { λ r. ⌜ (r .storage ≡ storageFor error h reserve (length (now (region .entry))))
-        × (r .remaining ≡ remainingFor error h reserve (length (now (region .entry))) (values (entries (now (region .entry)))))
-        × (r .largest ≡ largestFor (remainingFor error h reserve (length (now (region .entry))) (values (entries (now (region .entry))))))
+    ensures { λ r. ⌜ (r .storage ≡ storageFor t error (length (now (region .entry))))
+        × (r .remaining ≡ remainingFor t error (length (now (region .entry))) (values (entries (now (region .entry)))))
+        × (r .largest ≡ largestFor (remainingFor t error (length (now (region .entry))) (values (entries (now (region .entry))))))
         × (r .storage ≤ 28672) × (r .remaining ≤ 28672) × (r .largest ≤ 28672) ⌝ }
 {
-    let sums = list::tally(Layout::AUTHENTICATED, region);
+    let guid = t.vendor;
+    let sums = list::tally(Layout::AUTHENTICATED, region, &guid, t.modem);
     let size = region.len();
-    let remaining = remaining(error, h, reserve, size, sums.records, sums.others);
+    let remaining = remaining(t, error, size, sums.records, sums.own, sums.others);
     Room {
-        storage: storage(error, h, reserve, size),
+        storage: storage(t, error, size),
         remaining,
         largest: largest(remaining),
     }
@@ -123,23 +129,23 @@ fn is_unknown(runtime: bool, attributes: u32) -> bool
     policy::attributes_broken(runtime, attributes)
 }
 
-// A query: rules 1, 2 and 4, then the room for values with these attributes, at runtime or not, with H and the bytes kept back.
-pub fn query(runtime: bool, h: u32, reserve: u32, image: &[u8], attributes: u32) -> Queried
-    ensures { λ r. ⌜ (answerOf (r .answer) ≡ queryOutcome runtime attributes (now (image .entry)))
-        × (r .storage ≡ queryGives runtime attributes (now (image .entry)) (storageFor (recordBit attributes) h reserve (regionSize (now (image .entry)))))
-        × (r .remaining ≡ queryGives runtime attributes (now (image .entry))
-        (remainingFor (recordBit attributes) h reserve (regionSize (now (image .entry))) (valuesOf (now (image .entry)))))
-        × (r .largest ≡ queryGives runtime attributes (now (image .entry))
-        (largestFor (remainingFor (recordBit attributes) h reserve (regionSize (now (image .entry))) (valuesOf (now (image .entry)))))) ⌝ }
+// A query: rules 1, 2 and 4, then the room for a side's values with these attributes, as its session's terms have it.
+pub fn query(t: Terms, image: &[u8], attributes: u32) -> Queried
+    ensures { λ r. ⌜ (answerOf (r .answer) ≡ queryOutcome (t .runtime) attributes (now (image .entry)))
+        × (r .storage ≡ queryGives (t .runtime) attributes (now (image .entry)) (storageFor t (recordBit attributes) (regionSize (now (image .entry)))))
+        × (r .remaining ≡ queryGives (t .runtime) attributes (now (image .entry))
+        (remainingFor t (recordBit attributes) (regionSize (now (image .entry))) (valuesOf (now (image .entry)))))
+        × (r .largest ≡ queryGives (t .runtime) attributes (now (image .entry))
+        (largestFor (remainingFor t (recordBit attributes) (regionSize (now (image .entry))) (valuesOf (now (image .entry)))))) ⌝ }
 {
     let check = image::check_call(Layout::AUTHENTICATED, image);
     match check {
         Check::Ready(b, _, _) => {
-            if is_unknown(runtime, attributes) {
+            if is_unknown(t.runtime, attributes) {
                 return refused(Rule::Attributes);
             }
             let region = slices::cut(image, 0, layout::BLOCK * b);
-            let room = room_in(region, layout::is_error_record(attributes), h, reserve);
+            let room = room_in(t, region, layout::is_error_record(attributes));
             Queried {
                 answer: Answer::Done(0),
                 storage: room.storage as u32,

@@ -1,6 +1,7 @@
 // The calls that store: set and format. Each is planned by a function that is lent the image shared and knows no n, and then carried out up to n. Of a session a set is
 // given what it says to it: there is one that says so, and what a set ensures holds of each.
 ghost use mathlib.Core.Path.{_≡_};
+ghost use mathlib.Core.Bool.{Bool};
 ghost use Prim.Native.Nat.{_≤_};
 ghost use lib.ListN.{length};
 ghost use Rattle.model.specs.declared.Session.{Session};
@@ -72,7 +73,7 @@ struct Ready {
     used: usize,
 }
 
-// A set over an image that is ready: rules 3 to 13, 17, 18 and 21, then what it does to the values.
+// A set over an image that is ready: rules 3 to 13, 17, 18, 21 and 22, then what it does to the values.
 fn plan_ready(
     terms: Terms,
     limits: &[u8],
@@ -86,12 +87,12 @@ fn plan_ready(
 ) -> Planned
     requires { ⌜ IsReady (now image) (ready .b) (ready .tail) (ready .used)
         × Bytes (now image)
-        × ((s : Session) → Sized (book.set s (requestOf (now name) (now vendor) (asking .attributes) (now bytes) (asking .presence) (asking .verdict))))
+        × ((m : Bool) (s : Session) → Sized (book.set m s (requestOf (now name) (now vendor) (asking .attributes) (now bytes) (asking .presence) (asking .verdict))))
         × (length (now content) ≡ 28672)
-        × ((s : Session) × Says s (keyed (now name) (now vendor)) terms (now limits)) ⌝ }
-    ensures { λ r. ⌜ ((s : Session) → Says s (keyed (now (name .entry)) (now (vendor .entry))) terms (now (limits .entry))
+        × ((m : Bool) × (s : Session) × Says m s (keyed (now name) (now vendor)) terms (now limits)) ⌝ }
+    ensures { λ r. ⌜ ((m : Bool) (s : Session) → Says m s (keyed (now (name .entry)) (now (vendor .entry))) terms (now (limits .entry))
         → Plans
-        (setPlan s
+        (setPlan m s
         (requestOf (now (name .entry)) (now (vendor .entry)) (asking .attributes) (now (bytes .entry)) (asking .presence) (asking .verdict))
         (now (image .entry)))
         (now (image .entry)) (now (content .entry)) (now (content .exit)) r) ⌝ }
@@ -147,7 +148,7 @@ fn guid(vendor: &[u8; 16])
     known(vendor);
 }
 
-// The plan of a set, a delete or an append: rules 1 to 13, 17, 18 and 21, and its operations.
+// The plan of a set, a delete or an append: rules 1 to 13, 17, 18, 21 and 22, and its operations.
 pub fn plan_set(
     terms: Terms,
     limits: &[u8],
@@ -158,10 +159,10 @@ pub fn plan_set(
     bytes: &[u8],
     content: &mut [u8; layout::CONTENT],
 ) -> Planned
-    requires { ⌜ ((s : Session) × Says s (keyed (now name) (now vendor)) terms (now limits)) ⌝ }
-    ensures { λ r. ⌜ ((s : Session) → Says s (keyed (now (name .entry)) (now (vendor .entry))) terms (now (limits .entry))
+    requires { ⌜ ((m : Bool) × (s : Session) × Says m s (keyed (now name) (now vendor)) terms (now limits)) ⌝ }
+    ensures { λ r. ⌜ ((m : Bool) (s : Session) → Says m s (keyed (now (name .entry)) (now (vendor .entry))) terms (now (limits .entry))
         → Plans
-        (setPlan s
+        (setPlan m s
         (requestOf (now (name .entry)) (now (vendor .entry)) (asking .attributes) (now (bytes .entry)) (asking .presence) (asking .verdict))
         (now (image .entry)))
         (now (image .entry)) (now (content .entry)) (now (content .exit)) r) ⌝ }
@@ -196,13 +197,13 @@ pub fn set(
     bytes: &[u8],
     content: &mut [u8; layout::CONTENT],
 ) -> Answer
-    requires { ⌜ ((s : Session) × Says s (keyed (now name) (now vendor)) terms (now limits)) ⌝ }
-    ensures { λ r. ⌜ ((s : Session) → Says s (keyed (now (name .entry)) (now (vendor .entry))) terms (now (limits .entry))
+    requires { ⌜ ((m : Bool) × (s : Session) × Says m s (keyed (now name) (now vendor)) terms (now limits)) ⌝ }
+    ensures { λ r. ⌜ ((m : Bool) (s : Session) → Says m s (keyed (now (name .entry)) (now (vendor .entry))) terms (now (limits .entry))
         → Returned
-        (book.set s (requestOf (now (name .entry)) (now (vendor .entry)) (asking .attributes) (now (bytes .entry)) (asking .presence) (asking .verdict)))
+        (book.set m s (requestOf (now (name .entry)) (now (vendor .entry)) (asking .attributes) (now (bytes .entry)) (asking .presence) (asking .verdict)))
         c (now (image .entry)) (now (image .exit)) r
         × Kept
-        (setPlan s
+        (setPlan m s
         (requestOf (now (name .entry)) (now (vendor .entry)) (asking .attributes) (now (bytes .entry)) (asking .presence) (asking .verdict))
         (now (image .entry)))
         (now (content .entry)) (now (content .exit))) ⌝ }

@@ -5,30 +5,29 @@ use Prim.Native.Nat.{ℕ, _+_, _*_, _-_, _≤_}
 use native.Mathlib.Omega.{arith}
 use mathlib.Core.Path.{_≡_, refl, sym, ap, ap₂, _∙_, subst}
 use mathlib.Core.Bool.{Bool, true, false, cond, _&&_, _||_}
-use mathlib.Core.List.{List, [], _++_}
+use mathlib.Core.List.{List, [], _∷_, _++_}
 use mathlib.Core.Option.{Option, none, some}
 use lib.ListN.{length, take, drop, length-drop}
 use lib.Seq.{length-take-le}
 use lib.Dec.{eqb, leb}
-use borrow.Author.Tests.{leb-true, eqb-true}
+use borrow.Author.Tests.{leb-true, eqb-true, not-false}
 use Rattle.model.specs.declared.Rule.{Rule}
 use Rattle.model.specs.Lists.{part, allFF, onSome}
 use Rattle.model.specs.Image.{block, blocks, rightLength, region, work, spare}
 use Rattle.model.specs.Region.{sound, clean, cleanIn, tail, entries, values}
 use Rattle.model.specs.Work.{idle, pending, readyForStartUp, usedRecords}
-use Rattle.model.specs.Rules.{startUpBroken}
-use Rattle.model.specs.Stores.{Store, Write, stores, Bytes}
-use Rattle.model.specs.Set.{refuse, make}
+use Rattle.model.specs.declared.Rule.the-variants.{Length, Unready}
+use Rattle.model.specs.Rules.{firstBroken, rule1, rule2StartUp}
+use Rattle.model.specs.Stores.{Write, stores, Bytes}
+use Rattle.model.specs.Set.{make}
 use Rattle.model.specs.Compact.{encode, finish, fillSpare, nextRecord}
-use Rattle.model.specs.StartUp.{startUpStores, startUpPlan}
-use Rattle.model.specs.Answers.{storesOf}
-use Rattle.model.specs.Book.{startUp, planOf, ClearsOne, isRecord}
+use Rattle.model.specs.StartUp.{startUpStores}
+use Rattle.model.specs.Book.{ClearsOne, isRecord}
 use Rattle.model.proofs.Tests.{and-split}
 use Rattle.model.proofs.Parts.{Parts, Image, right-parts, parts-blocks, parts-region, parts-work, parts-spare}
-use Rattle.model.proofs.Requests.{startUp-length, startUp-ready}
-use Rattle.model.proofs.Given.{plainSetup}
+use Rattle.model.proofs.Requests.{unbroken}
 use Rattle.recovery.proofs.StartingUp.{resume-alone}
-use Rattle.recovery.proofs.Bits.{marks-clear-one-bit}
+use Rattle.recovery.proofs.Bits.{startUp-marks}
 use Rattle.image.specs.Check.{startUpOf}
 use Rattle.image.specs.declared.Start.{Start}
 use Rattle.image.specs.declared.Start.the-variants.{Pending, Sound, Refused}
@@ -54,16 +53,21 @@ use Rattle.planner.proofs.Stages.{its-size, last-within, resume-list}
 abbrev startOf : Option Rule → Bool → ℕ → Look → Bool → Start
 startOf o t b l k = onSome o Refused (cond t (Pending b l) (Sound b l k))
 
--- accepted, with or without a compaction pending
+-- rules 1 and 2
+abbrev rules : List ℕ → List (Rule × Bool)
+rules img = (Length, rule1 img) ∷ (Unready, rule2StartUp img) ∷ []
+
+-- accepted by them, with or without a compaction pending
 pub record Accepted (img : List ℕ) (b : ℕ) (t : Bool) : Type 0 where
-  pub unbroken : startUpBroken img ≡ none
+  pub right : rightLength img ≡ true
+  pub ready : readyForStartUp img ≡ true
   pub waits : pending img ≡ t
   pub same : blocks img ≡ b
 
 module _ (img : List ℕ) (b : ℕ) (l : Look) (k t : Bool) (found : startUpOf img ≡ cond t (Pending b l) (Sound b l k)) where
-  both : (startUpBroken img ≡ none) × (pending img ≡ t) × (blocks img ≡ b) × (l ≡ lookAt (work img)) × (t ≡ false → k ≡ clean (region img))
+  both : (firstBroken (rules img) ≡ none) × (pending img ≡ t) × (blocks img ≡ b) × (l ≡ lookAt (work img)) × (t ≡ false → k ≡ clean (region img))
   unfolding startUpOf
-  both = go (startUpBroken img) (pending img) t found
+  both = go (firstBroken (rules img)) (pending img) t found
     where
       go : (o : Option Rule) (u t : Bool) → startOf o u (blocks img) (lookAt (work img)) (clean (region img)) ≡ cond t (Pending b l) (Sound b l k)
           → (o ≡ none) × (u ≡ t) × (blocks img ≡ b) × (l ≡ lookAt (work img)) × (t ≡ false → k ≡ clean (region img))
@@ -75,7 +79,10 @@ module _ (img : List ℕ) (b : ℕ) (l : Look) (k t : Bool) (found : startUpOf i
       go none false false h = let same : k ≡ clean (region img) = cc in (refl, refl, cc, cc, λ e. same)
 
   pub accepts : Accepted img b t
-  accepts = let f = both in record { unbroken = f .0; waits = f .1; same = f .2 }
+  unfolding rule1 rule2StartUp
+  accepts =
+      let f = both in
+      record { right = not-false (rightLength img) (unbroken (rules img) 1 (f .0)); ready = not-false (readyForStartUp img) (unbroken (rules img) 2 (f .0)); waits = f .1; same = f .2 }
 
   -- the look at the work block
   pub looks : l ≡ lookAt (work img)
@@ -85,42 +92,20 @@ module _ (img : List ℕ) (b : ℕ) (l : Look) (k t : Bool) (found : startUpOf i
   pub cleans : t ≡ false → k ≡ clean (region img)
   cleans = both .4
 
-pub refused-plan : (img : List ℕ) (rule : Rule) → startUpOf img ≡ Refused rule → startUpPlan img ≡ refuse rule
-unfolding startUpOf startUpPlan
-refused-plan img rule h = go (startUpBroken img) (pending img) h
-  where
-    go : (o : Option Rule) (u : Bool) → startOf o u (blocks img) (lookAt (work img)) (clean (region img)) ≡ Refused rule → onSome o refuse (make [] (startUpStores img)) ≡ refuse rule
-    go (some r) u h = let same : r ≡ rule = cc in ap refuse same
-    go none true h = let z : _≡_ {A = ℕ} 0 1 = cc in absurd (omega arith)
-    go none false h = let z : _≡_ {A = ℕ} 0 1 = cc in absurd (omega arith)
-
 -- how long an image of a right length is
 pub sized : (img : List ℕ) (b : ℕ) (t : Bool) → Accepted img b t → (1 ≤ b) × (b ≤ 7) × (length img ≡ block * (2 * b + 1))
 unfolding rightLength
 sized img b t f =
     let n = blocks img in
-    let h = startUp-length img (f .unbroken) in
+    let h = f .right in
     let x = and-split (leb 1 n && leb n 7) (eqb (length img) (block * (2 * n + 1))) h in
     let y = and-split (leb 1 n) (leb n 7) (x .0) in
     rw (← f .same) (leb-true 1 n (y .0), leb-true n 7 (y .1), eqb-true (length img) (block * (2 * n + 1)) (x .1))
 
--- ---- the plan
-
-plan-makes : (img : List ℕ) (b : ℕ) (t : Bool) → Accepted img b t → startUpPlan img ≡ make [] (startUpStores img)
-unfolding startUpPlan
-plan-makes img b t f = rw (f .unbroken)
-
-plan-stores : (img : List ℕ) (b : ℕ) (t : Bool) → Accepted img b t → (n : ℕ) → storesOf n (startUpPlan img) ≡ stores n (startUpStores img)
-unfolding storesOf
-plan-stores img b t f n = rw (plan-makes img b t f)
-
 -- records of a start-up clear one bit each
 records-clear : (img : List ℕ) (b : ℕ) (t : Bool) → Accepted img b t → Bytes img → (xs : List Write) → startUpStores img ≡ xs
     → (n : ℕ) → ClearsOne (isRecord img) (stores n xs) img
-unfolding planOf startUpPlan
-records-clear img b t f bytes xs e n =
-    subst (λ (l : List Store). ClearsOne (isRecord img) l img) (plan-stores img b t f n ∙ ap (stores n) e)
-    (marks-clear-one-bit n img bytes (startUp plainSetup) tt .0)
+records-clear img b t f bytes xs e n = subst (λ (l : List Write). ClearsOne (isRecord img) (stores n l) img) e (startUp-marks n img bytes (f .right) (f .ready))
 
 part-long : (at n : ℕ) (img : List ℕ) → at + n ≤ length img → length (part at n img) ≡ n
 part-long at n img h = length-take-le n (drop at img) (rw (length-drop at img) (omega arith))
@@ -142,7 +127,7 @@ module _ (img : List ℕ) (b : ℕ) (f : Accepted img b true) (bytes : Bytes img
     place = l .used - 1
 
     spare-finish : startUpStores img ≡ finish b place (part (block * b + block) (block * b) img)
-    spare-finish = resume-alone img (startUp-length img (f .unbroken)) (f .waits) ∙ sym (resume-list img b low high long looked (f .waits))
+    spare-finish = resume-alone img (f .right) (f .waits) ∙ sym (resume-list img b low high long looked (f .waits))
 
     module _ {s before c : List ℕ} {n : ℕ} (cut : s ≡ part (4096 * b + 4096) (4096 * b) img) (w : Wrote s 0 before c n) (room : length before ≡ 28672) where
       spare-long : length s ≡ 4096 * b
@@ -160,13 +145,13 @@ module _ (img : List ℕ) (b : ℕ) (f : Accepted img b true) (bytes : Bytes img
           ap (λ (k : ℕ). take k c) (sym p) ∙ wrote-front w (omega arith) ∙ cut
 
       -- *what was planned*
-      pub resume-plans : {ops : List Op} {p : Planned} → ops ≡ resumePlan b place → p ≡ accepted ops noneDecides → Plans (startUpPlan img) img before c p
+      pub resume-plans : {ops : List Op} {p : Planned} → ops ≡ resumePlan b place → p ≡ accepted ops noneDecides → Plans (make [] (startUpStores img)) img before c p
       unfolding block
       resume-plans {ops} {p} o e =
           let content : List ℕ = part (4096 * b + 4096) (4096 * b) img in
           let n : length img ≡ 4096 * (2 * b + 1) = long in
           let h = high in
-          undecided-plans before c img (startUpPlan img) (resumePlan b place) (startUpStores img) e o (resume-is c b place content copied ∙ sym spare-finish) (plan-makes img b true f)
+          undecided-plans before c img (make [] (startUpStores img)) (resumePlan b place) (startUpStores img) e o (resume-is c b place content copied ∙ sym spare-finish) refl
           (resume-ready c img b place content copied (its-size img b low high long) (omega arith) (omega (arith, wrote-length w)) (last-within img b low high long looked (f .waits))
           (records-clear img b true f bytes (finish b place content) spare-finish))
 
@@ -176,7 +161,7 @@ module _ (img : List ℕ) (b : ℕ) (f : Accepted img b false) where
   pub sounds : sound (region img) ≡ true
   unfolding readyForStartUp
   sounds =
-      let h : (pending img || sound (region img)) ≡ true = startUp-ready img (f .unbroken) in
+      let h : (pending img || sound (region img)) ≡ true = f .ready in
       rw (f .waits) at h
 
   -- of a sound region, that it is clean says that its tail is blank
@@ -185,7 +170,7 @@ module _ (img : List ℕ) (b : ℕ) (f : Accepted img b false) where
   tail-told e f = let h : clean (region img) ≡ allFF (tail (region img)) = rw sounds in sym h ∙ sym e ∙ f
 
   its : Image img
-  its = right-parts img (startUp-length img (f .unbroken))
+  its = right-parts img (f .right)
 
   same-b : its .b ≡ b
   same-b = sym (ap blocks (its .whole) ∙ parts-blocks (its .parts)) ∙ f .same
@@ -221,16 +206,16 @@ module _ (img : List ℕ) (b : ℕ) (f : Accepted img b false) where
 
   -- *the tail is blank*
   pub rest-plans : (before c : List ℕ) {ops : List Op} {p : Planned} → allFF (tail (region img)) ≡ true
-      → ops ≡ begunPlan (spareStep b (allFF (spare img))) (workStep b (idle (work img))) → p ≡ accepted ops noneDecides → Plans (startUpPlan img) img before c p
+      → ops ≡ begunPlan (spareStep b (allFF (spare img))) (workStep b (idle (work img))) → p ≡ accepted ops noneDecides → Plans (make [] (startUpStores img)) img before c p
   rest-plans before c {ops} {p} t o e =
-      undecided-plans before c img (startUpPlan img) (begunPlan (spareStep b (allFF (spare img))) (workStep b (idle (work img)))) (startUpStores img) e o
-      (rest-is own waits t c ∙ ap startUpStores (sym whole)) (plan-makes img b false f) (rest-ready c img b (allFF (spare img)) (idle (work img)) image-long)
+      undecided-plans before c img (make [] (startUpStores img)) (begunPlan (spareStep b (allFF (spare img))) (workStep b (idle (work img)))) (startUpStores img) e o
+      (rest-is own waits t c ∙ ap startUpStores (sym whole)) refl (rest-ready c img b (allFF (spare img)) (idle (work img)) image-long)
 
   -- *it is not*
   pub tidy-plans : Bytes img → (before c : List ℕ) {ops : List Op} {p : Planned} → allFF (tail (region img)) ≡ false → length c ≡ 28672
       → part 0 (block * b) c ≡ encode (block * b) (values (entries (region img)))
       → ops ≡ compactPlan (spareStep b (allFF (spare img))) (workStep b (idle (work img))) b (usedRecords (tidied (work img))) → p ≡ accepted ops noneDecides
-      → Plans (startUpPlan img) img before c p
+      → Plans (make [] (startUpStores img)) img before c p
   tidy-plans bytes before c {ops} {p} t room e o a =
       let content : List ℕ = encode (block * b) (values (entries (region img))) in
       let w : List ℕ = tidied (work img) in
@@ -242,7 +227,7 @@ module _ (img : List ℕ) (b : ℕ) (f : Accepted img b false) where
       let gx = spare-good c (length img) b (isRecord img) (allFF (spare img)) (omega arith) in
       let gy = work-good c (length img) b (isRecord img) (idle (work img)) (omega arith) in
       let few : block * b ≤ length c = unfold block in omega (arith, z .1, room) in
-      undecided-plans before c img (startUpPlan img) (compactPlan x y b (usedRecords w)) (startUpStores img) a o is (plan-makes img b false f)
+      undecided-plans before c img (make [] (startUpStores img)) (compactPlan x y b (usedRecords w)) (startUpStores img) a o is refl
       (compact-ready c img x y b w content e (its-size img b (z .0) (z .1) (z .2)) l few gx gy
       (records-clear img b false f bytes (storesOfStep c x ++ (storesOfStep c y ++ (fillSpare b w content ++ finish b (nextRecord w) content)))
       (sym is ∙ compact-is c x y b w content e)))

@@ -3,11 +3,13 @@
 // the image found.
 ghost use mathlib.Core.Path.{_≡_};
 ghost use mathlib.Core.Bool.{cond};
+ghost use mathlib.Core.List.{[]};
 ghost use Prim.Native.Nat.{_+_, _*_, _≤_};
 ghost use lib.ListN.{length};
 ghost use Rattle.model.specs.Lists.{allFF};
 ghost use Rattle.model.specs.Image.{block, spare};
-ghost use Rattle.model.specs.StartUp.{startUpPlan};
+ghost use Rattle.model.specs.Set.{make};
+ghost use Rattle.model.specs.StartUp.{startUpStores};
 ghost use Rattle.records.specs.Look.{idleAt};
 ghost use Rattle.image.specs.Check.{startUpOf};
 ghost use Rattle.image.specs.declared.Start.the-variants.{Pending, Sound};
@@ -21,7 +23,7 @@ use records::Look;
 // "if pending, resume at the erase of the region": the record is the last used one. What the spare holds is copied to the content, and stored from there.
 pub fn resume(image: &[u8], b: usize, looked: Look, content: &mut [u8]) -> Planned
     requires { ⌜ (startUpOf (now image) ≡ Pending b looked) × (length (now content) ≡ 28672) ⌝ }
-    ensures { λ r. ⌜ Plans (startUpPlan (now (image .entry))) (now (image .entry)) (now (content .entry)) (now (content .exit)) r ⌝ }
+    ensures { λ r. ⌜ Plans (make [] (startUpStores (now (image .entry)))) (now (image .entry)) (now (content .entry)) (now (content .exit)) r ⌝ }
 {
     output::put_bytes(
         content,
@@ -68,7 +70,7 @@ fn work_left(b: usize, looked: Look) -> WorkLeft
 // region is not clean. All values are carried over.
 pub fn tidy(image: &[u8], b: usize, looked: Look, clean: bool, content: &mut [u8]) -> Planned
     requires { ⌜ (startUpOf (now image) ≡ Sound b looked clean) × (length (now content) ≡ 28672) ⌝ }
-    ensures { λ r. ⌜ Plans (startUpPlan (now (image .entry))) (now (image .entry)) (now (content .entry)) (now (content .exit)) r ⌝ }
+    ensures { λ r. ⌜ Plans (make [] (startUpStores (now (image .entry)))) (now (image .entry)) (now (content .entry)) (now (content .exit)) r ⌝ }
 {
     let spare = spare_step(image, b);
     let left = work_left(b, looked);

@@ -3,6 +3,7 @@
 -- Assumes nothing.
 use Prim.Native.Nat.{ℕ, _*_, _-_}
 use mathlib.Core.Path.{_≡_, refl}
+use mathlib.Core.Bool.{false}
 use mathlib.Core.List.{List, [], _∷_, _++_}
 use lib.ListN.{replicate}
 use Rattle.model.specs.Lists.{same, allFF}
@@ -13,16 +14,17 @@ use Rattle.model.specs.Entry.{headerFront, extraBytes, headerFieldsIn, headerRe
 use Rattle.model.specs.Walk.{placed, walk, walkEnd}
 use Rattle.model.specs.Region.{rightLive, undoubled, added, replacing, standing, isValue, values, find, cleanIn, entriesIn, rightHeaderIn, soundIn, tailAtIn, tailIn, valuesIn}
 use Rattle.model.specs.Work.{records, usedFirst, spareLast, wellFormed, lastUsed, endsInFC, idle, readyIn}
+use Rattle.model.specs.declared.Setup.{Setup}
 use Rattle.model.specs.Session.{inBoot, atRuntime, customMode, reserved, lockAt, locked, noLocks, noSizes, kept, freshSession}
 use Rattle.model.specs.Request.{Request, globalVendor, databaseVendor, keyPK, keyKEK, keydb, keydbx, keydbt, isDatabase, isKeyName, userMode, keyVerdicts, otherVerdicts, wantedVerdicts, rightDescriptor, properOf, stampToStore, later}
 use Rattle.model.specs.Limits.{limitsIn}
 use Rattle.model.specs.Change.{deletes, emptyAppend, equalTo, newData, laterOf, newStamp, newValue, changeOf, without, step, steps, changeIn, entrySizesIn, spaceIn, recordSizes, otherSizes}
-use Rattle.model.specs.Rules.{firstBroken, rule1, rule3, rule4, rule5, rule6, unlikeStored, rule7, rule8, rule9, rule10, rule11, rule12, rule13, rule17, rule18, rule21, termsOf, requestRules, standingRules, resultRules, itemRules, settingRules, roomRules, setBroken, imageRulesIn, rule2In}
+use Rattle.model.specs.Sides.{modemName, owns, view, sideSizes}
+use Rattle.model.specs.Rules.{firstBroken, rule1, rule3, rule4, rule5, rule6, unlikeStored, rule7, rule8, rule9, rule10, rule11, rule12, rule13, rule17, rule18, rule21, rule22, termsOf, requestRules, standingRules, resultRules, itemRules, settingRules, roomRules, setBroken, imageRulesIn, rule2In}
 use Rattle.model.specs.Stores.{apply, applyAll, after, pages, stores, storesOne}
 use Rattle.model.specs.Set.{leftover, entryStores, tailTo, tailOn, fitsTail, putPlan, changePlan}
 use Rattle.model.specs.Answers.{storesOf}
 use Rattle.model.specs.Book.{planOf, setPlan}
-use Rattle.model.proofs.Given.{plainSetup}
 use Rattle.output.specs.Text.{ascii, digit, hexOf, leading, decimalOf}
 use Rattle.report.specs.Varlist.{field, summaryLine, keyText, entryLine, valueLine, valueLines, refusedLine, storeText, varlistText, listText}
 
@@ -41,16 +43,28 @@ setRate = record {
   verdict = 0;
 }
 
+-- 02 (f): "In 01's cases our share is L less 28, the rest 0."
+unfoldable pub oldSetup : Setup
+oldSetup = record {
+  custom = 0;
+  reserve = 0;
+  records = 0;
+  share = 4096 - 28;
+  modem = record { share = 0; reserve = 0; vendor = replicate 16 0 };
+  rules = 0;
+  limits = [];
+}
+
 -- the store after it: "75 stores; entry 28 to 104 with padding"
 unfoldable pub rateStore : List ℕ
-rateStore = after 75 (storesOf 1 (setPlan (freshSession plainSetup) setRate emptyStore)) emptyStore
+rateStore = after 75 (storesOf 1 (setPlan false (freshSession oldSetup) setRate emptyStore)) emptyStore
 
 empty-text : varlistText emptyStore ≡ ascii "region 4096 used 28 live 0\n"
 unfolding same allFF block blocks rightLength regionSize region work spare signature regionHeaderIn zeroEnded wellNamed recordVendor recordFront digits recordName headerFieldsIn readHeaderIn placed walk walkEnd entriesIn tailAtIn tailIn rightHeaderIn rightLive undoubled soundIn cleanIn isValue values valuesIn records usedFirst spareLast wellFormed lastUsed endsInFC idle readyIn firstBroken rule1 rule2In imageRulesIn ascii digit hexOf leading decimalOf field summaryLine keyText entryLine valueLine valueLines refusedLine storeText listText emptyStore
 empty-text = refl
 
 rate-text : varlistText rateStore ≡ ascii "region 4096 used 104 live 1\n0102030405060708090A0B0C0D0E0F10 52004100540045000000 07 4\n"
-unfolding same allFF block blocks rightLength regionSize region work spare signature regionHeaderIn zeroEnded wellNamed recordVendor recordFront digits recordName headerFieldsIn readHeaderIn headerFront headerRestIn extraBytes placed walk walkEnd entriesIn tailAtIn tailIn rightHeaderIn rightLive undoubled soundIn cleanIn added replacing standing isValue values valuesIn find records usedFirst spareLast wellFormed lastUsed endsInFC idle readyIn inBoot atRuntime customMode reserved lockAt locked noLocks noSizes kept freshSession limitsIn globalVendor databaseVendor keyPK keyKEK keydb keydbx keydbt isDatabase isKeyName userMode keyVerdicts otherVerdicts wantedVerdicts rightDescriptor properOf stampToStore later deletes emptyAppend equalTo newData laterOf newStamp newValue changeOf without step steps changeIn entrySizesIn spaceIn recordSizes otherSizes firstBroken rule1 rule2In rule3 rule4 rule5 rule6 unlikeStored rule7 rule8 rule9 rule10 rule11 rule12 rule13 rule17 rule18 rule21 imageRulesIn termsOf requestRules standingRules resultRules itemRules settingRules roomRules setBroken apply applyAll after pages stores storesOne leftover entryStores tailTo tailOn fitsTail putPlan changePlan planOf storesOf emptyStore setRate ascii digit hexOf leading decimalOf field summaryLine keyText entryLine valueLine valueLines refusedLine storeText listText rateStore
+unfolding same allFF block blocks rightLength regionSize region work spare signature regionHeaderIn zeroEnded wellNamed recordVendor recordFront digits recordName headerFieldsIn readHeaderIn headerFront headerRestIn extraBytes placed walk walkEnd entriesIn tailAtIn tailIn rightHeaderIn rightLive undoubled soundIn cleanIn added replacing standing isValue values valuesIn find records usedFirst spareLast wellFormed lastUsed endsInFC idle readyIn inBoot atRuntime customMode reserved lockAt locked noLocks noSizes kept freshSession limitsIn globalVendor databaseVendor keyPK keyKEK keydb keydbx keydbt isDatabase isKeyName userMode keyVerdicts otherVerdicts wantedVerdicts rightDescriptor properOf stampToStore later deletes emptyAppend equalTo newData laterOf newStamp newValue changeOf without step steps changeIn entrySizesIn spaceIn recordSizes otherSizes modemName owns view sideSizes firstBroken rule1 rule2In rule3 rule4 rule5 rule6 unlikeStored rule7 rule8 rule9 rule10 rule11 rule12 rule13 rule17 rule18 rule21 rule22 imageRulesIn termsOf requestRules standingRules resultRules itemRules settingRules roomRules setBroken apply applyAll after pages stores storesOne leftover entryStores tailTo tailOn fitsTail putPlan changePlan planOf storesOf emptyStore setRate oldSetup ascii digit hexOf leading decimalOf field summaryLine keyText entryLine valueLine valueLines refusedLine storeText listText rateStore
 rate-text = refl
 
 none-text : varlistText [] ≡ ascii "refused 1\n"

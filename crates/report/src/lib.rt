@@ -111,7 +111,7 @@ fn put_lines(y: Layout, region: &[u8], out: &mut [u8], at: usize) -> usize
     }
 }
 
-// The report on an accepted store: the summary, then the values.
+// The report on an accepted store: the summary, then the values. Whose they are does not matter.
 fn put_store(y: Layout, region: &[u8], tail: usize, out: &mut [u8]) -> usize
     requires { ⌜ (tail ≤ 28672) × (length (now region) ≤ 28672) ⌝ }
     ensures { λ r.
@@ -119,7 +119,8 @@ fn put_store(y: Layout, region: &[u8], tail: usize, out: &mut [u8]) -> usize
         (summaryLine (length (now (region .entry))) tail (length (values (entriesIn y (now (region .entry))))) ++ valueLines
         (values (entriesIn y (now (region .entry))))) 0 (now (out .entry)) (now (out .exit)) r ⌝ }
 {
-    let t = list::tally(y, region);
+    let any = [0u8; 16];
+    let t = list::tally(y, region, &any, false);
     let next = put_summary(out, 0, region.len() as u32, tail as u32, t.number as u32);
     put_lines(y, region, out, next)
 }

@@ -14,13 +14,13 @@ use Rattle.report.proofs.put_store.Tie as tie
 
 cast-put-summary-3 : tie.Need-cast-put-summary-3
 cast-put-summary-3 c =
-    let a = c .before .before .before .before .before .args in
+    let a = c .before .before .before .before .before .before .args in
     let few = few-values (a .y) (now (a .region)) in
     record { fits = omega (arith, c .before .before .tally .ensures .0 .number) }
 
 returns : tie.Need-returns
 returns c =
-    let a = c .before .before .before .before .before .before .before .before .before .before .before .before .args in
+    let a = c .before .before .before .before .before .before .before .before .before .before .before .before .before .args in
     let live = ap (λ (n : ℕ). summaryLine (length (now (a .region))) (a .tail) n)
     (c .before .before .before .before .before .before .before .before .before .tally .ensures .0 .number) in
     wrote-append (wrote-as live (c .before .before .before .before .before .before .put-summary .ensures .0)) (c .before .before .put-lines .ensures)

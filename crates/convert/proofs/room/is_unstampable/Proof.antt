@@ -12,7 +12,7 @@ returns c = rw (sym (c .before .is-stamped .ensures) ∙ c .if1 .taken)
 
 returns-2 : tie.Need-returns-2
 unfolding rule20
-returns-2 c = c .tally .ensures .0 .stamped ∙ rw (sym (c .before .before .is-stamped .ensures) ∙ c .before .if1 .left)
+returns-2 c = c .tally .ensures .0 .stamped ∙ rw (sym (c .before .before .before .is-stamped .ensures) ∙ c .before .before .if1 .left)
 
 pub is-unstampable-spec : {M : Type 1} → statement M
 is-unstampable-spec =

@@ -1,4 +1,4 @@
--- `engine::read::name_behind` meets its contract: rules 1 to 3 first, then what `name_from` answers of the region.
+-- `engine::read::name_behind` meets its contract: rules 1, 2, 3 and 22 first, then what `name_from` answers of the region.
 -- Assumes nothing.
 use native.Mathlib.Omega.{arith}
 use mathlib.Core.Path.{sym, ap, refl, _∙_}
@@ -16,46 +16,50 @@ use Rattle.engine.proofs.read.name_behind.Tie as tie
 
 mul-cut : tie.Need-mul-cut
 mul-cut c =
-    let img = now (c .before .before .before .before .before .before .before .before .args .image) in
+    let img = now (c .before .before .before .before .before .before .before .before .before .args .image) in
     let t = c .before .opened .given in
-    let o = opens img (c .before .before .before .before .is-next-named .result) (sym (c .before .before .before .«open» .ensures) ∙ t .1) in
+    let o = opens img (c .before .before .before .before .before .is-next-named .result) (c .before .before .before .before .is-next-foreign .result) (sym (c .before .before .before .«open» .ensures) ∙ t .1) in
     record { fits = omega (arith, o .ready .few) }
 
 name-from-requires : tie.Need-name-from-requires
 name-from-requires c κs =
-    let img = now (c .before .before .before .before .before .before .before .before .before .before .args .image) in
+    let img = now (c .before .before .before .before .before .before .before .before .before .before .before .args .image) in
     let t = c .before .before .before .opened .given in
-    let o = opens img (c .before .before .before .before .before .before .is-next-named .result) (sym (c .before .before .before .before .before .«open» .ensures) ∙ t .1) in
+    let o = opens img (c .before .before .before .before .before .before .before .is-next-named .result) (c .before .before .before .before .before .before .is-next-foreign .result) (sym (c .before .before .before .before .before .«open» .ensures) ∙ t .1) in
     let n = ap length (c .before .cut .ensures ∙ o .ready .cut) in
     omega (arith, o .ready .few, o .ready .long)
 
 returns : tie.Need-returns
 returns c =
-    let a = c .before .before .before .before .before .before .before .before .before .before .before .before .before .args in
+    let a = c .before .before .before .before .before .before .before .before .before .before .before .before .before .before .args in
     let img = now (a .image) in
     let r = now (c .before .before .before .before .cut .result) in
     let k = keyed (now (a .name)) (now (a .vendor)) in
     let t = c .before .before .before .before .before .before .opened .given in
-    let o = opens img (c .before .before .before .before .before .before .before .before .before .is-next-named .result) (sym (c .before .before .before .before .before .before .before .before .«open» .ensures) ∙ t .1) in
-    let found = valueToName (a .runtime) k (values (entries r)) in
+    let f = c .before .before .before .before .before .before .before .before .before in
+    let o = opens img (f .before .is-next-named .result) (f .is-next-foreign .result) (sym (c .before .before .before .before .before .before .before .before .«open» .ensures) ∙ t .1) in
+    let found = valueToName (a .view .vendor) (a .view .modem) (a .view .runtime) k (values (entries r)) in
     let here = read-found img found namedBytes (λ v. 0) (now (a .buffer)) o (c .before .before .name-from .ensures) in
-    let value = region-name (a .runtime) k img r (c .before .before .before .before .cut .ensures ∙ o .ready .cut) in
-    read-as img namedBytes (λ v. 0) (now (a .buffer)) value (c .before .before .before .before .before .before .before .before .before .is-next-named .ensures) here
+    let value = region-name (a .view) k img r (c .before .before .before .before .cut .ensures ∙ o .ready .cut) in
+    read-as img namedBytes (λ v. 0) (now (a .buffer)) value (f .before .is-next-named .ensures) (f .is-next-foreign .ensures) here
 
 returns-2 : tie.Need-returns-2
 returns-2 c =
-    let a = c .before .before .before .before .before .before .before .before .before .args in
+    let a = c .before .before .before .before .before .before .before .before .before .before .args in
     let img = now (a .image) in
     let k = keyed (now (a .name)) (now (a .vendor)) in
     let t = c .before .before .opened2 .given in
-    let x = refuses img (t .0 .0) (c .before .before .before .before .before .is-next-named .result) (sym (c .before .before .before .before .«open» .ensures) ∙ t .1) in
+    let f = c .before .before .before .before .before in
+    let x = refuses img (t .0 .0) (f .before .is-next-named .result) (f .is-next-foreign .result) (sym (c .before .before .before .before .«open» .ensures) ∙ t .1) in
+    let value = nextAt (a .view) k img in
     rw (c .refused .ensures)
-    (read-as img namedBytes (λ v. 0) (now (a .buffer)) refl (c .before .before .before .before .before .is-next-named .ensures) (read-refused img (nextAt (a .runtime) k img) namedBytes (λ v. 0) (now (a .buffer)) x))
+    (read-as img namedBytes (λ v. 0) (now (a .buffer)) refl (f .before .is-next-named .ensures) (f .is-next-foreign .ensures) (read-refused img value namedBytes (λ v. 0) (now (a .buffer)) x))
 
 pub name-behind-spec : {M : Type 1} → statement M
 name-behind-spec =
     tie.close
     (tie.spec
+    (λ c κs. search needs)
     (λ c κs. search needs)
     (λ c κs. search needs)
     (λ c. search needs)

@@ -19,16 +19,16 @@ use Rattle.engine.proofs.read.name_from.Tie as tie
 
 returns : tie.Need-returns
 returns c =
-    let a = c .before .before .before .before .before .before .before .args in
+    let a = c .before .before .before .before .before .before .before .before .before .args in
     let r = now (a .region) in
     let k = keyed (now (a .name)) (now (a .vendor)) in
     let f = c .before .before .before .to-name in
-    let v = value-none r (f .result) (entryToName (a .runtime) k (entries r)) (f .ensures) (valueToName (a .runtime) k (values (entries r))) (name-value (a .runtime) k (entries r)) (c .before .enum-told .given .1) in
-    rw (c .refused .ensures) (answered-absent (valueToName (a .runtime) k (values (entries r))) v namedBytes (λ v. 0) (now (a .buffer)))
+    let v = value-none r (f .result) (entryToName (a .view .vendor) (a .view .modem) (a .view .runtime) k (entries r)) (f .ensures) (valueToName (a .view .vendor) (a .view .modem) (a .view .runtime) k (values (entries r))) (name-value (a .view .vendor) (a .view .modem) (a .view .runtime) k (entries r)) (c .before .enum-told .given .1) in
+    rw (c .refused .ensures) (answered-absent (valueToName (a .view .vendor) (a .view .modem) (a .view .runtime) k (values (entries r))) v namedBytes (λ v. 0) (now (a .buffer)))
 
 give-name-requires : tie.Need-give-name-requires
 give-name-requires c κs =
-    let a = c .before .before .before .before .before .before .before .before .before .before .args in
+    let a = c .before .before .before .before .before .before .before .before .before .before .before .before .args in
     let t = c .before .before .before .before .found .given in
     let m = ap length (c .before .before .vendor-of .ensures) in
     let n = ap length (c .before .name-of .ensures) in
@@ -38,14 +38,14 @@ give-name-requires c κs =
 
 returns-2 : tie.Need-returns-2
 returns-2 c =
-    let a = c .before .before .before .before .before .before .before .before .before .before .before .before .before .args in
+    let a = c .before .before .before .before .before .before .before .before .before .before .before .before .before .before .before .args in
     let r = now (a .region) in
     let k = keyed (now (a .name)) (now (a .vendor)) in
     let f = c .before .before .before .before .before .before .before .before .before .to-name in
     let t = c .before .before .before .before .before .before .before .found .given in
-    let v = value-found r (f .result) (entryToName (a .runtime) k (entries r)) (f .ensures) (valueToName (a .runtime) k (values (entries r))) (name-value (a .runtime) k (entries r)) (t .0 .0) (t .0 .1 .0) (t .1) in
+    let v = value-found r (f .result) (entryToName (a .view .vendor) (a .view .modem) (a .view .runtime) k (entries r)) (f .ensures) (valueToName (a .view .vendor) (a .view .modem) (a .view .runtime) k (values (entries r))) (name-value (a .view .vendor) (a .view .modem) (a .view .runtime) k (entries r)) (t .0 .0) (t .0 .1 .0) (t .1) in
     let guid = c .before .before .before .before .before .vendor-of .ensures ∙ entry-vendor r (t .0 .0) (t .0 .1 .0) in
-    answered-found (entryValue (entryAt r (t .0 .0) (t .0 .1 .0))) (valueToName (a .runtime) k (values (entries r))) v namedBytes (λ v. 0) (now (a .buffer))
+    answered-found (entryValue (entryAt r (t .0 .0) (t .0 .1 .0))) (valueToName (a .view .vendor) (a .view .modem) (a .view .runtime) k (values (entries r))) v namedBytes (λ v. 0) (now (a .buffer))
     (now (c .before .before .before .before .before .vendor-of .result) ++ now (c .before .before .before .before .name-of .result)) (ap₂ _++_ guid (c .before .before .before .before .name-of .ensures)) 0 refl (c .before .before .give-name .ensures)
 
 pub name-from-spec : {M : Type 1} → statement M

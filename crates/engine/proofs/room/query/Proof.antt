@@ -14,7 +14,7 @@ use Rattle.engine.proofs.room.query.Tie as tie
 returns : tie.Need-returns
 returns c =
     let a = c .before .before .before .before .before .before .before .before .args in
-    told-unknown (a .runtime) (a .h) (a .reserve) (now (a .image)) (a .attributes) (sym (c .before .before .before .before .before .before .check-call .ensures) ∙ c .before .before .before .before .check .given .1)
+    told-unknown (a .t) (now (a .image)) (a .attributes) (sym (c .before .before .before .before .before .before .check-call .ensures) ∙ c .before .before .before .before .check .given .1)
     (sym (c .before .before .is-unknown .ensures) ∙ c .before .if1 .taken) (c .refused .ensures)
 
 mul-cut : tie.Need-mul-cut
@@ -32,14 +32,14 @@ returns-2 c =
     let p = sym (c .before .before .before .before .before .before .before .before .before .before .before .check-call .ensures) ∙ c .before .before .before .before .before .before .before .before .before .check .given .1 in
     let r = c .before .before .before .room-in .ensures in
     let e = c .before .before .before .before .is-error-record .ensures in
-    told-room (a .runtime) (a .h) (a .reserve) (now (a .image)) (a .attributes) p
+    told-room (a .t) (now (a .image)) (a .attributes) p
     (sym (c .before .before .before .before .before .before .before .is-unknown .ensures) ∙ c .before .before .before .before .before .before .if1 .left) (c .before .before .before .before .before .cut .ensures ∙ is-ready authenticated p .cut)
     refl (rw (← e) (r .0)) (rw (← e) (r .1)) (rw (← e) (r .2))
 
 returns-3 : tie.Need-returns-3
 returns-3 c =
     let a = c .before .before .before .before .before .before .args in
-    told-refused (a .runtime) (a .h) (a .reserve) (now (a .image)) (a .attributes) (c .before .before .check2 .given .0 .0) (sym (c .before .before .before .before .check-call .ensures) ∙ c .before .before .check2 .given .1) (c .refused2 .ensures)
+    told-refused (a .t) (now (a .image)) (a .attributes) (c .before .before .check2 .given .0 .0) (sym (c .before .before .before .before .check-call .ensures) ∙ c .before .before .check2 .given .1) (c .refused2 .ensures)
 
 pub query-spec : {M : Type 1} → statement M
 query-spec =

@@ -19,19 +19,19 @@ plan-put-requires c κs =
 
 returns : tie.Need-returns
 returns c =
-    λ s h. refused-plans _ _ _ _ (c .refuse .ensures) (set-refused _ _ _ _ _ _ _ _ _ (c .before .before .before .before .before .before .before .before .before .before .before .before .before .before .pre .0) (c .before .before .before .before .before .before .before .cut .ensures) (c .before .before .before .before .before .before .decide .ensures) s h (c .before .before .what .given .1))
+    λ m s h. refused-plans _ _ _ _ (c .refuse .ensures) (set-refused _ _ _ _ _ _ _ _ _ (c .before .before .before .before .before .before .before .before .before .before .before .before .before .before .pre .0) (c .before .before .before .before .before .before .before .cut .ensures) (c .before .before .before .before .before .before .decide .ensures) m s h (c .before .before .what .given .1))
 
 returns-2 : tie.Need-returns-2
 returns-2 c =
-    λ s h. nothing-plans _ _ _ _ (c .before .nothing .ensures) (c .accept .ensures) (set-nothing _ _ _ _ _ _ _ _ _ (c .before .before .before .before .before .before .before .before .before .before .before .before .before .before .pre .0) (c .before .before .before .before .before .before .before .cut .ensures) (c .before .before .before .before .before .before .decide .ensures) s h (c .before .before .enum-told .given .1))
+    λ m s h. nothing-plans _ _ _ _ (c .before .nothing .ensures) (c .accept .ensures) (set-nothing _ _ _ _ _ _ _ _ _ (c .before .before .before .before .before .before .before .before .before .before .before .before .before .before .pre .0) (c .before .before .before .before .before .before .before .cut .ensures) (c .before .before .before .before .before .before .decide .ensures) m s h (c .before .before .enum-told .given .1))
 
 returns-3 : tie.Need-returns-3
 returns-3 c =
-    λ s h. remove-plans _ _ _ _ _ _ _ _ _ (c .before .before .before .before .before .before .before .before .before .before .before .before .before .before .pre .0) (c .before .before .before .before .before .before .before .cut .ensures) (c .before .before .before .before .before .before .decide .ensures) s h (c .before .before .enum-told2 .given .1) (c .before .before .before .before .before .before .before .before .before .before .before .before .before .before .pre .1) (c .before .before .before .before .before .before .before .before .before .before .before .before .before .before .pre .2 s) _ _ (c .before .delete .ensures) (c .accept2 .ensures)
+    λ m s h. remove-plans _ _ _ _ _ _ _ _ _ (c .before .before .before .before .before .before .before .before .before .before .before .before .before .before .pre .0) (c .before .before .before .before .before .before .before .cut .ensures) (c .before .before .before .before .before .before .decide .ensures) m s h (c .before .before .enum-told2 .given .1) (c .before .before .before .before .before .before .before .before .before .before .before .before .before .before .pre .1) (c .before .before .before .before .before .before .before .before .before .before .before .before .before .before .pre .2 m s) _ _ (c .before .delete .ensures) (c .accept2 .ensures)
 
 returns-4 : tie.Need-returns-4
 returns-4 c =
-    λ s h. put-plans _ _ _ _ _ _ _ _ _ (c .before .before .before .before .before .before .before .before .before .before .before .before .before .before .before .before .pre .0) (c .before .before .before .before .before .before .before .before .before .cut .ensures) (c .before .before .before .before .before .before .before .before .decide .ensures) s h (c .before .before .before .before .enum-told3 .given .1) (c .before .before .before .before .before .before .before .before .before .before .before .before .before .before .before .before .pre .1) (c .before .before .before .before .before .before .before .before .before .before .before .before .before .before .before .before .pre .2 s) _ (c .before .before .plan-put .ensures)
+    λ m s h. put-plans _ _ _ _ _ _ _ _ _ (c .before .before .before .before .before .before .before .before .before .before .before .before .before .before .before .before .pre .0) (c .before .before .before .before .before .before .before .before .before .cut .ensures) (c .before .before .before .before .before .before .before .before .decide .ensures) m s h (c .before .before .before .before .enum-told3 .given .1) (c .before .before .before .before .before .before .before .before .before .before .before .before .before .before .before .before .pre .1) (c .before .before .before .before .before .before .before .before .before .before .before .before .before .before .before .before .pre .2 m s) _ (c .before .before .plan-put .ensures)
 
 pub plan-ready-spec : {M : Type 1} → statement M
 plan-ready-spec =

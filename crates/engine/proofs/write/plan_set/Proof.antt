@@ -25,14 +25,14 @@ plan-ready-requires c κs =
     let g = c .before .before .before .before .before .guid .ensures in (
       is-ready authenticated (sym (c .before .before .before .before .check-call .ensures) ∙ c .before .before .check .given .1),
       bytes-of i (λ j. let x : getD i j 0 ≤ 0xFF = omega (arith, ki j) in x),
-      λ s. (bytes-of n (λ j. let x : getD n j 0 ≤ 0xFF = omega (arith, kn j) in x), g .0, g .1, bytes-of d (λ j. let x : getD d j 0 ≤ 0xFF = omega (arith, kd j) in x)),
+      λ m s. (bytes-of n (λ j. let x : getD n j 0 ≤ 0xFF = omega (arith, kn j) in x), g .0, g .1, bytes-of d (λ j. let x : getD d j 0 ≤ 0xFF = omega (arith, kd j) in x)),
       search needs,
       c .before .before .before .before .before .before .before .before .before .before .pre,
     )
 
 returns-2 : tie.Need-returns-2
 returns-2 c =
-    λ s h. refused-plans _ _ _ _ (c .refuse .ensures) (image-refused _ _ _ _ (sym (c .before .before .before .before .check-call .ensures) ∙ c .before .before .check2 .given .1))
+    λ m s h. refused-plans _ _ _ _ (c .refuse .ensures) (image-refused _ _ _ _ _ (sym (c .before .before .before .before .check-call .ensures) ∙ c .before .before .check2 .given .1))
 
 pub plan-set-spec : {M : Type 1} → statement M
 plan-set-spec =
