@@ -1,25 +1,31 @@
--- What a session says to a call, told by its parts, is what the session says.
+-- What a session says to a side's call, told by its parts, is what the session says.
 -- Assumes nothing.
 use Prim.Native.Nat.{ℕ}
-use mathlib.Core.Path.{_≡_, refl, sym, ap, _∙_}
+use mathlib.Core.Path.{_≡_, refl, sym, ap, ap₂, _∙_}
 use mathlib.Core.Bool.{Bool}
 use Rattle.model.specs.declared.Session.{Session}
 use Rattle.model.specs.declared.Terms.{Terms}
 use Rattle.model.specs.declared.View.{View}
 use Rattle.model.specs.Name.{Key}
-use Rattle.model.specs.Rules.{viewOf}
+use Rattle.model.specs.Rules.{viewOf, termsFor}
 use Rattle.model.specs.Beside.{Says}
-use Rattle.session.specs.Said.{barredBy, termsBy, viewBy}
-use Rattle.session.proofs.Phases.{terms-said, view-said}
+use Rattle.session.specs.Said.{barredBy, termsBy, termsWith, viewBy}
+use Rattle.session.proofs.Phases.{terms-for-said, terms-said, view-said}
 
-pub view-told : (s : Session) {v : View} → v ≡ viewBy (s .phase) → viewOf s ≡ v
-view-told s e = view-said s ∙ sym e
+-- of a session, the terms by its parts
+abbrev pub saidTo : Bool → Session → Terms
+saidTo m s = termsBy m (s .phase) (s .setup .custom) (s .setup .reserve) (s .setup .records) (s .setup .share) (s .setup .modem) (s .setup .rules)
 
-pub says-told : (s : Session) (k : Key) {barred : Bool} {t : Terms} → barred ≡ barredBy (s .phase) (s .count) (s .sizes) (s .locks) k
-    → t ≡ termsBy (s .phase) (s .setup .custom) (s .setup .reserve) (s .setup .records) (s .setup .rules) barred
-    → Says s k t (s .setup .limits)
-says-told s k b e = (
-  terms-said s k
-      ∙ sym (e ∙ ap (termsBy (s .phase) (s .setup .custom) (s .setup .reserve) (s .setup .records) (s .setup .rules)) b),
-  refl,
-)
+module _ (m : Bool) (s : Session) {n : Bool} (i : n ≡ m) where
+  pub view-told : {v : View} → v ≡ viewBy n (s .phase) (s .setup .modem .vendor) → viewOf m s ≡ v
+  view-told e = view-said m s ∙ sym (e ∙ ap (λ (x : Bool). viewBy x (s .phase) (s .setup .modem .vendor)) i)
+
+  pub for-told : {t : Terms} → t ≡ saidTo n s → t ≡ termsFor m s
+  for-told e = e ∙ ap (λ (x : Bool). saidTo x s) i ∙ sym (terms-for-said m s)
+
+  pub says-told : (k : Key) {barred : Bool} {said t : Terms} → barred ≡ barredBy (s .phase) (s .count) (s .sizes) (s .locks) k
+      → said ≡ saidTo n s
+      → t ≡ termsWith said barred k
+      → Says m s k t (s .setup .limits)
+  says-told k b e f =
+      (terms-said m s k ∙ sym (f ∙ ap₂ (λ (x : Terms) (y : Bool). termsWith x y k) (e ∙ ap (λ (x : Bool). saidTo x s) i) b), refl)

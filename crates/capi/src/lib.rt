@@ -5,11 +5,13 @@ ghost use Rattle.model.specs.Layout.{authenticated, plain};
 ghost use Rattle.model.specs.Name.{keyed};
 ghost use Rattle.model.specs.Image.{regionSize};
 ghost use Rattle.model.specs.Region.{recordBit, valuesOf};
-ghost use Rattle.model.specs.Session.{atRuntime, reserved, freshSession, movedTo};
+ghost use mathlib.Core.Bool.{false};
+ghost use Rattle.model.specs.Session.{isModem, atRuntime, freshSession, movedTo};
+ghost use Rattle.model.specs.Rules.{termsFor};
 ghost use Rattle.model.specs.Query.{storageFor, remainingFor, largestFor, queryOutcome, queryGives};
 ghost use Rattle.model.specs.StartUp.{startUpPlan, formatPlan};
 ghost use Rattle.model.specs.Beside.{Gives};
-ghost use Rattle.model.specs.Answers.{answerOf, outcome, imageAfter, getReply, nextReply, lockOutcome, lockSession};
+ghost use Rattle.model.specs.Answers.{answerOf, sideOf, outcome, imageAfter, getReply, nextReply, lockOutcome, lockSession};
 ghost use Rattle.model.specs.Move.{moveAnswer, imageMoved};
 ghost use Rattle.model.specs.Lent.{sessionOf};
 ghost use Rattle.decision.specs.Decision.{requestOf};
@@ -142,16 +144,25 @@ pub extern "C" fn vs_query(
 ) -> Room
     ensures { λ r. ⌜ (r .answer ≡ numbersOf (queryOutcome (atRuntime session) attributes (now (image .entry))))
         × (r .storage ≡ queryGives (atRuntime session) attributes (now (image .entry))
-        (storageFor (recordBit attributes) (session .setup .records) (reserved session) (regionSize (now (image .entry)))))
+        (storageFor (termsFor (sideOf context) session) (recordBit attributes) (regionSize (now (image .entry)))))
         × (r .remaining ≡ queryGives (atRuntime session) attributes (now (image .entry))
-        (remainingFor (recordBit attributes) (session .setup .records) (reserved session) (regionSize (now (image .entry))) (valuesOf (now (image .entry)))))
+        (remainingFor (termsFor (sideOf context) session) (recordBit attributes) (regionSize (now (image .entry))) (valuesOf (now (image .entry)))))
         × (r .largest ≡ queryGives (atRuntime session) attributes (now (image .entry))
         (largestFor
-        (remainingFor (recordBit attributes) (session .setup .records) (reserved session) (regionSize (now (image .entry))) (valuesOf (now (image .entry)))))) ⌝ }
+        (remainingFor (termsFor (sideOf context) session) (recordBit attributes) (regionSize (now (image .entry))) (valuesOf (now (image .entry)))))) ⌝ }
 {
-    let runtime = session::at_runtime(session.phase);
-    let reserve = session::reserved(session.phase, session.setup.reserve);
-    let q = engine::room::query(runtime, session.setup.records, reserve, image, attributes);
+    let tenant = session.setup.modem;
+    let terms = session::terms_for(
+        session::is_modem(context.side),
+        session.phase,
+        session.setup.custom,
+        session.setup.reserve,
+        session.setup.records,
+        session.setup.share,
+        tenant,
+        session.setup.rules,
+    );
+    let q = engine::room::query(terms, image, attributes);
     roomed(q)
 }
 
@@ -170,11 +181,11 @@ pub extern "C" fn vs_phase(session: Session, phase: u32) -> Session
 }
 
 #[no_mangle]
-pub extern "C" fn vs_lock(session: Session, name: &[u8], vendor: &[u8; 16]) -> Listed
-    ensures { λ r. ⌜ (r .answer ≡ numbersOf (lockOutcome session (keyed (now (name .entry)) (now (vendor .entry)))))
-        × (r .session ≡ lockSession session (keyed (now (name .entry)) (now (vendor .entry)))) ⌝ }
+pub extern "C" fn vs_lock(session: Session, side: u32, name: &[u8], vendor: &[u8; 16]) -> Listed
+    ensures { λ r. ⌜ (r .answer ≡ numbersOf (lockOutcome (isModem side) session (keyed (now (name .entry)) (now (vendor .entry)))))
+        × (r .session ≡ lockSession (isModem side) session (keyed (now (name .entry)) (now (vendor .entry)))) ⌝ }
 {
-    let l = session::lock(session, name, vendor);
+    let l = session::lock(session, session::is_modem(side), name, vendor);
     let answer = l.answer;
     let session = l.session;
     Listed {
@@ -194,13 +205,14 @@ pub extern "C" fn vs_get(
 ) -> Reply
     ensures { λ r. ⌜ (r .answer
         ≡ numbersOf (outcome context
-        (getPlan session (keyed (now (name .entry)) (now (vendor .entry))) (now (buffer .entry)) (now (image .entry)))
+        (getPlan (sideOf context) session (keyed (now (name .entry)) (now (vendor .entry))) (now (buffer .entry)) (now (image .entry)))
         (now (image .entry))))
         × Gives
-        (getReply session (keyed (now (name .entry)) (now (vendor .entry))) (now (buffer .entry)) (now (image .entry)))
+        (getReply (sideOf context) session (keyed (now (name .entry)) (now (vendor .entry))) (now (buffer .entry)) (now (image .entry)))
         (r .size) (r .attributes) (r .needed) (now (buffer .exit)) ⌝ }
 {
-    let view = session::view(session.phase);
+    let guid = session.setup.modem.vendor;
+    let view = session::view(session::is_modem(context.side), session.phase, guid);
     let g = engine::read::get(context, view, image, name, vendor, buffer);
     let answer = g.answer;
     Reply {
@@ -222,13 +234,14 @@ pub extern "C" fn vs_next_name(
 ) -> Reply
     ensures { λ r. ⌜ (r .answer
         ≡ numbersOf (outcome context
-        (nextPlan session (keyed (now (name .entry)) (now (vendor .entry))) (now (buffer .entry)) (now (image .entry)))
+        (nextPlan (sideOf context) session (keyed (now (name .entry)) (now (vendor .entry))) (now (buffer .entry)) (now (image .entry)))
         (now (image .entry))))
         × Gives
-        (nextReply session (keyed (now (name .entry)) (now (vendor .entry))) (now (buffer .entry)) (now (image .entry)))
+        (nextReply (sideOf context) session (keyed (now (name .entry)) (now (vendor .entry))) (now (buffer .entry)) (now (image .entry)))
         (r .size) (r .attributes) (r .needed) (now (buffer .exit)) ⌝ }
 {
-    let view = session::view(session.phase);
+    let guid = session.setup.modem.vendor;
+    let view = session::view(session::is_modem(context.side), session.phase, guid);
     let g = engine::read::next_name(context, view, image, name, vendor, buffer);
     let answer = g.answer;
     Reply {
@@ -254,17 +267,28 @@ pub extern "C" fn vs_set(
 ) -> Answered
     ensures { λ r. ⌜ (r
         ≡ numbersOf (outcome context
-        (setPlan session (requestOf (now (name .entry)) (now (vendor .entry)) attributes (now (bytes .entry)) presence verdict) (now (image .entry)))
+        (setPlan (sideOf context) session (requestOf (now (name .entry)) (now (vendor .entry)) attributes (now (bytes .entry)) presence verdict) (now (image .entry)))
         (now (image .entry))))
         × (now (image .exit)
         ≡ imageAfter context
-        (setPlan session (requestOf (now (name .entry)) (now (vendor .entry)) attributes (now (bytes .entry)) presence verdict) (now (image .entry)))
+        (setPlan (sideOf context) session (requestOf (now (name .entry)) (now (vendor .entry)) attributes (now (bytes .entry)) presence verdict) (now (image .entry)))
         (now (image .entry)))
         × Kept
-        (setPlan session (requestOf (now (name .entry)) (now (vendor .entry)) attributes (now (bytes .entry)) presence verdict) (now (image .entry)))
+        (setPlan (sideOf context) session (requestOf (now (name .entry)) (now (vendor .entry)) attributes (now (bytes .entry)) presence verdict) (now (image .entry)))
         (now (content .entry))
         (now (content .exit)) ⌝ }
 {
+    let tenant = session.setup.modem;
+    let said = session::terms_for(
+        session::is_modem(context.side),
+        session.phase,
+        session.setup.custom,
+        session.setup.reserve,
+        session.setup.records,
+        session.setup.share,
+        tenant,
+        session.setup.rules,
+    );
     let sizes = session.sizes;
     let barred = session::is_barred(
         session.phase,
@@ -274,14 +298,7 @@ pub extern "C" fn vs_set(
         name,
         vendor,
     );
-    let terms = session::terms(
-        session.phase,
-        session.setup.custom,
-        session.setup.reserve,
-        session.setup.records,
-        session.setup.rules,
-        barred,
-    );
+    let terms = session::terms(said, barred, name, vendor);
     let asking = Asking {
         attributes,
         presence,
@@ -322,12 +339,20 @@ pub extern "C" fn vs_start_up(
     setup: Setup,
     content: &mut [u8; layout::CONTENT],
 ) -> Started
-    ensures { λ r. ⌜ (r .answer ≡ numbersOf (outcome context (startUpPlan (now (image .entry))) (now (image .entry))))
+    ensures { λ r. ⌜ (r .answer ≡ numbersOf (outcome context (startUpPlan setup (now (image .entry))) (now (image .entry))))
         × (r .session ≡ freshSession setup)
-        × (now (image .exit) ≡ imageAfter context (startUpPlan (now (image .entry))) (now (image .entry)))
-        × Kept (startUpPlan (now (image .entry))) (now (content .entry)) (now (content .exit)) ⌝ }
+        × (now (image .exit) ≡ imageAfter context (startUpPlan setup (now (image .entry))) (now (image .entry)))
+        × Kept (startUpPlan setup (now (image .entry))) (now (content .entry)) (now (content .exit)) ⌝ }
 {
-    let answer = engine::start::start_up(context, image, content);
+    let tenant = setup.modem;
+    let answer = engine::start::start_up(
+        context,
+        setup.share,
+        setup.records,
+        tenant,
+        image,
+        content,
+    );
     let session = Session::fresh(setup);
     Started {
         answer: numbers(answer),
@@ -338,6 +363,7 @@ pub extern "C" fn vs_start_up(
 #[no_mangle]
 pub extern "C" fn vs_plan_set(
     session: Session,
+    side: u32,
     image: &[u8],
     name: &[u8],
     vendor: &[u8; 16],
@@ -348,21 +374,32 @@ pub extern "C" fn vs_plan_set(
     content: &mut [u8; layout::CONTENT],
 ) -> HostPlan
     ensures { λ r. ⌜ PlannedFor
-        (book.set session (requestOf (now (name .entry)) (now (vendor .entry)) attributes (now (bytes .entry)) presence verdict))
+        (book.set (isModem side) session (requestOf (now (name .entry)) (now (vendor .entry)) attributes (now (bytes .entry)) presence verdict))
         (now (image .entry))
         (now (content .exit))
         r
         × Kept
-        (setPlan session (requestOf (now (name .entry)) (now (vendor .entry)) attributes (now (bytes .entry)) presence verdict) (now (image .entry)))
+        (setPlan (isModem side) session (requestOf (now (name .entry)) (now (vendor .entry)) attributes (now (bytes .entry)) presence verdict) (now (image .entry)))
         (now (content .entry))
         (now (content .exit))
         × Numbered
-        (setPlan session (requestOf (now (name .entry)) (now (vendor .entry)) attributes (now (bytes .entry)) presence verdict) (now (image .entry)))
+        (setPlan (isModem side) session (requestOf (now (name .entry)) (now (vendor .entry)) attributes (now (bytes .entry)) presence verdict) (now (image .entry)))
         (now (image .entry))
         (now (content .entry))
         (now (content .exit))
         r ⌝ }
 {
+    let tenant = session.setup.modem;
+    let said = session::terms_for(
+        session::is_modem(side),
+        session.phase,
+        session.setup.custom,
+        session.setup.reserve,
+        session.setup.records,
+        session.setup.share,
+        tenant,
+        session.setup.rules,
+    );
     let sizes = session.sizes;
     let barred = session::is_barred(
         session.phase,
@@ -372,14 +409,7 @@ pub extern "C" fn vs_plan_set(
         name,
         vendor,
     );
-    let terms = session::terms(
-        session.phase,
-        session.setup.custom,
-        session.setup.reserve,
-        session.setup.records,
-        session.setup.rules,
-        barred,
-    );
+    let terms = session::terms(said, barred, name, vendor);
     let asking = Asking {
         attributes,
         presence,
@@ -399,12 +429,17 @@ pub extern "C" fn vs_plan_set(
 }
 
 #[no_mangle]
-pub extern "C" fn vs_plan_start_up(image: &[u8], content: &mut [u8; layout::CONTENT]) -> HostPlan
-    ensures { λ r. ⌜ StartUpPlanned (now (image .entry)) (now (content .exit)) r
-        × Kept (startUpPlan (now (image .entry))) (now (content .entry)) (now (content .exit))
-        × Numbered (startUpPlan (now (image .entry))) (now (image .entry)) (now (content .entry)) (now (content .exit)) r ⌝ }
+pub extern "C" fn vs_plan_start_up(
+    image: &[u8],
+    setup: Setup,
+    content: &mut [u8; layout::CONTENT],
+) -> HostPlan
+    ensures { λ r. ⌜ StartUpPlanned setup (now (image .entry)) (now (content .exit)) r
+        × Kept (startUpPlan setup (now (image .entry))) (now (content .entry)) (now (content .exit))
+        × Numbered (startUpPlan setup (now (image .entry))) (now (image .entry)) (now (content .entry)) (now (content .exit)) r ⌝ }
 {
-    let planned = engine::start::plan_start_up(image, content);
+    let tenant = setup.modem;
+    let planned = engine::start::plan_start_up(setup.share, setup.records, tenant, image, content);
     plan::in_numbers(planned)
 }
 
@@ -455,13 +490,14 @@ pub extern "C" fn vs_phase_lent(session: &mut Session, phase: u32)
 #[no_mangle]
 pub extern "C" fn vs_lock_lent(
     session: &mut [u8; lent::SESSION],
+    side: u32,
     name: &[u8],
     vendor: &[u8; 16],
 ) -> Answered
-    ensures { λ r. ⌜ (r ≡ numbersOf (lockOutcome (sessionOf (now (session .entry))) (keyed (now (name .entry)) (now (vendor .entry)))))
-        × (sessionOf (now (session .exit)) ≡ lockSession (sessionOf (now (session .entry))) (keyed (now (name .entry)) (now (vendor .entry)))) ⌝ }
+    ensures { λ r. ⌜ (r ≡ numbersOf (lockOutcome (isModem side) (sessionOf (now (session .entry))) (keyed (now (name .entry)) (now (vendor .entry)))))
+        × (sessionOf (now (session .exit)) ≡ lockSession (isModem side) (sessionOf (now (session .entry))) (keyed (now (name .entry)) (now (vendor .entry)))) ⌝ }
 {
-    let told = lent::lock(session, name, vendor);
+    let told = lent::lock(session, session::is_modem(side), name, vendor);
     numbers(told)
 }
 
@@ -476,13 +512,13 @@ pub extern "C" fn vs_get_lent(
 ) -> Reply
     ensures { λ r. ⌜ (r .answer
         ≡ numbersOf (outcome context
-        (getPlan (sessionOf (now (session .entry))) (keyed (now (name .entry)) (now (vendor .entry))) (now (buffer .entry)) (now (image .entry)))
+        (getPlan (sideOf context) (sessionOf (now (session .entry))) (keyed (now (name .entry)) (now (vendor .entry))) (now (buffer .entry)) (now (image .entry)))
         (now (image .entry))))
         × Gives
-        (getReply (sessionOf (now (session .entry))) (keyed (now (name .entry)) (now (vendor .entry))) (now (buffer .entry)) (now (image .entry)))
+        (getReply (sideOf context) (sessionOf (now (session .entry))) (keyed (now (name .entry)) (now (vendor .entry))) (now (buffer .entry)) (now (image .entry)))
         (r .size) (r .attributes) (r .needed) (now (buffer .exit)) ⌝ }
 {
-    let view = lent::view(session);
+    let view = lent::view(session, session::is_modem(context.side));
     let told = engine::read::get(context, view, image, name, vendor, buffer);
     let answer = told.answer;
     Reply {
@@ -504,13 +540,13 @@ pub extern "C" fn vs_next_name_lent(
 ) -> Reply
     ensures { λ r. ⌜ (r .answer
         ≡ numbersOf (outcome context
-        (nextPlan (sessionOf (now (session .entry))) (keyed (now (name .entry)) (now (vendor .entry))) (now (buffer .entry)) (now (image .entry)))
+        (nextPlan (sideOf context) (sessionOf (now (session .entry))) (keyed (now (name .entry)) (now (vendor .entry))) (now (buffer .entry)) (now (image .entry)))
         (now (image .entry))))
         × Gives
-        (nextReply (sessionOf (now (session .entry))) (keyed (now (name .entry)) (now (vendor .entry))) (now (buffer .entry)) (now (image .entry)))
+        (nextReply (sideOf context) (sessionOf (now (session .entry))) (keyed (now (name .entry)) (now (vendor .entry))) (now (buffer .entry)) (now (image .entry)))
         (r .size) (r .attributes) (r .needed) (now (buffer .exit)) ⌝ }
 {
-    let view = lent::view(session);
+    let view = lent::view(session, session::is_modem(context.side));
     let told = engine::read::next_name(context, view, image, name, vendor, buffer);
     let answer = told.answer;
     Reply {
@@ -536,18 +572,18 @@ pub extern "C" fn vs_set_lent(
 ) -> Answered
     ensures { λ r. ⌜ (r
         ≡ numbersOf (outcome context
-        (setPlan (sessionOf (now (session .entry))) (requestOf (now (name .entry)) (now (vendor .entry)) attributes (now (bytes .entry)) presence verdict) (now (image .entry)))
+        (setPlan (sideOf context) (sessionOf (now (session .entry))) (requestOf (now (name .entry)) (now (vendor .entry)) attributes (now (bytes .entry)) presence verdict) (now (image .entry)))
         (now (image .entry))))
         × (now (image .exit)
         ≡ imageAfter context
-        (setPlan (sessionOf (now (session .entry))) (requestOf (now (name .entry)) (now (vendor .entry)) attributes (now (bytes .entry)) presence verdict) (now (image .entry)))
+        (setPlan (sideOf context) (sessionOf (now (session .entry))) (requestOf (now (name .entry)) (now (vendor .entry)) attributes (now (bytes .entry)) presence verdict) (now (image .entry)))
         (now (image .entry)))
         × Kept
-        (setPlan (sessionOf (now (session .entry))) (requestOf (now (name .entry)) (now (vendor .entry)) attributes (now (bytes .entry)) presence verdict) (now (image .entry)))
+        (setPlan (sideOf context) (sessionOf (now (session .entry))) (requestOf (now (name .entry)) (now (vendor .entry)) attributes (now (bytes .entry)) presence verdict) (now (image .entry)))
         (now (content .entry))
         (now (content .exit)) ⌝ }
 {
-    let terms = lent::terms(session, name, vendor);
+    let terms = lent::terms(session, session::is_modem(context.side), name, vendor);
     let limits = lent::limits(session);
     let asking = Asking {
         attributes,
@@ -575,19 +611,40 @@ pub extern "C" fn vs_start_up_lent(
     session: &mut [u8; lent::SESSION],
     content: &mut [u8; layout::CONTENT],
 ) -> Answered
-    ensures { λ r. ⌜ (r ≡ numbersOf (outcome context (startUpPlan (now (image .entry))) (now (image .entry))))
+    ensures { λ r. ⌜ (r ≡ numbersOf (outcome context (startUpPlan (sessionOf (now (session .entry)) .setup) (now (image .entry))) (now (image .entry))))
         × (sessionOf (now (session .exit)) ≡ freshSession (sessionOf (now (session .entry)) .setup))
-        × (now (image .exit) ≡ imageAfter context (startUpPlan (now (image .entry))) (now (image .entry)))
-        × Kept (startUpPlan (now (image .entry))) (now (content .entry)) (now (content .exit)) ⌝ }
+        × (now (image .exit) ≡ imageAfter context (startUpPlan (sessionOf (now (session .entry)) .setup) (now (image .entry))) (now (image .entry)))
+        × Kept (startUpPlan (sessionOf (now (session .entry)) .setup) (now (image .entry))) (now (content .entry)) (now (content .exit)) ⌝ }
 {
+    let share = lent::share(session);
+    let records = lent::records(session);
+    let tenant = lent::tenant(session);
     lent::renew(session);
-    let told = engine::start::start_up(context, image, content);
+    let told = engine::start::start_up(context, share, records, tenant, image, content);
     numbers(told)
+}
+
+#[no_mangle]
+pub extern "C" fn vs_plan_start_up_lent(
+    session: &[u8; lent::SESSION],
+    image: &[u8],
+    content: &mut [u8; layout::CONTENT],
+) -> HostPlan
+    ensures { λ r. ⌜ StartUpPlanned (sessionOf (now (session .entry)) .setup) (now (image .entry)) (now (content .exit)) r
+        × Kept (startUpPlan (sessionOf (now (session .entry)) .setup) (now (image .entry))) (now (content .entry)) (now (content .exit))
+        × Numbered (startUpPlan (sessionOf (now (session .entry)) .setup) (now (image .entry))) (now (image .entry)) (now (content .entry)) (now (content .exit)) r ⌝ }
+{
+    let share = lent::share(session);
+    let records = lent::records(session);
+    let tenant = lent::tenant(session);
+    let told = engine::start::plan_start_up(share, records, tenant, image, content);
+    plan::in_numbers(told)
 }
 
 #[no_mangle]
 pub extern "C" fn vs_plan_set_lent(
     session: &[u8; lent::SESSION],
+    side: u32,
     image: &[u8],
     name: &[u8],
     vendor: &[u8; 16],
@@ -598,22 +655,22 @@ pub extern "C" fn vs_plan_set_lent(
     content: &mut [u8; layout::CONTENT],
 ) -> HostPlan
     ensures { λ r. ⌜ PlannedFor
-        (book.set (sessionOf (now (session .entry))) (requestOf (now (name .entry)) (now (vendor .entry)) attributes (now (bytes .entry)) presence verdict))
+        (book.set (isModem side) (sessionOf (now (session .entry))) (requestOf (now (name .entry)) (now (vendor .entry)) attributes (now (bytes .entry)) presence verdict))
         (now (image .entry))
         (now (content .exit))
         r
         × Kept
-        (setPlan (sessionOf (now (session .entry))) (requestOf (now (name .entry)) (now (vendor .entry)) attributes (now (bytes .entry)) presence verdict) (now (image .entry)))
+        (setPlan (isModem side) (sessionOf (now (session .entry))) (requestOf (now (name .entry)) (now (vendor .entry)) attributes (now (bytes .entry)) presence verdict) (now (image .entry)))
         (now (content .entry))
         (now (content .exit))
         × Numbered
-        (setPlan (sessionOf (now (session .entry))) (requestOf (now (name .entry)) (now (vendor .entry)) attributes (now (bytes .entry)) presence verdict) (now (image .entry)))
+        (setPlan (isModem side) (sessionOf (now (session .entry))) (requestOf (now (name .entry)) (now (vendor .entry)) attributes (now (bytes .entry)) presence verdict) (now (image .entry)))
         (now (image .entry))
         (now (content .entry))
         (now (content .exit))
         r ⌝ }
 {
-    let terms = lent::terms(session, name, vendor);
+    let terms = lent::terms(session, session::is_modem(side), name, vendor);
     let limits = lent::limits(session);
     let asking = Asking {
         attributes,
@@ -633,28 +690,26 @@ pub extern "C" fn vs_query_lent(
 ) -> Room
     ensures { λ r. ⌜ (r .answer ≡ numbersOf (queryOutcome (atRuntime (sessionOf (now (session .entry)))) attributes (now (image .entry))))
         × (r .storage ≡ queryGives (atRuntime (sessionOf (now (session .entry)))) attributes (now (image .entry))
-        (storageFor (recordBit attributes) (sessionOf (now (session .entry)) .setup .records) (reserved (sessionOf (now (session .entry)))) (regionSize (now (image .entry)))))
+        (storageFor (termsFor (sideOf context) (sessionOf (now (session .entry)))) (recordBit attributes) (regionSize (now (image .entry)))))
         × (r .remaining ≡ queryGives (atRuntime (sessionOf (now (session .entry)))) attributes (now (image .entry))
-        (remainingFor (recordBit attributes) (sessionOf (now (session .entry)) .setup .records) (reserved (sessionOf (now (session .entry))))
+        (remainingFor (termsFor (sideOf context) (sessionOf (now (session .entry)))) (recordBit attributes)
         (regionSize (now (image .entry))) (valuesOf (now (image .entry)))))
         × (r .largest ≡ queryGives (atRuntime (sessionOf (now (session .entry)))) attributes (now (image .entry))
         (largestFor
-        (remainingFor (recordBit attributes) (sessionOf (now (session .entry)) .setup .records) (reserved (sessionOf (now (session .entry))))
+        (remainingFor (termsFor (sideOf context) (sessionOf (now (session .entry)))) (recordBit attributes)
         (regionSize (now (image .entry))) (valuesOf (now (image .entry)))))) ⌝ }
 {
-    let view = lent::view(session);
-    let records = lent::records(session);
-    let reserve = lent::reserved(session);
-    let q = engine::room::query(view.runtime, records, reserve, image, attributes);
+    let terms = lent::terms_for(session, session::is_modem(context.side));
+    let q = engine::room::query(terms, image, attributes);
     roomed(q)
 }
 
-// A lock, with its answer in numbers.
+// A lock of ours, with its answer in numbers.
 fn asked(session: Session, name: &[u8], vendor: &[u8; 16]) -> Listed
-    ensures { λ r. ⌜ (r .answer ≡ numbersOf (lockOutcome session (keyed (now (name .entry)) (now (vendor .entry)))))
-        × (r .session ≡ lockSession session (keyed (now (name .entry)) (now (vendor .entry)))) ⌝ }
+    ensures { λ r. ⌜ (r .answer ≡ numbersOf (lockOutcome false session (keyed (now (name .entry)) (now (vendor .entry)))))
+        × (r .session ≡ lockSession false session (keyed (now (name .entry)) (now (vendor .entry)))) ⌝ }
 {
-    let told = session::lock(session, name, vendor);
+    let told = session::lock(session, false, name, vendor);
     let answer = told.answer;
     let session = told.session;
     Listed {
@@ -663,10 +718,10 @@ fn asked(session: Session, name: &[u8], vendor: &[u8; 16]) -> Listed
     }
 }
 
-// A lock over a mutable `Session`: not exported, since it copies the session. A host has `vs_lock_lent`, over the session's bytes.
+// A lock of ours over a mutable `Session`: not exported, since it copies the session. A host has `vs_lock_lent`, of either side, over the session's bytes.
 pub fn lock_over(session: &mut Session, name: &[u8], vendor: &[u8; 16]) -> Answered
-    ensures { λ r. ⌜ (r ≡ numbersOf (lockOutcome (now (session .entry)) (keyed (now (name .entry)) (now (vendor .entry)))))
-        × (now (session .exit) ≡ lockSession (now (session .entry)) (keyed (now (name .entry)) (now (vendor .entry)))) ⌝ }
+    ensures { λ r. ⌜ (r ≡ numbersOf (lockOutcome false (now (session .entry)) (keyed (now (name .entry)) (now (vendor .entry)))))
+        × (now (session .exit) ≡ lockSession false (now (session .entry)) (keyed (now (name .entry)) (now (vendor .entry)))) ⌝ }
 {
     let l = asked(*session, name, vendor);
     *session = l.session;
