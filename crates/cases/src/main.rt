@@ -4,6 +4,7 @@ mod fields;
 mod play;
 mod print;
 mod rules;
+mod tenants;
 
 use libc::STDOUT_FILENO;
 

@@ -20,6 +20,9 @@
 //   I  page        the bytes of a page, u32: given with every call from there on, as 0 (which counts as 1) is before
 //   R  rule        rules u32, place u8, the rule, 216 bytes as the C interface lays it out: it stands in that place of the table (there are 32, and any other place
 //                  is none), and the table is given with every start-up from there on, with that number of rules, as one of zeros and 0 are before
+//   K  side        u32: given with every call from there on, locks too, as 0 is before
+//   X  tenants     our share u32, the modem's share u32, its reserve u32, its GUID 16: given with every start-up from there on. Before the first our share is the
+//                  region but for its header, by the image's length at each step, in the session too, and the rest is 0
 // Numbers are little-endian; a field past the script's end counts as zeros or empty. Before the first format the image has no bytes, and before the first move
 // the target has none.
 ghost use mathlib.Core.Path.{_≡_};
@@ -30,6 +33,7 @@ ghost use Rattle.io.specs.Counts.{Counts};
 use crate::fields;
 use crate::print;
 use crate::rules;
+use crate::tenants;
 use decision::Asking;
 use model::Answer;
 use model::Context;
@@ -39,30 +43,34 @@ use model::Named;
 use model::Session;
 use model::Setup;
 use model::Terms;
+use model::View;
 
-// What is carried from a step to the next: the session, the last step's context for its dead bytes and its page, and what start-ups are given for its rules.
+// What is carried from a step to the next: the session, the last step's context for its dead bytes, its page and its side, what start-ups are given for its rules and
+// tenants, and whether a step has given tenants.
 struct Carried {
     session: Session,
     context: Context,
     setup: Setup,
+    shared: bool,
 }
 
-// The bytes of a page at a step: those given before, where the step gives no others.
-fn width(step: &[u8], before: u32) -> u32 {
-    if fields::byte(step, 0) == b'I' {
+// A number at a step, the bytes of a page or the side: the one given before, where the step is of another kind.
+fn number(step: &[u8], kind: u8, before: u32) -> u32 {
+    if fields::byte(step, 0) == kind {
         return fields::long(step, 5) as u32;
     }
     before
 }
 
-// What a call takes beside its own arguments: the step's limit, and dead bytes and page as given before, where the step gives no others.
+// What a call takes beside its own arguments: the step's limit, and dead bytes, page and side as given before, where the step gives no others.
 fn context(step: &[u8], before: Context) -> Context {
     let n = fields::long(step, 1);
     let mut limit = n as u64;
     if n == 0xFFFFFFFF {
         limit = 0xFFFFFFFFFFFFFFFF;
     }
-    let width = width(step, before.width);
+    let width = number(step, b'I', before.width);
+    let side = number(step, b'K', before.side);
     if fields::byte(step, 0) == b'W' {
         let given = fields::addresses(step, 6);
         return Context {
@@ -70,6 +78,7 @@ fn context(step: &[u8], before: Context) -> Context {
             count: fields::byte(step, 5) as u32,
             dead: given,
             width,
+            side,
         };
     }
     let dead = before.dead;
@@ -78,6 +87,7 @@ fn context(step: &[u8], before: Context) -> Context {
         count: before.count,
         dead,
         width,
+        side,
     }
 }
 
@@ -102,25 +112,33 @@ fn start_up(c: Context, step: &[u8], image: &mut [u8], ruled: Setup) -> Session 
     setup.custom = fields::byte(step, 5) as u32;
     setup.reserve = fields::long(step, 6) as u32;
     setup.records = fields::long(step, 10) as u32;
+    let tenant = setup.modem;
     let mut content = content();
-    print_answer(b"start-up", engine::start::start_up(c, image, &mut content));
+    print_answer(
+        b"start-up",
+        engine::start::start_up(c, setup.share, setup.records, tenant, image, &mut content),
+    );
     Session::fresh(setup)
 }
 
-// What a session says to a set of a name.
-fn terms(s: Session, name: &[u8], vendor: &[u8; 16]) -> Terms
-    ensures { λ r. ⌜ termsOf s (keyed (now (name .entry)) (now (vendor .entry))) ≡ r ⌝ }
+// What a session says to a side's set of a name.
+fn terms(s: Session, modem: bool, name: &[u8], vendor: &[u8; 16]) -> Terms
+    ensures { λ r. ⌜ termsOf modem s (keyed (now (name .entry)) (now (vendor .entry))) ≡ r ⌝ }
 {
-    let sizes = s.sizes;
-    let barred = session::is_barred(s.phase, s.count, sizes, &s.locks, name, vendor);
-    session::terms(
+    let tenant = s.setup.modem;
+    let said = session::terms_for(
+        modem,
         s.phase,
         s.setup.custom,
         s.setup.reserve,
         s.setup.records,
+        s.setup.share,
+        tenant,
         s.setup.rules,
-        barred,
-    )
+    );
+    let sizes = s.sizes;
+    let barred = session::is_barred(s.phase, s.count, sizes, &s.locks, name, vendor);
+    session::terms(said, barred, name, vendor)
 }
 
 // The numbers of a set.
@@ -137,7 +155,7 @@ fn set(c: Context, step: &[u8], image: &mut [u8], s: Session) {
     let size = fields::short(step, 27);
     let name = slices::cut(step, 33, size);
     let bytes = slices::cut(step, 33 + size, fields::long(step, 29));
-    let terms = terms(s, name, &vendor);
+    let terms = terms(s, session::is_modem(c.side), name, &vendor);
     let mut content = content();
     let answer = engine::write::set(
         c,
@@ -172,10 +190,16 @@ fn buffer_size(step: &[u8], space: &[u8]) -> usize
     fields::least(fields::short(step, 5), space)
 }
 
+// What a session says to a side's get or next-name.
+fn view(c: Context, s: Session) -> View {
+    let vendor = s.setup.modem.vendor;
+    session::view(session::is_modem(c.side), s.phase, vendor)
+}
+
 fn got_into(c: Context, step: &[u8], image: &[u8], s: Session, buffer: &mut [u8]) -> Got {
     let vendor = fields::vendor(step, 7);
     let name = slices::cut(step, 25, fields::short(step, 23));
-    engine::read::get(c, session::view(s.phase), image, name, &vendor, buffer)
+    engine::read::get(c, view(c, s), image, name, &vendor, buffer)
 }
 
 fn get(c: Context, step: &[u8], image: &[u8], s: Session, space: &mut [u8]) {
@@ -198,7 +222,7 @@ fn print_named(named: Named, buffer: &[u8]) {
 fn named_into(c: Context, step: &[u8], image: &[u8], s: Session, buffer: &mut [u8]) -> Named {
     let vendor = fields::vendor(step, 7);
     let name = slices::cut(step, 25, fields::short(step, 23));
-    engine::read::next_name(c, session::view(s.phase), image, name, &vendor, buffer)
+    engine::read::next_name(c, view(c, s), image, name, &vendor, buffer)
 }
 
 fn next_name(c: Context, step: &[u8], image: &[u8], s: Session, space: &mut [u8]) {
@@ -217,10 +241,10 @@ fn read(c: Context, step: &[u8], image: &[u8], s: Session) {
     next_name(c, step, image, s, &mut space);
 }
 
-fn lock(step: &[u8], s: Session) -> Session {
+fn lock(c: Context, step: &[u8], s: Session) -> Session {
     let vendor = fields::vendor(step, 5);
     let name = slices::cut(step, 23, fields::short(step, 21));
-    let listed = session::lock(s, name, &vendor);
+    let listed = session::lock(s, session::is_modem(c.side), name, &vendor);
     let answer = listed.answer;
     let after = listed.session;
     print::answer(b"lock", answer);
@@ -293,6 +317,19 @@ fn print_rules(step: &[u8]) {
     print::end();
 }
 
+// The side as it is given, also where it counts as ours.
+fn print_side(c: Context) {
+    print::number(b"side ", c.side as u64);
+    print::end();
+}
+
+// Our share and the modem's.
+fn print_shares(step: &[u8]) {
+    print::number(b"shares ", fields::long(step, 5) as u64);
+    print::number(b" ", fields::long(step, 9) as u64);
+    print::end();
+}
+
 // A step that leaves the session as it is.
 fn call(c: Context, step: &[u8], image: &mut [u8], target: &mut [u8], s: Session) {
     match fields::byte(step, 0) {
@@ -309,6 +346,8 @@ fn call(c: Context, step: &[u8], image: &mut [u8], target: &mut [u8], s: Session
         b'W' => print_dead(c),
         b'I' => print_page(c),
         b'R' => print_rules(step),
+        b'K' => print_side(c),
+        b'X' => print_shares(step),
         _ => print::word(b"no such step\n"),
     }
 }
@@ -327,7 +366,7 @@ fn play_step(
         return start_up(c, step, image, ruled);
     }
     if kind == b'L' {
-        return lock(step, s);
+        return lock(c, step, s);
     }
     if kind == b'P' {
         return phase(step, s);
@@ -338,12 +377,16 @@ fn play_step(
 
 fn carry(step: &[u8], image: &mut [u8], target: &mut [u8], before: Carried) -> Carried {
     let context = context(step, before.context);
-    let setup = rules::given(step, before.setup);
-    let session = play_step(context, step, image, target, before.session, setup);
+    let shared = tenants::shared(step, before.shared);
+    let ruled = rules::given(step, before.setup);
+    let setup = tenants::given(step, shared, image, ruled);
+    let held = tenants::held(shared, image, before.session);
+    let session = play_step(context, step, image, target, held, setup);
     Carried {
         session,
         context,
         setup,
+        shared,
     }
 }
 
@@ -366,6 +409,8 @@ fn step_size(step: &[u8]) -> usize
         b'W' => 70,
         b'I' => 9,
         b'R' => 226,
+        b'K' => 9,
+        b'X' => 33,
         _ => 5,
     }
 }
@@ -403,7 +448,7 @@ fn image_size(step: &[u8], size: usize, room: usize, buffer: &[u8]) -> usize
     fields::least(asked_size(step, size, room), buffer)
 }
 
-// Before the first step: a fresh session, no dead bytes, stores of bytes, and no rules.
+// Before the first step: a fresh session, no dead bytes, stores of bytes, calls of ours, no rules and no tenants.
 fn nothing() -> Carried {
     let setup = rules::none();
     let session = Session::fresh(setup);
@@ -412,11 +457,13 @@ fn nothing() -> Carried {
         count: 0,
         dead: [0; 16],
         width: 0,
+        side: 0,
     };
     Carried {
         session,
         context,
         setup,
+        shared: false,
     }
 }
 

@@ -1,6 +1,7 @@
 // The rules for settings that the steps of a script give.
 use crate::fields;
 use model::Setup;
+use model::Tenant;
 
 // A table with the rule of a step in one of its places, as it was where there is no such place. What is past the step's end counts as zeros.
 fn placed(limits: [u8; 6912], place: usize, step: &[u8]) -> [u8; 6912] {
@@ -15,10 +16,17 @@ fn placed(limits: [u8; 6912], place: usize, step: &[u8]) -> [u8; 6912] {
 // No rules, and nothing else that a start-up is given.
 pub(crate) fn none() -> Setup {
     let limits = [0; 6912];
+    let modem = Tenant {
+        share: 0,
+        reserve: 0,
+        vendor: [0; 16],
+    };
     Setup {
         custom: 0,
         reserve: 0,
         records: 0,
+        share: 0,
+        modem,
         rules: 0,
         limits,
     }

@@ -13,6 +13,16 @@ Inv-loop script buffer₀ other₀ carried₀ size₀ room₀ at₀ buffer other
 abbrev μ-loop : tie.MeasureT-loop
 μ-loop script buffer₀ other₀ carried₀ size₀ room₀ at₀ buffer other carried size room at = length script - at
 
+-- the turn's own test, and the bound, named: they lie further back than the search goes
+add-at : tie.Need-add-at Inv-loop μ-loop
+add-at c = search (needs, c .step-size .ensures, c .before .before .before .before .before .before .before .before .before .before .before .before .before .loop-test .taken, c .before .before .before .before .before .before .before .before .before .before .before .before .before .before .loop .inv .2)
+
+loop-less : tie.Need-loop-less Inv-loop μ-loop
+loop-less c = search (needs, c .step-size .ensures, c .before .before .before .before .before .before .before .before .before .before .before .before .before .loop-test .taken, c .before .before .before .before .before .before .before .before .before .before .before .before .before .before .loop .inv .2)
+
+loop-again : tie.Need-loop-again Inv-loop μ-loop
+loop-again c = search (needs, c .before .before .before .before .before .before .before .before .before .before .before .before .before .before .loop .inv)
+
 pub play-steps-spec : {M : Type 1} → statement M
 play-steps-spec =
     tie.close
@@ -30,9 +40,9 @@ play-steps-spec =
     (λ c. search needs)
     (λ c κs. search needs)
     (λ c κs. search needs)
-    (λ c. search needs)
-    (λ c. search needs)
-    (λ c. search needs)
+    add-at
+    loop-less
+    loop-again
     (λ c. search needs)
     (λ c. search needs)
     (λ c. search needs))

@@ -5,7 +5,7 @@ use Rattle.cases.proofs.play.set.Statement.{statement}
 use Rattle.cases.proofs.play.set.Tie as tie
 
 set-requires : tie.Need-set-requires
-set-requires c κs = (c .before .before .before .before .before .before .before .before .before .before .before .before .before .before .before .before .before .args .t4, (c .before .before .before .before .before .before .before .before .terms .ensures, refl))
+set-requires c κs = (_, c .before .before .before .before .before .before .before .before .before .before .before .before .before .before .before .before .before .before .args .t4, (c .before .before .before .before .before .before .before .before .terms .ensures, refl))
 
 pub set-spec : {M : Type 1} → statement M
 set-spec =
@@ -15,6 +15,7 @@ set-spec =
     (λ c κs. search needs)
     (λ c κs. search needs)
     (λ c. search needs)
+    (λ c κs. search needs)
     (λ c κs. search needs)
     (λ c κs. search needs)
     (λ c κs. search needs)
