@@ -1,5 +1,5 @@
 .SILENT:
-.PHONY: help kit demo test check fmt lib link-test targets-test examples-test host host-test stack rust-test soak bench check-time efi interop volume-test convert-test records-test settings-test desk-test install clean
+.PHONY: help kit demo test check fmt lib link-test targets-test examples-test host host-test stack rust-test soak bench check-time efi interop volume-test convert-test records-test settings-test shares-test desk-test install clean
 
 CC = cc
 CFLAGS = -std=c11 -O2 -Wall -Wextra -Werror
@@ -125,6 +125,10 @@ records-test:
 # tools/settings on rules, images and volumes that the test makes
 settings-test:
 	tools/settings-test
+
+# tools/shares on images that the test makes
+shares-test:
+	tools/shares-test
 
 # what all desk tools do alike: lost output, files, --help, the documents' transcripts; needs the programs varlist and plainlist
 desk-test:

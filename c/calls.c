@@ -3,7 +3,7 @@
  *
  * Calls that take a session by value are made a second time with the session lent, on a copy of all that they write, and must do the same.
  *
- *   calls [COUNT]      40,000 if no number is given, enough to break every rule; exit status 1 if some rule is not broken then, or two forms differ
+ *   calls [COUNT]      50,000 if no number is given, enough to break every rule; exit status 1 if some rule is not broken then, or two forms differ
  */
 #include <stdio.h>
 #include <stdlib.h>
@@ -11,7 +11,7 @@
 
 #include "varstore.h"
 
-enum { COUNT = 40000, RULES = VS_WORN + 1, NAMED = 160, DATA = 2200 };
+enum { COUNT = 50000, RULES = VS_WORN + 1, NAMED = 160, DATA = 2200 };
 
 /* ---- numbers, and what is hashed */
 
@@ -74,12 +74,14 @@ static unsigned long differences;
 static size_t length, name_len, data_len;
 static vs_session session;
 static vs_setup setup;
+static uint32_t side;
 
-static const uint8_t vendors[4][16] = {
+static const uint8_t vendors[5][16] = {
     {1, 2, 3, 4, 5, 6, 7, 8, 9, 10, 11, 12, 13, 14, 15, 16},
     {0x61, 0xDF, 0xE4, 0x8B, 0xCA, 0x93, 0xD2, 0x11, 0xAA, 0x0D, 0x00, 0xE0, 0x98, 0x03, 0x2B, 0x8C}, /* EFI_GLOBAL_VARIABLE: PK, KEK */
     {0xCB, 0xB2, 0x19, 0xD7, 0x3A, 0x3D, 0x96, 0x45, 0xA3, 0xBC, 0xDA, 0xD0, 0x0E, 0x67, 0x65, 0x6F}, /* EFI_IMAGE_SECURITY_DATABASE: db, dbx, dbt */
     {0xDD, 0x6B, 0x4E, 0x41, 0x7B, 0xE4, 0xCC, 0x47, 0xB2, 0x44, 0xBB, 0x61, 0x02, 0x0C, 0xF5, 0x16}, /* EFI_HARDWARE_ERROR_VARIABLE */
+    {0x4D, 0x4F, 0x44, 0x45, 0x4D},                                                                   /* the modem's, mostly */
 };
 
 /* A vendor's name, mostly well formed. */
@@ -90,6 +92,7 @@ static void choose_name(void)
         uint8_t vendor;
     } names[] = {
         {"RATE", 0}, {"RATE", 0}, {"RATE", 0}, {"A", 0}, {"A", 0}, {"B", 0}, {"B", 0}, {"C", 0}, {"NOTE", 0}, {"SampleRate", 0}, {"PK", 1}, {"KEK", 1}, {"db", 2}, {"dbx", 2}, {"dbt", 2}, {"PK", 0},
+        {"RATE", 4}, {"RATE", 4}, {"A", 4}, {"APN", 4}, {"APN", 4}, {"PK", 4}, {"HwErrRec0001", 4},
         {"HwErrRec0001", 3}, {"HwErrRec00FF", 3}, {"HwErrRec00ff", 3}, {"HwErrRec0001", 0}, {"", 0},
         {"0123456789012345678901234567890123456789012345678901234567890123", 0}, /* 64 characters, one too many */
         {"012345678901234567890123456789012345678901234567890123456789012", 0},
@@ -110,6 +113,7 @@ static void choose_name(void)
     if (below(32) == 0) {
         change(vendor, 16);
     }
+    side = below(16) > 0 ? memcmp(vendor, session.setup.modem.vendor, 16) == 0 : ONE_OF(VS_OURS, VS_MODEM, 2, 0xFFFFFFFF); /* mostly whose it is */
 }
 
 /* With attributes that want it, a descriptor, mostly sound, of one of two years. */
@@ -138,12 +142,12 @@ static void choose_data(uint32_t attributes)
 
 static uint32_t choose_attributes(void)
 {
-    return below(3) == 0 ? ONE_OF(0, 0x03, 0x23, 0x27, 0x43, 0x47, 0x63, 0x67, 0x0F, 0x4F, 0x40, 0x01, 0x17, 0xFFFFFFFF) : name[0] == 'H' ? 0x0F : vendor[0] == 1 ? 0x07 : 0x27;
+    return below(3) == 0 ? ONE_OF(0, 0x03, 0x23, 0x27, 0x43, 0x47, 0x63, 0x67, 0x0F, 0x4F, 0x40, 0x01, 0x17, 0xFFFFFFFF) : name[0] == 'H' ? 0x0F : vendor[0] == 1 || vendor[0] == 0x4D ? 0x07 : 0x27;
 }
 
 static vs_context choose_context(void)
 {
-    vs_context context = {.limit = VS_NO_LIMIT, .width = ONE_OF(1, 1, 1, 0, 2, 3, 4, 8, 16, 17)};
+    vs_context context = {.limit = VS_NO_LIMIT, .side = side, .width = ONE_OF(1, 1, 1, 0, 2, 3, 4, 8, 16, 17)};
     if (below(8) == 0) {
         context.limit = below(4) == 0 ? below(9000) : below(120);
     }
@@ -161,7 +165,25 @@ static void choose_setup(void)
     memset(&setup, 0, sizeof setup);
     setup.custom = ONE_OF(0, 0, 1, 9);
     setup.reserve = ONE_OF(0, 0, 0, 100, 4097);
-    setup.records = ONE_OF(0, 200, 1000, 1000, 0xFFFFFFFF);
+    setup.records = ONE_OF(0, 200, 1000, 1000);
+    setup.modem.share = ONE_OF(0, 300, 1000, 1500, 1500);
+    setup.modem.reserve = ONE_OF(0, 0, 100, 4097);
+    memcpy(setup.modem.vendor, vendors[ONE_OF(4, 4, 4, 4, 4, 4, 4, 4, 0, 1, 3)], 16);
+    setup.share = VS_WHOLE_SHARE(length) - setup.records - setup.modem.share;
+    switch (below(40)) {
+    case 0:
+        setup.share += 1;
+        break;
+    case 1:
+        setup.share = 0;
+        break;
+    case 2:
+        setup.records = 0xFFFFFFFF;
+        break;
+    case 3:
+        setup.share = setup.modem.share = setup.records = 0xFFFFFFFF; /* their sum does not wrap */
+        break;
+    }
     setup.rules = ONE_OF(0, 0, 0, 1, 2, 33);
     for (size_t i = 0; i < 32; i++) {
         vs_setting *rule = &setup.settings[i];
@@ -204,6 +226,11 @@ static void alike(int answered)
 }
 
 static void alike_sessions(const vs_session *one, const vs_session *two) { differences += memcmp(one, two, sizeof *one) != 0; }
+
+static void alike_plans(const vs_plan *one, const vs_plan *two)
+{
+    alike(one->rule == two->rule && one->deciding == two->deciding && memcmp(one->operations, two->operations, sizeof one->operations) == 0);
+}
 
 static void stored(vs_answer answer)
 {
@@ -321,13 +348,21 @@ static void plan_set(void)
     uint32_t presence = ONE_OF(0, 1), verdict = ONE_OF(VS_BY_NONE, VS_BY_PK, VS_BY_PAYLOAD, 5);
     size_t size = given();
     twins();
-    vs_plan lent = vs_plan_set_lent(&session, twin_image, size, name, name_len, vendor, attributes, data, data_len, presence, verdict, twin_content);
-    vs_plan plan = vs_plan_set(session, image, size, name, name_len, vendor, attributes, data, data_len, presence, verdict, content);
-    alike(plan.rule == lent.rule && plan.deciding == lent.deciding && memcmp(plan.operations, lent.operations, sizeof plan.operations) == 0);
+    vs_plan lent = vs_plan_set_lent(&session, side, twin_image, size, name, name_len, vendor, attributes, data, data_len, presence, verdict, twin_content);
+    vs_plan plan = vs_plan_set(session, side, image, size, name, name_len, vendor, attributes, data, data_len, presence, verdict, content);
+    alike_plans(&plan, &lent);
     planned(plan);
 }
 
-static void plan_start_up(void) { planned(vs_plan_start_up(image, given(), content)); }
+static void plan_start_up(void)
+{
+    size_t size = given();
+    twins();
+    vs_plan lent = vs_plan_start_up_lent(&session, twin_image, size, twin_content);
+    vs_plan plan = vs_plan_start_up(image, size, session.setup, content);
+    alike_plans(&plan, &lent);
+    planned(plan);
+}
 
 static void plan_format(void) { planned(vs_plan_format(image, given(), content)); }
 
@@ -345,8 +380,8 @@ static void lock(void)
     for (uint64_t left = below(8) == 0 ? 20 : 1; left > 0; left--) {
         choose_name();
         name[0] = (uint8_t)(name[0] ^ (left > 1 ? left : 0));
-        vs_listed listed = vs_lock(session, name, name_len, vendor);
-        differences += !same_answer(listed.answer, vs_lock_lent(&session, name, name_len, vendor));
+        vs_listed listed = vs_lock(session, side, name, name_len, vendor);
+        differences += !same_answer(listed.answer, vs_lock_lent(&session, side, name, name_len, vendor));
         alike_sessions(&listed.session, &session);
         answered(listed.answer);
         mix_bytes(&session, sizeof session);
@@ -427,5 +462,5 @@ int main(int argc, char **argv)
     }
     printf("%lu calls: %llu done, %llu stopped, %llu refused by %lu rules; hash %016llX; %lu with another outcome if the session is lent\n", count,
            (unsigned long long)kinds[VS_DONE], (unsigned long long)kinds[VS_STOPPED], (unsigned long long)kinds[VS_REFUSED], rules, (unsigned long long)hash, differences);
-    return differences > 0 || (count >= COUNT && rules < 22);
+    return differences > 0 || (count >= COUNT && rules < 23);
 }

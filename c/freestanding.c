@@ -19,6 +19,7 @@ static const vs_context no_limit = {.limit = VS_NO_LIMIT};
 static const uint8_t vendor[16] = {1, 2, 3};
 static const uint8_t rate[] = {'R', 0, 'A', 0, 'T', 0, 'E', 0, 0, 0};
 static const vs_setup setup = {
+    .share = VS_WHOLE_SHARE(IMAGE),
     .rules = 1,
     .settings = {{.size = sizeof rate, .least = 4, .most = 4, .width = 4, .ranged = 1, .low = 1, .high = 250, .name = {'R', 0, 'A', 0, 'T', 0, 'E'}, .vendor = {1, 2, 3}}},
 };
@@ -79,9 +80,9 @@ static void names(void)
 static void locked(void)
 {
     const uint8_t data[4] = {250};
-    vs_plan plan = vs_plan_set(session, image, IMAGE, rate, sizeof rate, vendor, PLAIN, data, sizeof data, 0, VS_BY_NONE, content);
+    vs_plan plan = vs_plan_set(session, VS_OURS, image, IMAGE, rate, sizeof rate, vendor, PLAIN, data, sizeof data, 0, VS_BY_NONE, content);
     told(plan.rule == 0 && plan.deciding < VS_OPERATIONS && plan.operations[plan.deciding].kind == VS_MARK);
-    vs_listed listed = vs_lock(session, rate, sizeof rate, vendor);
+    vs_listed listed = vs_lock(session, VS_OURS, rate, sizeof rate, vendor);
     told(done(listed.answer, 0) && listed.session.count == 1);
     session = vs_phase(listed.session, VS_AFTER_END_OF_DXE);
     told(session.phase == VS_AFTER_END_OF_DXE && refused(set(250), VS_LOCKED) && rate_is(200));
@@ -178,11 +179,11 @@ static void lent(void)
     told(done(reply.answer, 0) && reply.size == 4 && buffer[0] == 7);
     reply = vs_next_name_lent(no_limit, &mine, image, IMAGE, rate, sizeof rate, vendor, buffer, sizeof buffer);
     told(refused(reply.answer, VS_ABSENT));
-    vs_plan plan = vs_plan_set_lent(&mine, image, IMAGE, rate, sizeof rate, vendor, PLAIN, data, 3, 0, VS_BY_NONE, content);
+    vs_plan plan = vs_plan_set_lent(&mine, VS_OURS, image, IMAGE, rate, sizeof rate, vendor, PLAIN, data, 3, 0, VS_BY_NONE, content);
     told(plan.rule == VS_SETTING);
-    told(done(vs_lock_lent(&mine, rate, sizeof rate, vendor), 0) && mine.count == 1);
+    told(done(vs_lock_lent(&mine, VS_OURS, rate, sizeof rate, vendor), 0) && mine.count == 1);
     vs_phase_lent(&mine, VS_AFTER_END_OF_DXE);
-    told(mine.phase == VS_AFTER_END_OF_DXE && refused(vs_lock_lent(&mine, rate, sizeof rate, vendor), VS_LOCK_PHASE) && mine.count == 1);
+    told(mine.phase == VS_AFTER_END_OF_DXE && refused(vs_lock_lent(&mine, VS_OURS, rate, sizeof rate, vendor), VS_LOCK_PHASE) && mine.count == 1);
     told(refused(vs_set_lent(no_limit, &mine, image, IMAGE, rate, sizeof rate, vendor, PLAIN, data, sizeof data, 0, VS_BY_NONE, content), VS_LOCKED));
 }
 

@@ -1,7 +1,7 @@
 /* A host of the variable store.
  *
- *   host         a small flash part: set, append, delete, power cuts in a compaction, a byte that dies, pages, hardware error records, and settings that
- *                must make sense
+ *   host         a small flash part: set, append, delete, power cuts in a compaction, a byte that dies, pages, hardware error records, settings that
+ *                must make sense, and a modem in the same image
  *   host IMAGE   lists the variables of an image file
  *
  * It shows how a firmware's variable driver is built on varstore.h: start up at every power-on, keep the session, ask with an empty buffer first, and carry
@@ -13,12 +13,19 @@
 
 #include "varstore_uefi.h"
 
-#if VS_INTERFACE != 7
-#error "this host knows the operations of interface 7"
+#if VS_INTERFACE != 8
+#error "this host knows the operations of interface 8"
 #endif
 
-static const vs_context no_limit = {.limit = VS_NO_LIMIT};
-static vs_setup setup = {0}; /* no custom mode, no reserve; bytes for error records, and rules for settings, where the story comes to them */
+enum { BLOCK = VS_BLOCK, PART = BLOCK * 3, PLAIN = VS_NV | VS_BOOT_ACCESS | VS_RUNTIME_ACCESS };
+
+/* No custom mode, no reserve, and all that there is for variables ours. Bytes for error records, rules for settings and a modem's share where the story comes to
+ * them. */
+#define ALL_OURS {.share = VS_WHOLE_SHARE(PART)}
+static vs_setup setup = ALL_OURS;
+
+/* What a call of a side takes besides its own arguments. */
+static vs_context by(uint32_t side) { return (vs_context){.limit = VS_NO_LIMIT, .side = side}; }
 
 static int told(const char *what, vs_answer answer)
 {
@@ -42,14 +49,14 @@ static void print_name(const uint8_t *name, size_t size)
 }
 
 /* As UEFI hosts do: the size is asked for with an empty buffer, then the data are fetched. */
-static int print_value(const vs_session *session, const uint8_t *image, size_t length, const uint8_t *named, size_t size)
+static int print_value(uint32_t side, const vs_session *session, const uint8_t *image, size_t length, const uint8_t *named, size_t size)
 {
     uint8_t data[VS_LARGEST_DATA];
-    vs_reply asked = vs_get_lent(no_limit, session, image, length, named + 16, size - 16, named, data, 0);
+    vs_reply asked = vs_get_lent(by(side), session, image, length, named + 16, size - 16, named, data, 0);
     if (asked.answer.kind != VS_REFUSED || asked.answer.rule != VS_BUFFER) {
         return told("size", asked.answer) | 1;
     }
-    vs_reply got = vs_get_lent(no_limit, session, image, length, named + 16, size - 16, named, data, asked.needed);
+    vs_reply got = vs_get_lent(by(side), session, image, length, named + 16, size - 16, named, data, asked.needed);
     if (told("get", got.answer)) {
         return 1;
     }
@@ -62,15 +69,26 @@ static int print_value(const vs_session *session, const uint8_t *image, size_t l
     return 0;
 }
 
-/* The variables of a vendor, or with NULL all of them, in flash order. */
-static int list_of(const uint8_t *vendor, const vs_session *session, const uint8_t *image, size_t length)
+/* The name alone, after a space. */
+static int print_named(uint32_t side, const vs_session *session, const uint8_t *image, size_t length, const uint8_t *named, size_t size)
+{
+    (void)side, (void)session, (void)image, (void)length;
+    putchar(' ');
+    print_name(named + 16, size - 16);
+    return 0;
+}
+
+typedef int printing(uint32_t side, const vs_session *session, const uint8_t *image, size_t length, const uint8_t *named, size_t size);
+
+/* A side's variables of a vendor, or with NULL all of them, in flash order. The other side's are not shown. */
+static int list_by(printing *print, uint32_t side, const uint8_t *vendor, const vs_session *session, const uint8_t *image, size_t length)
 {
     /* a vendor GUID and a name; the empty name begins */
     uint8_t named[VS_LARGEST_NAMED] = {0};
     size_t size = 16 + 2;
     for (;;) {
         uint8_t next[VS_LARGEST_NAMED];
-        vs_reply reply = vs_next_name_lent(no_limit, session, image, length, named + 16, size - 16, named, next, sizeof next);
+        vs_reply reply = vs_next_name_lent(by(side), session, image, length, named + 16, size - 16, named, next, sizeof next);
         if (reply.answer.kind == VS_REFUSED && reply.answer.rule == VS_ABSENT) {
             return 0;
         }
@@ -79,10 +97,15 @@ static int list_of(const uint8_t *vendor, const vs_session *session, const uint8
         }
         size = reply.size;
         memcpy(named, next, size);
-        if ((vendor == NULL || memcmp(named, vendor, 16) == 0) && print_value(session, image, length, named, size)) {
+        if ((vendor == NULL || memcmp(named, vendor, 16) == 0) && print(side, session, image, length, named, size)) {
             return 1;
         }
     }
+}
+
+static int list_of(const uint8_t *vendor, const vs_session *session, const uint8_t *image, size_t length)
+{
+    return list_by(print_value, VS_OURS, vendor, session, image, length);
 }
 
 static int list(const vs_session *session, const uint8_t *image, size_t length) { return list_of(NULL, session, image, length); }
@@ -104,6 +127,7 @@ static int list_file(const char *path)
     printf("%u block%s, free from %u\n", (unsigned)checked.blocks, checked.blocks == 1 ? "" : "s", (unsigned)checked.tail);
     static vs_session session;
     session.setup = setup;
+    memset(session.setup.modem.vendor, 0xFF, sizeof session.setup.modem.vendor); /* nobody's, so that every variable of the file is ours */
     vs_session_fresh(&session);
     return list(&session, image, length);
 }
@@ -114,8 +138,6 @@ static int list_file(const char *path)
  * This part is played: its power fails when so many stores are complete, before the next one begins or inside it; and one of its bytes may have died, which
  * it does not tell: bits that are to fall there stay. A program stores up to `width` bytes within one page, and counts as one store.
  */
-
-enum { BLOCK = VS_BLOCK, PART = BLOCK * 3, PLAIN = VS_NV | VS_BOOT_ACCESS | VS_RUNTIME_ACCESS };
 
 static struct {
     uint8_t bytes[PART];
@@ -286,7 +308,7 @@ static vs_answer power_on(vs_session *session)
     memcpy(image, part.bytes, PART);
     session->setup = setup;
     vs_session_fresh(session);
-    vs_plan plan = vs_plan_start_up(image, PART, content);
+    vs_plan plan = vs_plan_start_up_lent(session, image, PART, content);
     return carry_out(&plan);
 }
 
@@ -305,18 +327,18 @@ static size_t utf16(const char *text, uint8_t *name)
     }
 }
 
-/* A variable, its name in ASCII. */
-static vs_answer set_of(const uint8_t *vendor, const vs_session *session, const char *text, uint32_t attributes, const void *data, size_t size)
+/* A variable, its name in ASCII, set by a side. */
+static vs_answer set_by(uint32_t side, const uint8_t *vendor, const vs_session *session, const char *text, uint32_t attributes, const void *data, size_t size)
 {
     uint8_t name[VS_LARGEST_NAME];
     size_t name_size = utf16(text, name);
-    vs_plan plan = vs_plan_set_lent(session, image, PART, name, name_size, vendor, attributes, data, size, 0, VS_BY_NONE, content);
+    vs_plan plan = vs_plan_set_lent(session, side, image, PART, name, name_size, vendor, attributes, data, size, 0, VS_BY_NONE, content);
     return carry_out(&plan);
 }
 
 static vs_answer set(const vs_session *session, const char *text, uint32_t attributes, const void *data, size_t size)
 {
-    return set_of(our_vendor, session, text, attributes, data, size);
+    return set_by(VS_OURS, our_vendor, session, text, attributes, data, size);
 }
 
 /* ---- a small story */
@@ -333,7 +355,7 @@ static int rate(const vs_session *session)
 {
     uint8_t name[VS_LARGEST_NAME], data[4];
     size_t name_size = utf16("RATE", name);
-    vs_reply got = vs_get_lent(no_limit, session, image, PART, name, name_size, our_vendor, data, sizeof data);
+    vs_reply got = vs_get_lent(by(VS_OURS), session, image, PART, name, name_size, our_vendor, data, sizeof data);
     return got.answer.kind == VS_DONE ? data[0] : -1;
 }
 
@@ -461,7 +483,7 @@ static vs_answer log_fault(const vs_session *session, unsigned number)
     char text[16];
     const uint8_t fault[12] = {0x00, 0x10, 0x32, 0x54, 0x76, 0x00, 0x00, 0x00, 0x40, 0x00, 0x00, (uint8_t)number};
     snprintf(text, sizeof text, "HwErrRec%04X", number % 0x10000);
-    return set_of(record_vendor, session, text, PLAIN | VS_ERROR_RECORD, fault, sizeof fault);
+    return set_by(VS_OURS, record_vendor, session, text, PLAIN | VS_ERROR_RECORD, fault, sizeof fault);
 }
 
 /* The power fails in the compaction that logging makes, when so many stores are complete, or inside the next one; then it comes back, and the records are read. */
@@ -480,8 +502,8 @@ static void cut_log(const uint8_t *before, unsigned number, uint64_t complete, i
     list_of(record_vendor, &session, image, PART);
 }
 
-/* Two records of 100 bytes take all that there is for them; settings may take the rest of the region, and no more: TRACE takes 2,120 and NOTES with 1,677 bytes
- * 1,752, and 28 + 2,120 + 1,752 + 200 = 4,100 is more than the block has, with a byte less 4,096 is not. What is logged is there when the station is opened after
+/* Two records of 100 bytes take all that there is for them; our share is the rest of the region, 4,096 - 28 - 200 = 3,868 bytes: TRACE takes 2,120 and NOTES with
+ * 1,677 bytes 1,752, together 3,872, which is more, and with a byte less 3,868, which is not. What is logged is there when the station is opened after
  * its death; tools/records reads it from a dump. */
 static void records(vs_session *session)
 {
@@ -489,6 +511,7 @@ static void records(vs_session *session)
     static uint8_t kept[PART];
     part.width = 1;
     setup.records = 200;
+    setup.share = VS_WHOLE_SHARE(PART) - setup.records;
     printf("%u bytes for hardware error records\n", (unsigned)setup.records);
     print_answer("format", format());
     print_answer("start-up", power_on(session));
@@ -499,9 +522,9 @@ static void records(vs_session *session)
     print_answer("log fault 1", log_fault(session, 1));
     printf("free from %u\n", (unsigned)vs_check(image, PART).tail);
     print_answer("log fault 2", log_fault(session, 2));
-    print_answer("set HwErrRec0002 as a setting", set_of(record_vendor, session, "HwErrRec0002", PLAIN, notes, 12));
+    print_answer("set HwErrRec0002 as a setting", set_by(VS_OURS, record_vendor, session, "HwErrRec0002", PLAIN, notes, 12));
     list_of(record_vendor, session, image, PART);
-    print_answer("delete HwErrRec0000", set_of(record_vendor, session, "HwErrRec0000", 0, notes, 0));
+    print_answer("delete HwErrRec0000", set_by(VS_OURS, record_vendor, session, "HwErrRec0000", 0, notes, 0));
     memcpy(kept, part.bytes, PART);
     print_answer("log fault 2", log_fault(session, 2));
     cut_log(kept, 2, 4097, 1);
@@ -543,13 +566,14 @@ static void settings(vs_session *session)
 {
     static const uint8_t serial[8] = {'G', 'T', '-', '0', '0', '4', '1', '7'};
     static const uint8_t stopped[4] = {0}, slow[4] = {10}, fast[4] = {200}, between[4] = {60}, yes = 1, maybe = 2;
-    setup = (vs_setup){0};
+    setup = (vs_setup)ALL_OURS;
     printf("settings that must make sense\n");
     print_answer("format", format());
     print_answer("start-up without rules", power_on(session));
     print_answer("set SerialNumber", set(session, "SerialNumber", PLAIN, serial, sizeof serial));
     print_answer("set SampleRate to 0", set(session, "SampleRate", PLAIN, stopped, sizeof stopped));
     setup = with_rules;
+    setup.share = VS_WHOLE_SHARE(PART);
     print_answer("start-up with rules", power_on(session));
     list(session, image, PART);
     change(session, "set SampleRate to 0", "SampleRate", PLAIN, stopped, sizeof stopped);
@@ -565,6 +589,130 @@ static void settings(vs_session *session)
     change(session, "set SerialNumber to the same", "SerialNumber", PLAIN, serial, sizeof serial);
     change(session, "delete SerialNumber", "SerialNumber", 0, serial, 0);
     list(session, image, PART);
+}
+
+/* ---- a modem in the same image
+ *
+ * Names under its GUID are the modem's, and of the region's 4,096 bytes 1,000 are for them, 200 for hardware error records, and the rest ours. What the modem asks the
+ * host carries out as its own calls, but with the modem's side.
+ */
+
+static const uint8_t modem_vendor[16] = {0x4D, 0x4F, 0x44, 0x45, 0x4D};
+
+/* The setup with these shares, and ours the rest. */
+static vs_setup shared(uint32_t modem_share, uint32_t records)
+{
+    vs_setup with = {.share = VS_WHOLE_SHARE(PART) - modem_share - records, .records = records, .modem = {.share = modem_share}};
+    memcpy(with.modem.vendor, modem_vendor, sizeof modem_vendor);
+    return with;
+}
+
+static vs_answer modem_sets(const vs_session *session, const char *text, const void *data, size_t size)
+{
+    return set_by(VS_MODEM, modem_vendor, session, text, PLAIN, data, size);
+}
+
+static vs_answer lock_by(uint32_t side, const uint8_t *vendor, vs_session *session, const char *text)
+{
+    uint8_t name[VS_LARGEST_NAME];
+    size_t name_size = utf16(text, name);
+    return vs_lock_lent(session, side, name, name_size, vendor);
+}
+
+static vs_answer get_by(uint32_t side, const uint8_t *vendor, const vs_session *session, const char *text)
+{
+    uint8_t name[VS_LARGEST_NAME], data[VS_LARGEST_DATA];
+    size_t name_size = utf16(text, name);
+    return vs_get_lent(by(side), session, image, PART, name, name_size, vendor, data, sizeof data).answer;
+}
+
+static void print_room(const char *whose, uint32_t side, const vs_session *session)
+{
+    vs_room room = vs_query_lent(by(side), session, image, PART, PLAIN);
+    printf("%s room: %u bytes of %u\n", whose, (unsigned)room.remaining, (unsigned)room.storage);
+}
+
+/* A log of the modem: with a name of 12 bytes and 128 of data it takes 60 + 12 + 128 = 200, so five take its share. The log that is one too many is refused, and
+ * what the modem has stored alters nothing for us. */
+static void fills_its_share(vs_session *session)
+{
+    static const uint8_t log[128] = {3}, rate_data[4] = {50}, note[600] = {4};
+    print_answer("set RATE", set(session, "RATE", PLAIN, rate_data, sizeof rate_data));
+    print_room("our", VS_OURS, session);
+    for (unsigned i = 0; i < 6; i++) {
+        char text[8], what[32];
+        snprintf(text, sizeof text, "LOG%02u", i);
+        snprintf(what, sizeof what, "the modem sets %s", text);
+        print_answer(what, modem_sets(session, text, log, sizeof log));
+    }
+    print_room("the modem's", VS_MODEM, session);
+    print_room("our", VS_OURS, session);
+    print_answer("set NOTE", set(session, "NOTE", PLAIN, note, sizeof note));
+    print_answer("log fault 0", log_fault(session, 0));
+}
+
+/* Neither side reads, changes or locks what is the other's, and next-name shows each its own. */
+static void names_the_others(vs_session *session)
+{
+    static const uint8_t none[1];
+    print_answer("the modem gets RATE", get_by(VS_MODEM, our_vendor, session, "RATE"));
+    print_answer("the modem deletes RATE", set_by(VS_MODEM, our_vendor, session, "RATE", 0, none, 0));
+    print_answer("the modem deletes HwErrRec0000", set_by(VS_MODEM, record_vendor, session, "HwErrRec0000", 0, none, 0));
+    print_answer("the modem locks RATE", lock_by(VS_MODEM, our_vendor, session, "RATE"));
+    print_answer("delete LOG00", set_by(VS_OURS, modem_vendor, session, "LOG00", 0, none, 0));
+    printf("names that we are shown:");
+    list_by(print_named, VS_OURS, NULL, session, image, PART);
+    printf("\nnames that the modem is shown:");
+    list_by(print_named, VS_MODEM, NULL, session, image, PART);
+    putchar('\n');
+}
+
+/* Each side has eight locks. */
+static void locks_its_own(vs_session *session)
+{
+    unsigned taken = 0;
+    char text[8];
+    do {
+        snprintf(text, sizeof text, "KEY%u", taken);
+    } while (lock_by(VS_MODEM, modem_vendor, session, text).kind == VS_DONE && ++taken < 16);
+    printf("locks that the modem has: %u; ", taken);
+    print_answer("one more", lock_by(VS_MODEM, modem_vendor, session, text));
+    print_answer("lock RATE", lock_by(VS_OURS, our_vendor, session, "RATE"));
+}
+
+/* A start-up with new shares. Refused VS_SIDE nothing has been stored, and the host goes on with the shares that it had, which the values keep to; whoever changed them
+ * is told. */
+static void share_anew(vs_session *session, const char *what, uint32_t modem_share, uint32_t records)
+{
+    vs_setup before = setup;
+    setup = shared(modem_share, records);
+    vs_answer answer = power_on(session);
+    print_answer(what, answer);
+    if (answer.kind == VS_REFUSED && answer.rule == VS_SIDE) {
+        setup = before;
+        print_answer("  start-up with the shares as before", power_on(session));
+    }
+}
+
+static void tenant(vs_session *session)
+{
+    static const uint8_t none[1];
+    setup = shared(1000, 200);
+    printf("a modem in the same image: %u bytes are its, %u for error records, %u ours\n", (unsigned)setup.modem.share, (unsigned)setup.records, (unsigned)setup.share);
+    print_answer("format", format());
+    print_answer("start-up", power_on(session));
+    fills_its_share(session);
+    names_the_others(session);
+    locks_its_own(session);
+    setup.modem.share = 1001;
+    print_answer("start-up, a byte more for the modem and none less for us", power_on(session));
+    setup.modem.share = 1000;
+    share_anew(session, "start-up, 600 bytes for the modem, whose logs take 1,000", 600, 200);
+    print_answer("the modem deletes LOG00", modem_sets(session, "LOG00", none, 0));
+    print_answer("the modem deletes LOG01", modem_sets(session, "LOG01", none, 0));
+    share_anew(session, "start-up, 600 bytes for the modem", 600, 200);
+    print_room("the modem's", VS_MODEM, session);
+    print_room("our", VS_OURS, session);
 }
 
 /* A compaction of one block makes 8,197 stores; number 4,098 decides. */
@@ -588,6 +736,7 @@ static int story(void)
     pages(&session);
     records(&session);
     settings(&session);
+    tenant(&session);
     printf("dead bytes found: %u, at %u and %u\n", (unsigned)known.count, (unsigned)known.dead[0], (unsigned)known.dead[1]);
     return memcmp(image, part.bytes, PART) != 0;
 }
@@ -601,7 +750,8 @@ int main(int argc, char **argv)
         fprintf(stderr,
                 "usage: host [IMAGE]\n"
                 "  with IMAGE: lists the variables of an image file: name, attributes, data\n"
-                "  without: a small flash part, power cuts in a compaction, a byte that dies, pages, hardware error records, and settings that must make sense\n");
+                "  without: a small flash part, power cuts in a compaction, a byte that dies, pages, hardware error records, settings that must\n"
+                "  make sense, and a modem in the same image\n");
         return 2;
     }
     return list_file(argv[1]);

@@ -4,7 +4,7 @@
  *   own     from the return address that the call instruction pushes, which is counted in, down to the deepest byte that was written, but for the copies
  *   copies  of these bytes those in which the call has copied the table of rules, which is most of a session: 6,912 for each place where it was
  *   total   both with the frame of a caller on top that does nothing else: what it holds for the call are arguments and results that go by value (a session
- *           is 9,304 bytes, a result with a session 9,320, a setup 6,928, a plan 400), and arguments that found no register
+ *           is 9,332 bytes, a result with a session 9,352, a setup 6,956, a plan 400), and arguments that found no register
  *
  * The caller's frame is measured, not reckoned: the same caller calls, on a stack of the same kind, a function that only returns. So are the copies: each rule is
  * known by its bytes, and two that stand as far apart as in the table tell where it was; a call may have written over the others.
@@ -20,10 +20,10 @@
 
 #include "varstore.h"
 
-enum { BLOCKS = 7, IMAGE = VS_LARGEST_IMAGE, STACK = 1 << 18, PAINT = 0xC5, ADDRESS = 8, OWN = 6 * 1024, ALL = 23 * 1024, LOCK = 28 * 1024, READS = 4 * 1024, WRITES = 6 * 1024, PLAIN = VS_NV | VS_BOOT_ACCESS };
+enum { BLOCKS = 7, IMAGE = VS_LARGEST_IMAGE, STACK = 1 << 18, PAINT = 0xC5, ADDRESS = 8, OWN = 6 * 1024 + 512, ALL = 23 * 1024, LOCK = 28 * 1024, READS = 4 * 1024, WRITES = 6 * 1024, PLAIN = VS_NV | VS_BOOT_ACCESS };
 
 static const vs_context no_limit = {.limit = VS_NO_LIMIT};
-static vs_setup setup; /* no custom mode, no reserve, no bytes for error records, and as many rules as there may be */
+static vs_setup setup; /* no custom mode, no reserve, no bytes for error records, a modem with nothing, and as many rules as there may be */
 static const uint8_t vendor[16] = {1}, zeros[2048];
 static uint8_t image[IMAGE], plain[IMAGE], buffer[2048], content[VS_CONTENT], stack[STACK];
 static vs_session session, made;
@@ -65,6 +65,7 @@ static const uint8_t *named(unsigned i)
 static void lay_rules(void)
 {
     static const unsigned for_names[] = {FIRST, FREE};
+    setup.share = VS_WHOLE_SHARE(IMAGE);
     setup.rules = RULES;
     for (uint32_t i = 0; i < RULES; i++) {
         vs_setting rule = {.size = VS_LARGEST_NAME, .least = 1, .most = VS_LARGEST_DATA, .width = 1, .count = 8, .numbers = {9, 8, 7, 6, 5, 4, 3, 0}};
@@ -120,13 +121,13 @@ static void enter(void) { begin = (uint8_t *)__builtin_frame_address(0) + ABOVE;
 static void check(void) { answer = CALL(vs_check)(image, IMAGE).answer; }
 static void new_session(void) { made = CALL(vs_session_new)(setup); }
 static void phase(void) { made = CALL(vs_phase)(session, VS_RUNTIME); }
-static void lock(void) { listed = CALL(vs_lock)(session, name, sizeof name, vendor); }
+static void lock(void) { listed = CALL(vs_lock)(session, VS_OURS, name, sizeof name, vendor); }
 static void get(void) { answer = CALL(vs_get)(no_limit, session, image, IMAGE, name, sizeof name, vendor, buffer, sizeof buffer).answer; }
 static void next_name(void) { answer = CALL(vs_next_name)(no_limit, session, image, IMAGE, zeros, 2, vendor, buffer, sizeof buffer).answer; }
 static void format(void) { answer = CALL(vs_format)(no_limit, image, IMAGE, content); }
 static void plan_format(void) { plan = CALL(vs_plan_format)(image, IMAGE, content); }
 static void start_up(void) { started = CALL(vs_start_up)(no_limit, image, IMAGE, setup, content); }
-static void plan_start_up(void) { plan = CALL(vs_plan_start_up)(image, IMAGE, content); }
+static void plan_start_up(void) { plan = CALL(vs_plan_start_up)(image, IMAGE, setup, content); }
 static void to_plain(void) { answer = CALL(vs_to_plain)(image, IMAGE, plain, IMAGE); }
 static void from_plain(void) { answer = CALL(vs_from_plain)(plain, IMAGE, image, IMAGE); }
 
@@ -137,17 +138,19 @@ static void set(void)
 
 static void plan_set(void)
 {
-    plan = CALL(vs_plan_set)(session, image, IMAGE, name, sizeof name, vendor, attributes, zeros, size, 0, VS_BY_NONE, content);
+    plan = CALL(vs_plan_set)(session, VS_OURS, image, IMAGE, name, sizeof name, vendor, attributes, zeros, size, 0, VS_BY_NONE, content);
 }
 
 static void session_fresh(void) { CALL(vs_session_fresh)(&session); }
 static void phase_lent(void) { CALL(vs_phase_lent)(&session, VS_RUNTIME); }
-static void lock_lent(void) { answer = CALL(vs_lock_lent)(&session, name, sizeof name, vendor); }
+static void lock_lent(void) { answer = CALL(vs_lock_lent)(&session, VS_OURS, name, sizeof name, vendor); }
 static void query(void) { answer = CALL(vs_query)(no_limit, session, image, IMAGE, PLAIN).answer; }
 static void query_lent(void) { answer = CALL(vs_query_lent)(no_limit, &session, image, IMAGE, PLAIN).answer; }
 static void get_lent(void) { answer = CALL(vs_get_lent)(no_limit, &session, image, IMAGE, name, sizeof name, vendor, buffer, sizeof buffer).answer; }
 static void next_lent(void) { answer = CALL(vs_next_name_lent)(no_limit, &session, image, IMAGE, zeros, 2, vendor, buffer, sizeof buffer).answer; }
 static void start_up_lent(void) { answer = CALL(vs_start_up_lent)(no_limit, image, IMAGE, &session, content); }
+
+static void plan_start_up_lent(void) { plan = CALL(vs_plan_start_up_lent)(&session, image, IMAGE, content); }
 
 static void set_lent(void)
 {
@@ -156,7 +159,7 @@ static void set_lent(void)
 
 static void plan_set_lent(void)
 {
-    plan = CALL(vs_plan_set_lent)(&session, image, IMAGE, name, sizeof name, vendor, attributes, zeros, size, 0, VS_BY_NONE, content);
+    plan = CALL(vs_plan_set_lent)(&session, VS_OURS, image, IMAGE, name, sizeof name, vendor, attributes, zeros, size, 0, VS_BY_NONE, content);
 }
 
 /* The bytes of the stack that a caller and what it calls have used. */
@@ -241,13 +244,14 @@ static const measured calls[] = {
     {"vs_plan_set_lent in the tail", plan_set_lent, 0, 60, PLANNED, FREE, PLAIN, 1, WRITES},
     {"vs_plan_set_lent that compacts", plan_set_lent, 1000, 50000, PLANNED, FIRST, PLAIN, 1000, WRITES},
     {"vs_plan_set_lent, appends", plan_set_lent, 2048, 50000, PLANNED, FIRST, PLAIN | VS_APPEND, 1024, WRITES},
+    {"vs_plan_start_up_lent, compacts", plan_start_up_lent, 0, 50000, PLANNED, 0, 0, 0, WRITES},
 };
 
 /* All is laid ready; a start-up finds a byte in the tail that no entry accounts for, and a move from the plain form what one to it has left. */
 static void prepare(const measured *m)
 {
     fill(m->filled ? m->filled : 4096 * BLOCKS - 4096);
-    if (m->caller == start_up || m->caller == plan_start_up || m->caller == start_up_lent) {
+    if (m->caller == start_up || m->caller == plan_start_up || m->caller == start_up_lent || m->caller == plan_start_up_lent) {
         image[4096 * BLOCKS - 1] = 0;
     }
     if (m->caller == from_plain) {

@@ -22,11 +22,13 @@
 #define VS_EFI_WRITE_PROTECTED VS_EFI_ERROR(8)
 #define VS_EFI_OUT_OF_RESOURCES VS_EFI_ERROR(9)
 #define VS_EFI_NOT_FOUND VS_EFI_ERROR(14)
+#define VS_EFI_ACCESS_DENIED VS_EFI_ERROR(15)
 #define VS_EFI_SECURITY_VIOLATION VS_EFI_ERROR(26)
 
 /* ---- Statuses */
 
-/* The EFI_STATUS for a rule, that of varstore.h's list; 0 is no rule, EFI_SUCCESS. For VS_SETTING it is EFI_INVALID_PARAMETER: see vs_uefi_read_only. */
+/* The EFI_STATUS for a rule, that of varstore.h's list; 0 is no rule, EFI_SUCCESS. For VS_SETTING it is EFI_INVALID_PARAMETER: see vs_uefi_read_only. For VS_SIDE it is
+ * EFI_ACCESS_DENIED, since the variable may be there and is not the caller's; a start-up has no caller: see vs_uefi_started. */
 static inline uint64_t vs_uefi_status(uint32_t rule)
 {
     switch (rule) {
@@ -55,6 +57,8 @@ static inline uint64_t vs_uefi_status(uint32_t rule)
         return VS_EFI_OUT_OF_RESOURCES;
     case VS_BUFFER:
         return VS_EFI_BUFFER_TOO_SMALL;
+    case VS_SIDE:
+        return VS_EFI_ACCESS_DENIED;
     case VS_TIME_BASED_VALUE:
         return VS_EFI_UNSUPPORTED;
     default: /* VS_LENGTH, VS_UNREADY, VS_SOURCE, VS_WORN */
@@ -66,6 +70,12 @@ static inline uint64_t vs_uefi_status(uint32_t rule)
 static inline uint64_t vs_uefi_answer(vs_answer answer)
 {
     return answer.kind == VS_DONE ? VS_EFI_SUCCESS : answer.kind == VS_REFUSED ? vs_uefi_status(answer.rule) : VS_EFI_DEVICE_ERROR;
+}
+
+/* The same of the rule that a start-up, or its plan, has broken: VS_SIDE is EFI_INVALID_PARAMETER then, since the shares of its setup are at fault and not the part. */
+static inline uint64_t vs_uefi_started(uint32_t rule)
+{
+    return rule == VS_SIDE ? VS_EFI_INVALID_PARAMETER : vs_uefi_status(rule);
 }
 
 /* Whether a rule of the setup makes a name read-only. A set that is refused VS_SETTING then returns EFI_WRITE_PROTECTED. */
@@ -136,6 +146,8 @@ static inline const char *vs_uefi_text(uint32_t rule)
         return "a value with time-based authentication";
     case VS_SETTING:
         return "its rules forbid it";
+    case VS_SIDE:
+        return "the other side's name, or shares that do not fit";
     case VS_WORN:
         return "a byte no longer clears";
     default:

@@ -23,7 +23,7 @@ static const uint8_t rate[] = {'R', 0, 'A', 0, 'T', 0, 'E', 0, 0, 0};
 static const uint8_t old_rate[4] = {100}, new_rate[4] = {200};
 
 static uint8_t image[SMALL], full[SMALL], part[SMALL], other[SMALL], large[LARGE], content[VS_CONTENT];
-static vs_session session; /* its setup: no custom mode, no reserve, no bytes for error records, no rules for settings */
+static vs_session session; /* its setup: no custom mode, no reserve, no bytes for error records, no modem, no rules for settings; our share is all there is */
 static unsigned checked, wrong;
 
 /* ---- what is asked of each answer */
@@ -91,6 +91,7 @@ static vs_answer set_rate(uint64_t limit, uint8_t *store, const uint8_t *data)
 
 static vs_answer start_up(uint8_t *store, size_t length)
 {
+    session.setup.share = VS_WHOLE_SHARE(length);
     return vs_start_up_lent(no_limit, store, length, &session, content);
 }
 
@@ -195,7 +196,7 @@ static void carry_out(const vs_plan *plan, uint64_t count)
 
 static vs_plan plan_rate(uint32_t attributes, const uint8_t *data, size_t size)
 {
-    return vs_plan_set_lent(&session, part, SMALL, rate, sizeof rate, vendor, attributes, data, size, 0, VS_BY_NONE, content);
+    return vs_plan_set_lent(&session, VS_OURS, part, SMALL, rate, sizeof rate, vendor, attributes, data, size, 0, VS_BY_NONE, content);
 }
 
 /* A plan carried out gives the image that the call gives; carried out up to its deciding operation it is undone, with it done. */
@@ -222,7 +223,7 @@ static void planned_start_up(void)
     CopyMem(part, full, SMALL);
     set_rate(6000, part, new_rate);
     CopyMem(other, part, SMALL);
-    vs_plan plan = vs_plan_start_up(part, SMALL, content);
+    vs_plan plan = vs_plan_start_up_lent(&session, part, SMALL, content);
     told("a start-up's plan", plan.rule == 0 && plan.deciding == VS_OPERATIONS);
     carry_out(&plan, VS_OPERATIONS);
     uint64_t made = stores;

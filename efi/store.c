@@ -16,7 +16,7 @@
 enum { LONGEST = 2 * (VS_LARGEST_DATA + 256) };
 
 static const vs_context no_limit = {.limit = VS_NO_LIMIT};
-static vs_session session; /* its setup: no custom mode, no reserve, no bytes for error records, no rules for settings */
+static vs_session session; /* its setup: no custom mode, no reserve, no bytes for error records, no modem, no rules for settings; our share is all there is */
 static uint8_t image[VS_LARGEST_IMAGE + 1], content[VS_CONTENT];
 
 static void fail(const char *why)
@@ -134,6 +134,7 @@ int main(int argc, char **argv)
         fail("usage: store IMAGE [BLOCKS]");
     }
     size_t length = argc == 3 ? format((unsigned)atoi(argv[2])) : read_image(argv[1]);
+    session.setup.share = VS_WHOLE_SHARE(length);
     if (vs_start_up_lent(no_limit, image, length, &session, content).kind != VS_DONE) {
         fail("the start-up is refused");
     }

@@ -18,7 +18,7 @@
 
 #include "spi_nor.h"
 
-static const vs_context no_limit = {.limit = VS_NO_LIMIT};
+static const vs_context no_limit = {.limit = VS_NO_LIMIT}; /* and the side is ours: UEFI's services are the host's own; see uefi_driver.h */
 
 /* All memory that the driver needs besides its stack; nothing is allocated. In EDK II it is EfiRuntimeServicesData, or SMRAM. */
 static struct {
@@ -113,9 +113,9 @@ static uint64_t start_up(void)
     if (!spi_nor_read(0, driver.image, DRIVER_SIZE)) {
         return VS_EFI_DEVICE_ERROR;
     }
-    vs_plan plan = vs_plan_start_up(driver.image, DRIVER_SIZE, driver.content);
+    vs_plan plan = vs_plan_start_up_lent(&driver.session, driver.image, DRIVER_SIZE, driver.content);
     if (plan.rule != 0) {
-        return vs_uefi_status(plan.rule);
+        return vs_uefi_started(plan.rule);
     }
     if (!carry_out(&plan)) {
         return VS_EFI_DEVICE_ERROR;
@@ -206,8 +206,8 @@ DRIVER_API uint64_t driver_set_variable(const void *name, const void *vendor, ui
     const uint8_t *of = (const uint8_t *)vendor, *bytes = vs_uefi_bytes(data);
     size_t name_len = vs_uefi_name_size(name, SIZE_MAX);
     uint32_t verdict = verdict_of(name, vendor, attributes, data, data_size), presence = 0;
-    vs_plan plan = vs_plan_set_lent(&driver.session, driver.image, DRIVER_SIZE, (const uint8_t *)name, name_len, of, attributes, bytes, data_size, presence, verdict,
-                               driver.content);
+    vs_plan plan = vs_plan_set_lent(&driver.session, VS_OURS, driver.image, DRIVER_SIZE, (const uint8_t *)name, name_len, of, attributes, bytes, data_size, presence,
+                                    verdict, driver.content);
     if (plan.rule == VS_SETTING && vs_uefi_read_only(&driver.session.setup, (const uint8_t *)name, name_len, of)) {
         return VS_EFI_WRITE_PROTECTED;
     }
@@ -244,5 +244,5 @@ DRIVER_API uint64_t driver_request_to_lock(const void *name, const void *vendor)
     if (name == NULL || vendor == NULL) {
         return VS_EFI_INVALID_PARAMETER;
     }
-    return vs_uefi_answer(vs_lock_lent(&driver.session, (const uint8_t *)name, vs_uefi_name_size(name, SIZE_MAX), (const uint8_t *)vendor));
+    return vs_uefi_answer(vs_lock_lent(&driver.session, VS_OURS, (const uint8_t *)name, vs_uefi_name_size(name, SIZE_MAX), (const uint8_t *)vendor));
 }

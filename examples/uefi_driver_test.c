@@ -128,7 +128,7 @@ typedef struct {
 
 static value book[VALUES];
 static const uint8_t vendor[16] = {0x01, 0x02, 0x03, 0x04, 0x05, 0x06, 0x07, 0x08, 0x09, 0x0A, 0x0B, 0x0C, 0x0D, 0x0E, 0x0F, 0x10};
-static vs_setup setup;
+static vs_setup setup = {.share = DRIVER_SHARE};
 
 static void spell(const char *text, uint16_t name[NAME])
 {
@@ -453,11 +453,11 @@ static const uint16_t rate[] = {'R', 'A', 'T', 'E', 0}, none[] = {'N', 'O', 'N',
 
 static void services(void)
 {
+    static const uint8_t others[16] = {2}, zeros[16] = {0};
     uint8_t data[8] = {0}, of[16];
     uint16_t name[64] = {0}, longest[65];
     uint32_t attributes = 0;
     uint64_t size = 0;
-    memset(&setup, 0, sizeof setup);
     begin();
     DEMAND(driver_set_variable(rate, vendor, PLAIN, 4, "\x64\0\0\0") == VS_EFI_SUCCESS);
     DEMAND(driver_set_variable(none, vendor, BOOT_ONLY, 2, "ab") == VS_EFI_SUCCESS);
@@ -472,7 +472,9 @@ static void services(void)
     DEMAND(driver_get_variable(rate, vendor, NULL, &size, NULL) == VS_EFI_INVALID_PARAMETER);
     DEMAND(driver_get_variable(rate, vendor, NULL, NULL, data) == VS_EFI_INVALID_PARAMETER);
     DEMAND(driver_get_variable(NULL, vendor, NULL, &size, data) == VS_EFI_INVALID_PARAMETER);
-    DEMAND(driver_get_variable(rate, of, NULL, &size, data) == VS_EFI_NOT_FOUND);
+    DEMAND(driver_get_variable(rate, others, NULL, &size, data) == VS_EFI_NOT_FOUND);
+    /* a setup whose modem is left at zeros: so are the names that are the modem's */
+    DEMAND(driver_get_variable(rate, zeros, NULL, &size, data) == VS_EFI_ACCESS_DENIED);
     /* names: the empty one begins, and one that does not exist is no place to go on from */
     size = 2;
     DEMAND(driver_get_next_variable_name(&size, name, of) == VS_EFI_BUFFER_TOO_SMALL && size == 10 && name[0] == 0);
@@ -526,12 +528,50 @@ static void services(void)
     DEMAND(driver_set_variable(rate, vendor, PLAIN, 4, "\0\0\0\0") == VS_EFI_INVALID_PARAMETER);
     DEMAND(driver_set_variable(rate, vendor, PLAIN, 4, "\xC8\0\0\0") == VS_EFI_SUCCESS);
     DEMAND(driver_set_variable(none, vendor, BOOT_ONLY, 2, "ab") == VS_EFI_WRITE_PROTECTED && driver_set_variable(none, vendor, 0, 0, NULL) == VS_EFI_WRITE_PROTECTED);
-    memset(&setup, 0, sizeof setup);
+    setup.rules = 0;
+}
+
+/* A modem whose names are those under another GUID: our services do not show them, and its share comes off ours. */
+static void beside_a_modem(void)
+{
+    static const uint8_t modem[16] = {'M', 'O', 'D', 'E', 'M'};
+    static const vs_context modems = {.limit = VS_NO_LIMIT, .side = VS_MODEM};
+    uint8_t data[8], of[16];
+    uint16_t name[64] = {0};
+    uint64_t size = sizeof data, storage = 0, remaining = 0, largest = 0;
+    setup.share = DRIVER_SHARE - 1000;
+    setup.modem.share = 1000;
+    memcpy(setup.modem.vendor, modem, sizeof modem);
+    begin();
+    DEMAND(driver_set_variable(rate, vendor, PLAIN, 4, "\x64\0\0\0") == VS_EFI_SUCCESS);
+    vs_plan plan = vs_plan_set_lent(&driver.session, VS_MODEM, driver.image, DRIVER_SIZE, (const uint8_t *)rate, sizeof rate, modem, PLAIN, data, 0, 0, VS_BY_NONE, driver.content);
+    DEMAND(plan.rule == VS_ABSENT);
+    plan = vs_plan_set_lent(&driver.session, VS_MODEM, driver.image, DRIVER_SIZE, (const uint8_t *)rate, sizeof rate, modem, PLAIN, (const uint8_t *)"m", 1, 0, VS_BY_NONE, driver.content);
+    DEMAND(plan.rule == 0 && carry_out(&plan));
+    DEMAND(vs_get_lent(modems, &driver.session, driver.image, DRIVER_SIZE, (const uint8_t *)rate, sizeof rate, modem, data, sizeof data).size == 1 && data[0] == 'm');
+    /* our services name it in vain */
+    DEMAND(driver_get_variable(rate, modem, NULL, &size, data) == VS_EFI_ACCESS_DENIED && driver_set_variable(rate, modem, 0, 0, NULL) == VS_EFI_ACCESS_DENIED);
+    DEMAND(driver_request_to_lock(rate, modem) == VS_EFI_ACCESS_DENIED);
+    size = sizeof name;
+    DEMAND(driver_get_next_variable_name(&size, name, of) == VS_EFI_SUCCESS && memcmp(of, vendor, 16) == 0);
+    size = sizeof name;
+    DEMAND(driver_get_next_variable_name(&size, name, of) == VS_EFI_NOT_FOUND);
+    DEMAND(driver_query_variable_info(PLAIN, &storage, &remaining, &largest) == VS_EFI_SUCCESS && storage == 7164 && remaining == 7088 && largest == 2176);
+    /* shares that do not fit, and a modem's that its 72 bytes do not keep to; then as they were */
+    setup.modem.share = 1001;
+    DEMAND(power_on(forever) == VS_EFI_INVALID_PARAMETER && driver_get_variable(rate, vendor, NULL, &size, data) == VS_EFI_DEVICE_ERROR);
+    setup.modem.share = 71;
+    DEMAND(power_on(forever) == VS_EFI_INVALID_PARAMETER);
+    setup.modem.share = 72;
+    size = sizeof data;
+    DEMAND(power_on(forever) == VS_EFI_SUCCESS && driver_get_variable(rate, vendor, NULL, &size, data) == VS_EFI_SUCCESS && size == 4);
+    setup = (vs_setup){.share = DRIVER_SHARE};
 }
 
 int main(void)
 {
     services();
+    beside_a_modem();
     cut_sets();
     cut_at_random(1500);
     with_dead_bytes(40);
