@@ -14,7 +14,7 @@ pub struct Calls {
     pub check: fn(&[u8]) -> Checked,
     pub session_new: fn(&Setup) -> Session,
     pub phase: fn(Session, u32) -> Session,
-    pub lock: fn(Session, Key) -> Listed,
+    pub lock: fn(Session, u32, Key) -> Listed,
     pub get: Read,
     pub next_name: Read,
     pub set: fn(Context, &Session, &mut [u8], &Request) -> Answer,

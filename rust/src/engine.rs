@@ -3,7 +3,7 @@
 
 use std::mem::{offset_of, size_of};
 
-use crate::interface::{Answer, Checked, Context, Guid, Key, Listed, Reply, Request, Rule, Session, Setting, Setup, Started};
+use crate::interface::{Answer, Checked, Context, Guid, Key, Listed, Reply, Request, Rule, Session, Setting, Setup, Started, Tenant};
 use crate::plan::{Content, Operation, Plan, OPERATIONS};
 
 /// The C structures that are not part of the interface as they stand.
@@ -100,16 +100,18 @@ macro_rules! laid_out {
 }
 
 const _: () = assert!(size_of::<usize>() == 8 && size_of::<*const u8>() == 8);
-laid_out!(Context 80 limit 0 count 8 dead 12 width 76);
+laid_out!(Context 88 limit 0 count 8 dead 12 width 76 side 80);
 laid_out!(Setting 216 size 0 least 4 most 8 fixed 12 at 16 width 20 ranged 24 low 28 high 32 count 36 numbers 40 name 72 vendor 200);
-laid_out!(Setup 6928 custom 0 reserve 4 records 8 rules 12 settings 16);
-laid_out!(Session 9304 phase 0 setup 4 count 6932 sizes 6936 locks 7000);
+laid_out!(Tenant 24 share 0 reserve 4 vendor 8);
+laid_out!(Setup 6956 custom 0 reserve 4 records 8 share 12 modem 16 rules 40 settings 44);
+// with the padding of its alignment, which C's does not have
+laid_out!(Session 9336 phase 0 setup 4 count 6960 sizes 6964 locks 7028);
 laid_out!(RawAnswer 16 kind 0 rule 4 stores 8);
 laid_out!(RawReply 32 answer 0 size 16 attributes 20 needed 24);
 laid_out!(RawRoom 32 answer 0 storage 16 remaining 20 largest 24);
-laid_out!(RawListed 9320 answer 0 session 16);
+laid_out!(RawListed 9352 answer 0 session 16);
 laid_out!(RawChecked 24 answer 0 blocks 16 tail 20);
-laid_out!(RawStarted 9320 answer 0 session 16);
+laid_out!(RawStarted 9352 answer 0 session 16);
 laid_out!(RawOperation 32 kind 0 at 8 from 16 len 24);
 laid_out!(RawPlan 400 rule 0 deciding 8 operations 16);
 
@@ -123,11 +125,11 @@ macro_rules! of_form {
 }
 
 #[rustfmt::skip]
-of_form! { 7
+of_form! { 8
     fn vs_check(image: *const u8, image_len: usize) -> RawChecked;
     fn vs_session_new(setup: Setup) -> Session;
     fn vs_phase(session: Session, phase: u32) -> Session;
-    fn vs_lock(session: Session, name: *const u8, name_len: usize, vendor: *const Guid) -> RawListed;
+    fn vs_lock(session: Session, side: u32, name: *const u8, name_len: usize, vendor: *const Guid) -> RawListed;
     fn vs_get(context: Context, session: Session, image: *const u8, image_len: usize, name: *const u8, name_len: usize,
               vendor: *const Guid, buffer: *mut u8, buffer_len: usize) -> RawReply;
     fn vs_next_name(context: Context, session: Session, image: *const u8, image_len: usize, name: *const u8, name_len: usize,
@@ -139,15 +141,15 @@ of_form! { 7
     fn vs_start_up(context: Context, image: *mut u8, image_len: usize, setup: Setup, content: *mut Content) -> RawStarted;
     fn vs_from_plain(image: *const u8, image_len: usize, target: *mut u8, target_len: usize) -> RawAnswer;
     fn vs_to_plain(image: *const u8, image_len: usize, target: *mut u8, target_len: usize) -> RawAnswer;
-    fn vs_plan_set(session: Session, image: *const u8, image_len: usize, name: *const u8, name_len: usize, vendor: *const Guid,
+    fn vs_plan_set(session: Session, side: u32, image: *const u8, image_len: usize, name: *const u8, name_len: usize, vendor: *const Guid,
                    attributes: u32, data: *const u8, data_len: usize, presence: u32, verdict: u32, content: *mut Content) -> RawPlan;
-    fn vs_plan_start_up(image: *const u8, image_len: usize, content: *mut Content) -> RawPlan;
+    fn vs_plan_start_up(image: *const u8, image_len: usize, setup: Setup, content: *mut Content) -> RawPlan;
     fn vs_plan_format(image: *const u8, image_len: usize, content: *mut Content) -> RawPlan;
     fn vs_query(context: Context, session: Session, image: *const u8, image_len: usize, attributes: u32) -> RawRoom;
     fn vs_query_lent(context: Context, session: *const Session, image: *const u8, image_len: usize, attributes: u32) -> RawRoom;
     fn vs_session_fresh(session: *mut Session) -> ();
     fn vs_phase_lent(session: *mut Session, phase: u32) -> ();
-    fn vs_lock_lent(session: *mut Session, name: *const u8, name_len: usize, vendor: *const Guid) -> RawAnswer;
+    fn vs_lock_lent(session: *mut Session, side: u32, name: *const u8, name_len: usize, vendor: *const Guid) -> RawAnswer;
     fn vs_get_lent(context: Context, session: *const Session, image: *const u8, image_len: usize, name: *const u8, name_len: usize,
                    vendor: *const Guid, buffer: *mut u8, buffer_len: usize) -> RawReply;
     fn vs_next_name_lent(context: Context, session: *const Session, image: *const u8, image_len: usize, name: *const u8, name_len: usize,
@@ -156,7 +158,7 @@ of_form! { 7
                    vendor: *const Guid, attributes: u32, data: *const u8, data_len: usize, presence: u32, verdict: u32,
                    content: *mut Content) -> RawAnswer;
     fn vs_start_up_lent(context: Context, image: *mut u8, image_len: usize, session: *mut Session, content: *mut Content) -> RawAnswer;
-    fn vs_plan_set_lent(session: *const Session, image: *const u8, image_len: usize, name: *const u8, name_len: usize, vendor: *const Guid,
+    fn vs_plan_set_lent(session: *const Session, side: u32, image: *const u8, image_len: usize, name: *const u8, name_len: usize, vendor: *const Guid,
                         attributes: u32, data: *const u8, data_len: usize, presence: u32, verdict: u32, content: *mut Content) -> RawPlan;
 }
 
@@ -209,8 +211,8 @@ pub fn phase(session: Session, to: u32) -> Session {
     unsafe { vs_phase(session, to) }
 }
 
-pub fn lock(session: Session, key: Key) -> Listed {
-    let raw = unsafe { vs_lock(session, key.name.as_ptr(), key.name.len(), key.vendor) };
+pub fn lock(session: Session, side: u32, key: Key) -> Listed {
+    let raw = unsafe { vs_lock(session, side, key.name.as_ptr(), key.name.len(), key.vendor) };
     Listed { answer: raw.answer.answer(), session: raw.session }
 }
 
@@ -251,18 +253,18 @@ pub fn to_plain(source: &[u8], target: &mut [u8]) -> Answer {
     unsafe { vs_to_plain(source.as_ptr(), source.len(), target.as_mut_ptr(), target.len()) }.answer()
 }
 
-/// What a set is to store; the operations take their bytes from the content.
-pub fn plan_set(session: &Session, image: &[u8], request: &Request, content: &mut Content) -> Result<Plan, Rule> {
+/// What a set that a side asks is to store; the operations take their bytes from the content.
+pub fn plan_set(session: &Session, side: u32, image: &[u8], request: &Request, content: &mut Content) -> Result<Plan, Rule> {
     let Request { key, attributes, data, presence, verdict } = *request;
     let (name, size) = (key.name.as_ptr(), key.name.len());
     let (bytes, length) = (data.as_ptr(), data.len());
     let (first, whole) = (image.as_ptr(), image.len());
-    unsafe { vs_plan_set(*session, first, whole, name, size, key.vendor, attributes, bytes, length, presence, verdict, content) }.plan()
+    unsafe { vs_plan_set(*session, side, first, whole, name, size, key.vendor, attributes, bytes, length, presence, verdict, content) }.plan()
 }
 
 /// The same of a start-up, whose session is `session_new`'s.
-pub fn plan_start_up(image: &[u8], content: &mut Content) -> Result<Plan, Rule> {
-    unsafe { vs_plan_start_up(image.as_ptr(), image.len(), content) }.plan()
+pub fn plan_start_up(image: &[u8], setup: &Setup, content: &mut Content) -> Result<Plan, Rule> {
+    unsafe { vs_plan_start_up(image.as_ptr(), image.len(), *setup, content) }.plan()
 }
 
 pub fn plan_format(image: &[u8], content: &mut Content) -> Result<Plan, Rule> {
@@ -291,8 +293,8 @@ pub mod lent {
         unsafe { vs_phase_lent(session, to) }
     }
 
-    pub fn lock(session: &mut Session, key: Key) -> Answer {
-        unsafe { vs_lock_lent(session, key.name.as_ptr(), key.name.len(), key.vendor) }.answer()
+    pub fn lock(session: &mut Session, side: u32, key: Key) -> Answer {
+        unsafe { vs_lock_lent(session, side, key.name.as_ptr(), key.name.len(), key.vendor) }.answer()
     }
 
     pub fn get(context: Context, session: &Session, image: &[u8], key: Key, buffer: &mut [u8]) -> Reply {
@@ -320,11 +322,11 @@ pub mod lent {
         unsafe { vs_start_up_lent(context, image.as_mut_ptr(), image.len(), session, content) }.answer()
     }
 
-    pub fn plan_set(session: &Session, image: &[u8], request: &Request, content: &mut Content) -> Result<Plan, Rule> {
+    pub fn plan_set(session: &Session, side: u32, image: &[u8], request: &Request, content: &mut Content) -> Result<Plan, Rule> {
         let Request { key, attributes, data, presence, verdict } = *request;
         let (name, size) = (key.name.as_ptr(), key.name.len());
         let (bytes, length) = (data.as_ptr(), data.len());
         let (first, whole) = (image.as_ptr(), image.len());
-        unsafe { vs_plan_set_lent(session, first, whole, name, size, key.vendor, attributes, bytes, length, presence, verdict, content) }.plan()
+        unsafe { vs_plan_set_lent(session, side, first, whole, name, size, key.vendor, attributes, bytes, length, presence, verdict, content) }.plan()
     }
 }

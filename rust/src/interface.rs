@@ -4,8 +4,8 @@ use std::fmt;
 
 pub type Guid = [u8; 16];
 
-/// Rules a call can break, by their numbers. Those of 01 are in checking order; 02's are not: 17 is tried after 5, 21 and then 18 between 12 and 13, a move tries
-/// 1, 19, 20, 13, and 23 is met by a store.
+/// Rules a call can break, by their numbers. Those of 01 are in checking order; 02's are not: 22 is tried after 3 and, by a start-up, after 2, 17 after 5, 21 and then 18
+/// between 12 and 13, a move tries 1, 19, 20, 13, and 23 is met by a store.
 #[derive(Clone, Copy, PartialEq, Eq, PartialOrd, Ord, Debug)]
 #[repr(u32)]
 pub enum Rule {
@@ -30,11 +30,12 @@ pub enum Rule {
     Source,
     TimeBased,
     Setting,
-    Worn = 23,
+    Tenant,
+    Worn,
 }
 
 impl Rule {
-    pub const ALL: [Rule; 22] = [
+    pub const ALL: [Rule; 23] = [
         Rule::Length,
         Rule::Unready,
         Rule::Name,
@@ -56,6 +57,7 @@ impl Rule {
         Rule::Source,
         Rule::TimeBased,
         Rule::Setting,
+        Rule::Tenant,
         Rule::Worn,
     ];
 
@@ -79,8 +81,13 @@ pub enum Answer {
 /// Places for dead addresses.
 pub const DEAD: usize = 16;
 
+/// 02 (f): the sides that a call may carry.
+pub const OURS: u32 = 0;
+pub const MODEM: u32 = 1;
+
 /// What every call and start-up takes: the number n of stores after which it is stopped; 02 (h)'s dead addresses, offsets in the image, of which there are
-/// `count`, above 16 counting as 16; and 02 (i)'s width w, where other numbers than 1, 2, 4, 8 and 16 count as 1.
+/// `count`, above 16 counting as 16; 02 (i)'s width w, where other numbers than 1, 2, 4, 8 and 16 count as 1; and 02 (f)'s side, where other numbers than the modem's
+/// count as ours. Format and start-up are no side's.
 #[derive(Clone, Copy, PartialEq, Eq, Debug)]
 #[repr(C)]
 pub struct Context {
@@ -88,14 +95,15 @@ pub struct Context {
     pub count: u32,
     pub dead: [u32; DEAD],
     pub width: u32,
+    pub side: u32,
 }
 
 impl Context {
     pub const NO_LIMIT: Context = Context::with(u64::MAX);
 
-    /// Stopped after n stores, on a chip that stores bytes, of which none is dead.
+    /// Stopped after n stores, on a chip that stores bytes, of which none is dead, and asked by our side.
     pub const fn with(limit: u64) -> Context {
-        Context { limit, count: 0, dead: [0; DEAD], width: 1 }
+        Context { limit, count: 0, dead: [0; DEAD], width: 1, side: OURS }
     }
 
     /// The same on a chip with dead bytes: those addresses that have a place, and how many were given.
@@ -108,6 +116,11 @@ impl Context {
     /// The same on a chip that programs pages.
     pub const fn paged(self, width: u32) -> Context {
         Context { width, ..self }
+    }
+
+    /// The same where a side asks.
+    pub const fn by(self, side: u32) -> Context {
+        Context { side, ..self }
     }
 }
 
@@ -209,28 +222,60 @@ impl fmt::Debug for Setting {
     }
 }
 
-/// What a start-up is given, and its session keeps: custom mode, the run-time reserve R, 02 (a)'s H, the bytes that hardware error records have of their own, and
-/// 02 (e)'s rules, `rules` of them, above 32 counting as 32.
+/// 02 (f): what the modem has: its share of bytes, its run-time reserve, and the GUID of its names.
+#[derive(Clone, Copy, PartialEq, Eq, Debug)]
+#[repr(C)]
+pub struct Tenant {
+    pub share: u32,
+    pub reserve: u32,
+    pub vendor: Guid,
+}
+
+/// What a start-up is given, and its session keeps: custom mode, the run-time reserve R, 02 (a)'s H, the bytes that hardware error records have of their own, 02 (f)'s
+/// share of ours and what the modem has, and 02 (e)'s rules, `rules` of them, above 32 counting as 32.
 #[derive(Clone, Copy, PartialEq, Eq)]
 #[repr(C)]
 pub struct Setup {
     pub custom: u32,
     pub reserve: u32,
     pub records: u32,
+    pub share: u32,
+    pub modem: Tenant,
     pub rules: u32,
     pub settings: [Setting; SETTINGS],
 }
 
 impl Setup {
-    /// No custom mode, no reserve, no room for records, no rules.
-    pub const PLAIN: Setup = Setup { custom: 0, reserve: 0, records: 0, rules: 0, settings: [Setting::NONE; SETTINGS] };
+    /// All numbers 0, the modem's GUID too: there is room for nothing.
+    pub const NOTHING: Setup = Setup {
+        custom: 0,
+        reserve: 0,
+        records: 0,
+        share: 0,
+        modem: Tenant { share: 0, reserve: 0, vendor: [0; 16] },
+        rules: 0,
+        settings: [Setting::NONE; SETTINGS],
+    };
+
+    /// What a station without a modem is given, whose image has so many bytes. 02 (f): "In 01's cases our share is L less 28, the rest 0."
+    pub const fn alone(image_len: usize) -> Setup {
+        Setup { share: ((image_len / 4096).saturating_sub(1) / 2 * 4096).saturating_sub(28) as u32, ..Setup::NOTHING }
+    }
+
+    /// The same for b = 1.
+    pub const PLAIN: Setup = Setup::alone(3 * 4096);
 
     /// Custom mode, else the same.
     pub const CUSTOM: Setup = Setup { custom: 1, ..Setup::PLAIN };
 
+    /// The same with so many bytes for records, which our share has less: as far as it goes, both fit beside each other.
+    pub const fn with_records(self, records: u32) -> Setup {
+        Setup { records, share: self.share.saturating_sub(records), ..self }
+    }
+
     /// The same with rules: those that have a place, and how many were given.
     pub fn ruled(&self, settings: &[Setting]) -> Setup {
-        let mut setup = Setup { rules: settings.len() as u32, settings: Setup::PLAIN.settings, ..*self };
+        let mut setup = Setup { rules: settings.len() as u32, settings: Setup::NOTHING.settings, ..*self };
         setup.settings.iter_mut().zip(settings).for_each(|(place, setting)| *place = *setting);
         setup
     }
@@ -239,14 +284,15 @@ impl Setup {
 /// Of the places for rules only those in use: there are many bytes.
 impl fmt::Debug for Setup {
     fn fmt(&self, f: &mut fmt::Formatter<'_>) -> fmt::Result {
-        let Setup { custom, reserve, records, rules, settings } = self;
-        write!(f, "custom {custom}, reserve {reserve}, records {records}, {rules} rules ")?;
+        let Setup { custom, reserve, records, share, modem, rules, settings } = self;
+        write!(f, "custom {custom}, reserve {reserve}, records {records}, share {share}, the modem's share {}, ", modem.share)?;
+        write!(f, "reserve {} and vendor {:X?}, {rules} rules ", modem.reserve, modem.vendor)?;
         f.debug_list().entries(settings.iter().take(*rules as usize)).finish()
     }
 }
 
 /// Phase, what the start-up was given, and the lock list. A place of the list holds the name, zeros up to 128 bytes, then the GUID. It is aligned as the stack is on which it
-/// is handed over, so that the copy is made by words of 8 bytes.
+/// is handed over, so that the copy is made by words of 8 bytes; C's has 9,332 bytes, and this one is padded to 9,336.
 #[derive(Clone, Copy, PartialEq, Eq, Debug)]
 #[repr(C, align(8))]
 pub struct Session {

@@ -5,6 +5,7 @@ mod common;
 
 use common::random::Random;
 use common::station::Station;
+use common::tenants::admitting;
 use common::{same_bytes, A, B, RECORD, VENDOR};
 use varstore::calls::{BOTH, ENGINE, PAPER};
 use varstore::interface::{Answer, Checked, Context, Guid, Key, Rule, Setup, RUNTIME};
@@ -55,7 +56,7 @@ fn checked(image: &[u8], what: &str) -> Checked {
     assert_eq!(ours, theirs, "check of {what}");
     let started = BOTH.map(|calls| {
         let mut copy = image.to_vec();
-        ((calls.start_up)(Context::NO_LIMIT, &mut copy, &Setup::PLAIN).answer, copy)
+        ((calls.start_up)(Context::NO_LIMIT, &mut copy, &admitting(image)).answer, copy)
     });
     assert_eq!(started[0].0, started[1].0, "start-up of {what}");
     same_bytes(what, &started[0].1, &started[1].1);
@@ -408,7 +409,7 @@ fn filled(blocks: usize, free: usize, deleted: usize) -> Vec<u8> {
     made.image()
 }
 
-/// Rule 13 at its boundary: "28 plus the rounded entry sizes of all values after the change, plus R at runtime, exceeds L", and 02 (a): with H for all but records.
+/// Rule 13 at its boundary: "28 plus the rounded entry sizes of all values after the change, plus R at runtime, exceeds L", where our share is what 28 and H leave of L.
 #[test]
 fn room_at_the_tail() {
     for blocks in [1, 7] {
@@ -420,7 +421,7 @@ fn room_at_the_tail() {
                     let free = (164 + kept).next_multiple_of(4).saturating_sub(short);
                     let image = filled(blocks, free, deleted);
                     for calls in BOTH {
-                        let setup = Setup { reserve, records, ..Setup::PLAIN };
+                        let setup = Setup { reserve, ..Setup::alone(BLOCK * (2 * blocks + 1)) }.with_records(records);
                         let mut station = Station::new(calls, &setup, image.clone()).in_phase(phase);
                         assert_eq!(station.tail(), BLOCK * blocks - free);
                         // what deleted entries hold is room too
@@ -446,7 +447,7 @@ fn room_of_what_is_replaced() {
             for size in [96, 97, 100, 101] {
                 for append in [false, true] {
                     let answers = BOTH.map(|calls| {
-                        let setup = Setup { reserve, records, ..Setup::PLAIN };
+                        let setup = Setup { reserve, ..Setup::alone(BLOCK * (2 * blocks + 1)) }.with_records(records);
                         let mut station = Station::new(calls, &setup, filled(blocks, 104 + 164 + kept, 0));
                         // 104 bytes of B, then 164 and what is kept free are left
                         assert!(matches!(station.set(B, 0x07, &[1; 40]), Answer::Done(_)));
@@ -473,7 +474,7 @@ fn room_of_records() {
         for free in [84, 88, 92, 200] {
             for records in [0, 84, 88, 4000] {
                 let answers = BOTH.map(|calls| {
-                    let setup = Setup { records, ..Setup::PLAIN };
+                    let setup = Setup::alone(BLOCK * (2 * blocks + 1)).with_records(records);
                     let mut station = Station::new(calls, &setup, filled(blocks, free, 0));
                     let answer = station.set(RECORD, 0x0F, &[1; 2]);
                     (answer, station.image)

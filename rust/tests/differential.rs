@@ -16,9 +16,10 @@ use common::generate::{self, Asked, Name, BLOCK};
 use common::random::Random;
 use common::settings::{check_broken, check_kept, is_ruled};
 use common::stored::{carry_out, Call};
+use common::tenants::admitting;
 use common::{same_bytes, stamped, A, AUTUMN, RATE, RECORD, RECORDS};
 use varstore::calls::{Read, ENGINE, PAPER};
-use varstore::interface::{Answer, Context, Reply, Rule, Session, Setup};
+use varstore::interface::{Answer, Context, Reply, Rule, Session, Setup, Tenant, MODEM, OURS};
 use varstore::paper;
 use varstore::paper::layout::Authenticated;
 use varstore::paper::request::{DB, KEK};
@@ -33,22 +34,24 @@ const BREACHES: [&str; 7] = ["read-only", "smallest size", "largest size", "widt
 /// How often each call has given each answer.
 type Tally = BTreeMap<(&'static str, String), usize>;
 
-/// A current image and session, which every call leaves as both implementations left them, and the dead addresses and the width that go with a call.
+/// A current image and session, which every call leaves as both implementations left them, and the dead addresses, the width and the side that go with a call.
 struct Pair<'t> {
     image: Vec<u8>,
     session: Session,
     dead: Vec<u32>,
     width: u32,
+    /// Who asks, where the call is no set.
+    side: u32,
     tally: &'t mut Tally,
 }
 
 impl<'t> Pair<'t> {
     fn new(image: Vec<u8>, session: Session, tally: &'t mut Tally) -> Pair<'t> {
-        Pair { image, session, dead: vec![], width: 1, tally }
+        Pair { image, session, dead: vec![], width: 1, side: OURS, tally }
     }
 
     fn context(&self, limit: u64) -> Context {
-        Context::worn(limit, &self.dead).paged(self.width)
+        Context::worn(limit, &self.dead).paged(self.width).by(self.side)
     }
 
     /// What the width counts as.
@@ -148,11 +151,16 @@ impl<'t> Pair<'t> {
         }
     }
 
-    /// Another H from here on, once in some times, with an eye to the next set.
+    /// Another H and other shares from here on, once in some times, with an eye to the next set.
     fn other_space(&mut self, r: &mut Random, next: &Asked) {
         if r.once_in(3) {
-            self.session.setup.records = generate::record_space_for(r, &self.session, &self.image, next);
+            generate::room_for(r, &mut self.session, &self.image, next);
         }
+    }
+
+    /// Another side from here on, with an eye to a name.
+    fn other_side(&mut self, r: &mut Random, name: &Name) {
+        self.side = generate::side(r, &self.session.setup, name.key());
     }
 
     /// Other rules from here on, once in some times, with an eye to the next set; or none.
@@ -184,6 +192,9 @@ impl<'t> Pair<'t> {
         if asked.name.vendor == RECORDS && asked.attributes & 0x08 != 0 {
             self.count("set of a record", answer);
         }
+        if asked.side == MODEM {
+            self.count("set by the modem", answer);
+        }
         answer
     }
 
@@ -196,7 +207,7 @@ impl<'t> Pair<'t> {
     }
 
     fn lock(&mut self, name: &Name) {
-        let (ours, theirs) = ((PAPER.lock)(self.session, name.key()), (ENGINE.lock)(self.session, name.key()));
+        let (ours, theirs) = ((PAPER.lock)(self.session, self.side, name.key()), (ENGINE.lock)(self.session, self.side, name.key()));
         assert_eq!(ours.answer, theirs.answer, "lock of {name:X?}");
         same_session(&ours.session, &theirs.session);
         self.session = ours.session;
@@ -216,8 +227,8 @@ impl<'t> Pair<'t> {
     }
 
     fn start_up_with_stops(&mut self, r: &mut Random) {
-        self.store_with_stops(r, "startup", &Call::StartUp(Setup::PLAIN));
-        self.start_up(u64::MAX, Setup { custom: 1, reserve: 100, records: 500, ..Setup::PLAIN });
+        self.store_with_stops(r, "startup", &Call::Restart);
+        self.start_up(u64::MAX, Setup { custom: 1, reserve: 100, ..admitting(&self.image) });
     }
 
     /// Leaves the image as before, and a chip that stores bytes, none of them dead.
@@ -300,6 +311,7 @@ fn limit(r: &mut Random) -> u64 {
 /// A get with a buffer around the size that is needed.
 fn random_get(pair: &mut Pair, r: &mut Random) {
     let name = generate::name(r);
+    pair.other_side(r, &name);
     let needed = pair.get(&name, 0, &[]).needed as usize;
     let buffer = buffer(r, needed);
     pair.get(&name, limit(r), &buffer);
@@ -307,13 +319,21 @@ fn random_get(pair: &mut Pair, r: &mut Random) {
 
 fn random_next(pair: &mut Pair, r: &mut Random) {
     let name = generate::name(r);
+    pair.other_side(r, &name);
     let needed = pair.next_name(&name, 0, &[]).0.needed as usize;
     let buffer = buffer(r, needed);
     pair.next_name(&name, limit(r), &buffer);
 }
 
-/// Next-name from the empty name to the end, with a get of each.
+/// Next-name from the empty name to the end, with a get of each, by either side.
 fn enumerate(pair: &mut Pair, r: &mut Random) {
+    for side in [OURS, MODEM] {
+        pair.side = side;
+        enumerate_own(pair, r);
+    }
+}
+
+fn enumerate_own(pair: &mut Pair, r: &mut Random) {
     let mut name = Name { name: vec![0, 0], vendor: [r.byte(); 16] };
     for _ in 0..40 {
         let (reply, buffer) = pair.next_name(&name, u64::MAX, &[0xA5; 144]);
@@ -325,12 +345,18 @@ fn enumerate(pair: &mut Pair, r: &mut Random) {
     }
 }
 
+fn random_lock(pair: &mut Pair, r: &mut Random) {
+    let name = generate::name(r);
+    pair.other_side(r, &name);
+    pair.lock(&name);
+}
+
 fn random_call(pair: &mut Pair, r: &mut Random) {
     match r.below(20) {
         0..=2 => random_get(pair, r),
         3..=5 => random_next(pair, r),
         6 => {
-            let setup = generate::setup(r);
+            let setup = generate::setup(r, &pair.image);
             pair.other_chip(r, &Call::StartUp(setup));
             pair.start_up(limit(r), setup);
         }
@@ -339,10 +365,11 @@ fn random_call(pair: &mut Pair, r: &mut Random) {
             pair.other_chip(r, &Call::Format);
             pair.format(limit(r));
         }
-        9 => pair.lock(&generate::name(r)),
+        9 => random_lock(pair, r),
         10 => pair.phase(r.pick(&[0, 1, 2, 3, u32::MAX])),
         _ => {
-            let asked = generate::asked_on(r, &pair.image);
+            let mut asked = generate::asked_on(r, &pair.image);
+            asked.side = generate::side(r, &pair.session.setup, asked.name.key());
             pair.other_space(r, &asked);
             pair.other_rules(r, &asked);
             pair.other_chip(r, &Call::Set(asked.clone()));
@@ -366,16 +393,17 @@ fn any_call() {
     expect_seen(&tally, "set", &["done", "done without stores", "stopped", "refused 23"]);
     let of_a_record = ["done", "done without stores", "stopped", "refused 12", "refused 13", "refused 18", "refused 21", "refused 23"];
     expect_seen(&tally, "set of a record", &of_a_record);
-    for rule in (2..=13).chain([17, 18, 21]) {
+    for rule in (2..=13).chain([17, 18, 21, 22]) {
         expect_seen(&tally, "set", &[&format!("refused {rule}")]);
     }
+    expect_seen(&tally, "set by the modem", &["done", "done without stores", "stopped", "refused 11", "refused 13", "refused 22", "refused 23"]);
     expect_seen(&tally, "set within its rules", &["done", "done without stores"]);
     expect_seen(&tally, "rule 21", &BREACHES);
-    expect_seen(&tally, "get", &["done without stores", "refused 2", "refused 3", "refused 11", "refused 14"]);
-    expect_seen(&tally, "next", &["done without stores", "refused 2", "refused 3", "refused 11", "refused 14"]);
-    expect_seen(&tally, "startup", &["done", "done without stores", "stopped", "refused 2", "refused 23"]);
+    expect_seen(&tally, "get", &["done without stores", "refused 2", "refused 3", "refused 11", "refused 14", "refused 22"]);
+    expect_seen(&tally, "next", &["done without stores", "refused 2", "refused 3", "refused 11", "refused 14", "refused 22"]);
+    expect_seen(&tally, "startup", &["done", "done without stores", "stopped", "refused 2", "refused 22", "refused 23"]);
     expect_seen(&tally, "format", &["done", "stopped", "refused 23"]);
-    expect_seen(&tally, "lock", &["done without stores", "refused 3", "refused 15", "refused 16"]);
+    expect_seen(&tally, "lock", &["done without stores", "refused 3", "refused 15", "refused 16", "refused 22"]);
     expect_seen(&tally, "plan", &["set refused", "set that does nothing", "set that marks", "set that programs", "set that programs and erases"]);
     expect_seen(&tally, "plan", &["startup refused", "startup that does nothing", "startup that erases", "startup that programs and erases"]);
     expect_seen(&tally, "plan", &["set that fails", "startup that fails", "format that fails"]);
@@ -386,7 +414,7 @@ fn any_call() {
 fn damaged_images() {
     let tally = rounds(100, |r, tally| {
         let (image, blocks) = generate::image(r);
-        let mut pair = Pair::new(image.clone(), (PAPER.session_new)(&Setup::PLAIN), tally);
+        let mut pair = Pair::new(image.clone(), (PAPER.session_new)(&Setup::alone(image.len())), tally);
         for _ in 0..20 {
             pair.image.copy_from_slice(&image);
             for _ in 0..1 + r.below(2) {
@@ -395,7 +423,8 @@ fn damaged_images() {
             pair.check();
             random_get(&mut pair, r);
             random_next(&mut pair, r);
-            if let Answer::Done(_) = pair.start_up(limit(r), Setup::PLAIN) {
+            let setup = generate::setup(r, &pair.image);
+            if let Answer::Done(_) = pair.start_up(limit(r), setup) {
                 random_get(&mut pair, r);
                 enumerate(&mut pair, r);
             }
@@ -403,7 +432,7 @@ fn damaged_images() {
         }
     });
     expect_seen(&tally, "check", &["done without stores", "refused 2"]);
-    expect_seen(&tally, "startup", &["done", "done without stores", "stopped", "refused 2"]);
+    expect_seen(&tally, "startup", &["done", "done without stores", "stopped", "refused 2", "refused 22"]);
     expect_seen(&tally, "get", &["done without stores", "refused 2", "refused 11"]);
 }
 
@@ -456,7 +485,7 @@ fn authenticated_names() {
 fn settings() {
     let mut tally = Tally::new();
     common::rounds::rounds(1, 100, |r| {
-        let mut pair = Pair::new(generate::empty(1), (PAPER.session_new)(&Setup { records: 1000, ..Setup::CUSTOM }), &mut tally);
+        let mut pair = Pair::new(generate::empty(1), (PAPER.session_new)(&Setup::CUSTOM.with_records(1000)), &mut tally);
         for _ in 0..60 {
             let (key, attributes) = r.pick(&[(RATE, 0x07), (RATE, 0x07), (A, 0x03), (S, 0x27), (DB, 0x27), (RECORD, 0x0F)]);
             let most = r.pick(&[1, 2, 5, 5, 9]);
@@ -469,7 +498,7 @@ fn settings() {
             let data = if attributes & 0x20 != 0 { stamped(&AUTUMN, &data) } else { data };
             let verdict = if Book::of(&pair.image).values.iter().any(|value| value.name.key() == key) { 4 } else { 3 };
             let name = Name { name: key.name.to_vec(), vendor: *key.vendor };
-            let asked = Asked { name, attributes, data, presence: 1, verdict };
+            let asked = Asked { name, attributes, data, presence: 1, verdict, side: OURS };
             pair.other_rules(r, &asked);
             pair.set(&asked, u64::MAX);
         }
@@ -534,7 +563,7 @@ fn appends_at_each_byte_of_a_stamp() {
             let name = Name { name: name.to_vec(), vendor };
             let mut given = [0; 16];
             given[..7].copy_from_slice(&middle[..7]);
-            let mut asked = Asked { name, attributes: 0x27, data: stamped(&given, &[1]), presence: 1, verdict: 3 };
+            let mut asked = Asked { name, attributes: 0x27, data: stamped(&given, &[1]), presence: 1, verdict: 3, side: OURS };
             pair.set(&asked, u64::MAX);
             let before = pair.image.clone();
             asked.verdict = 4;
@@ -610,12 +639,13 @@ fn sessions() {
             if r.once_in(4) {
                 pair.phase(r.pick(&[0, 0, 0, 1, 2, 3, u32::MAX]));
             }
-            pair.lock(&generate::name(&mut r));
+            random_lock(&mut pair, &mut r);
         }
-        let [custom, reserve, records] = [(); 3].map(|_| r.number() as u32 >> r.below(32));
-        let mut setup = Setup { custom, reserve, records, ..Setup::PLAIN };
+        let [custom, reserve, records, share, modem_share, modem_reserve] = [(); 6].map(|_| r.number() as u32 >> r.below(32));
+        let modem = Tenant { share: modem_share, reserve: modem_reserve, vendor: [r.byte(); 16] };
+        let mut setup = Setup { custom, reserve, records, share, modem, ..Setup::NOTHING };
         generate::rules(&mut r, &mut setup);
         same_session(&(PAPER.session_new)(&setup), &(ENGINE.session_new)(&setup));
     }
-    expect_seen(&tally, "lock", &["done without stores", "refused 3", "refused 15", "refused 16"]);
+    expect_seen(&tally, "lock", &["done without stores", "refused 3", "refused 15", "refused 16", "refused 22"]);
 }

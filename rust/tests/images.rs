@@ -7,6 +7,7 @@ use std::collections::BTreeMap;
 use std::path::{Path, PathBuf};
 
 use common::same_bytes;
+use common::tenants::admitting;
 use varstore::calls::{ENGINE, PAPER};
 use varstore::interface::{Context, Setup};
 use varstore::paper;
@@ -39,11 +40,12 @@ fn listed_and_started_up() {
         let image = std::fs::read(folder().join("data").join(&file)).expect("an image");
         assert_eq!(paper::varlist(&image), text, "{file}");
         assert_eq!((PAPER.check)(&image), (ENGINE.check)(&image), "check of {file}");
-        for limit in [0, 1, 2, 4096, 4098, u64::MAX] {
+        let setups = [admitting(&image), Setup::PLAIN];
+        for (limit, setup) in [0, 1, 2, 4096, 4098, u64::MAX].into_iter().flat_map(|limit| setups.map(|setup| (limit, setup))) {
             let (mut ours, mut theirs) = (image.clone(), image.clone());
             let context = Context::with(limit);
-            let (here, there) = ((PAPER.start_up)(context, &mut ours, &Setup::PLAIN), (ENGINE.start_up)(context, &mut theirs, &Setup::PLAIN));
-            assert_eq!(here.answer, there.answer, "start-up from {file} with limit {limit}");
+            let (here, there) = ((PAPER.start_up)(context, &mut ours, &setup), (ENGINE.start_up)(context, &mut theirs, &setup));
+            assert_eq!(here.answer, there.answer, "start-up from {file} with limit {limit} and {setup:?}");
             same_bytes(&file, &ours, &theirs);
         }
     }

@@ -3,7 +3,7 @@
 
 mod common;
 
-use common::generate::{asked_on, filled, session};
+use common::generate::{asked_on, filled, session, side};
 use common::random::Random;
 use varstore::calls::lent;
 use varstore::engine;
@@ -50,7 +50,8 @@ fn lent_calls_are_those_by_value() {
         let by_value = foreign(&mut r);
         let asked = asked_on(&mut r, &image);
         let (request, key) = (asked.request(), asked.request().key);
-        let limit = if r.once_in(3) { Context::with(r.below(90) as u64) } else { Context::NO_LIMIT };
+        let side = side(&mut r, &by_value.setup, key);
+        let limit = if r.once_in(3) { Context::with(r.below(90) as u64) } else { Context::NO_LIMIT }.by(side);
 
         let mut made = by_value;
         engine::lent::session_fresh(&mut made);
@@ -61,8 +62,8 @@ fn lent_calls_are_those_by_value() {
         assert!(moved == engine::phase(by_value, phase), "turn {turn}: phase {phase}");
 
         let mut listed = by_value;
-        let answer = engine::lent::lock(&mut listed, key);
-        let expected = engine::lock(by_value, key);
+        let answer = engine::lent::lock(&mut listed, side, key);
+        let expected = engine::lock(by_value, side, key);
         assert!(answer == expected.answer && listed == expected.session, "turn {turn}: lock, {answer:?}");
         assert!(!matches!(answer, Answer::Refused(_)) || listed == by_value, "turn {turn}: a refused lock");
         locked += usize::from(listed != by_value);
@@ -91,8 +92,8 @@ fn lent_calls_are_those_by_value() {
         same(
             &format!("turn {turn}: plan of a set"),
             &image,
-            |i| lent(|content| (engine::lent::plan_set(&held, i, &request, content), *content)),
-            |i| lent(|content| (engine::plan_set(&by_value, i, &request, content), *content)),
+            |i| lent(|content| (engine::lent::plan_set(&held, side, i, &request, content), *content)),
+            |i| lent(|content| (engine::plan_set(&by_value, side, i, &request, content), *content)),
         );
         assert!(held == by_value, "turn {turn}: a session that is only read");
         same(

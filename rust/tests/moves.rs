@@ -8,6 +8,7 @@ use std::collections::BTreeMap;
 use common::book::{Book, Value};
 use common::generate::{self, BLOCK};
 use common::random::Random;
+use common::tenants::admitting;
 use common::{same_bytes, signed, A, B, NEW, OLD, RATE, VENDOR};
 use varstore::calls::{Calls, Move, BOTH, ENGINE, PAPER};
 use varstore::interface::{Answer, Context, Guid, Key, Request, Rule, Setup};
@@ -604,7 +605,8 @@ fn runs_begin_on_moved_images() {
     common::rounds::rounds(2, 300, |r| {
         for calls in BOTH {
             let mut image = generate::moved(r);
-            let started = (calls.start_up)(Context::NO_LIMIT, &mut image, &generate::lenient(r));
+            let setup = Setup { custom: 1, ..admitting(&image) };
+            let started = (calls.start_up)(Context::NO_LIMIT, &mut image, &setup);
             assert_eq!(started.answer, Answer::Done(0), "start-up on a moved image by {}", calls.who);
             let mut book = Book::of(&image);
             for _ in 0..r.below(20) {

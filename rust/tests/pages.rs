@@ -10,6 +10,7 @@ use common::generate::{self, BLOCK};
 use common::random::Random;
 use common::rounds::{once, rounds};
 use common::stored::Call;
+use common::tenants::admitting;
 use common::{signed, A, B, NEW, OLD, RATE, RECORD};
 use varstore::calls::{lent, BOTH, ENGINE};
 use varstore::interface::{Answer, Context, Setup};
@@ -364,14 +365,15 @@ fn widths_that_change_in_a_run() {
     let mut torn = 0;
     rounds(3, 100, |r| {
         let mut image = if r.once_in(2) { generate::filled(r, 1) } else { generate::crafted::<Authenticated>(r, 1) };
-        if !matches!((ENGINE.start_up)(Context::NO_LIMIT.paged(16), &mut image, &Setup::PLAIN).answer, Answer::Done(_)) {
+        let setup = admitting(&image);
+        if !matches!((ENGINE.start_up)(Context::NO_LIMIT.paged(16), &mut image, &setup).answer, Answer::Done(_)) {
             image = generate::empty(1);
         }
         let former = image[..BLOCK].to_vec();
         let mut run = Run::new(image, former);
         for _ in 0..r.below(30) {
             (run.way, run.width) = (r.pick(&Way::BOTH), generate::width(r));
-            run.session = (ENGINE.session_new)(&generate::lenient(r));
+            run.session = (ENGINE.session_new)(&generate::lenient(r, run.image.len()));
             let mut asked = generate::asked_on(r, &run.image);
             asked.presence = 1;
             let call = if r.once_in(4) { START_UP } else { Call::Set(asked) };

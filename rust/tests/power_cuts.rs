@@ -16,9 +16,10 @@ use common::random::Random;
 use common::rounds::{once, rounds};
 use common::settings::{check_broken, is_ruled};
 use common::stored::Call;
+use common::tenants::admitting;
 use common::{same_bytes, signed, stamped, A, AUTUMN, B, NEW, OLD, RATE, RECORD, RECORDS, SPRING};
 use varstore::calls::{lent, Calls, Read, BOTH, ENGINE, PAPER};
-use varstore::interface::{Answer, Context, Key, Reply, Rule, Setting, Setup};
+use varstore::interface::{Answer, Context, Key, Reply, Rule, Setting};
 use varstore::paper::image::Parts;
 use varstore::paper::layout::Authenticated;
 use varstore::paper::request::{DBX, PK};
@@ -441,10 +442,10 @@ fn start_ups_three_deep() {
 }
 
 /// What a call that reads hands out, alike in both implementations: the reply and the whole buffer.
-fn read(run: &Run, name: &Name, call: fn(Calls) -> Read, length: usize) -> (Reply, Vec<u8>) {
+fn read(run: &Run, side: u32, name: &Name, call: fn(Calls) -> Read, length: usize) -> (Reply, Vec<u8>) {
     let [paper, engine] = BOTH.map(|calls| {
         let mut buffer = vec![0xA5; length];
-        let reply = call(calls)(Context::with(0), &run.session, &run.image, name.key(), &mut buffer);
+        let reply = call(calls)(Context::with(0).by(side), &run.session, &run.image, name.key(), &mut buffer);
         (reply, buffer)
     });
     assert_eq!(engine.0, paper.0, "reply for {name:X?}");
@@ -453,8 +454,8 @@ fn read(run: &Run, name: &Name, call: fn(Calls) -> Read, length: usize) -> (Repl
 }
 
 /// A get answers from the book wherever it is accepted, also before a start-up.
-fn get(run: &Run, name: &Name) -> Answer {
-    let (reply, buffer) = read(run, name, |calls| calls.get, 2048);
+fn get(run: &Run, side: u32, name: &Name) -> Answer {
+    let (reply, buffer) = read(run, side, name, |calls| calls.get, 2048);
     let booked = run.book.get(&run.session, name.key());
     match reply.answer {
         Answer::Done(_) => assert!(booked == Some((reply.attributes, &buffer[..reply.size as usize])), "get of {name:X?} is not in the book"),
@@ -465,9 +466,9 @@ fn get(run: &Run, name: &Name) -> Answer {
 }
 
 /// The same of next-name.
-fn next_name(run: &Run, name: &Name) -> Answer {
-    let (reply, buffer) = read(run, name, |calls| calls.next_name, 144);
-    let booked = run.book.next(&run.session, name.key()).map(|name| [&name.vendor[..], &name.name].concat());
+fn next_name(run: &Run, side: u32, name: &Name) -> Answer {
+    let (reply, buffer) = read(run, side, name, |calls| calls.next_name, 144);
+    let booked = run.book.next(&run.session, side, name.key()).map(|name| [&name.vendor[..], &name.name].concat());
     match reply.answer {
         Answer::Done(_) => assert!(booked.as_deref() == Some(&buffer[..reply.size as usize]), "next-name after {name:X?} is not the book's"),
         Answer::Refused(Rule::Absent) => assert!(booked.is_none(), "the book goes on after {name:X?}"),
@@ -476,14 +477,15 @@ fn next_name(run: &Run, name: &Name) -> Answer {
     reply.answer
 }
 
-/// A name of the book, or any, or the empty name.
-fn some_name(run: &Run, r: &mut Random) -> Name {
-    match r.below(4) {
+/// A side, and a name of the book, or any, or the empty name.
+fn some_name(run: &Run, r: &mut Random) -> (u32, Name) {
+    let name = match r.below(4) {
         0 => generate::name(r),
         1 => Name { name: vec![0, 0], vendor: [r.byte(); 16] },
         _ if run.book.values.is_empty() => generate::name(r),
         _ => run.book.values[r.below(run.book.values.len())].name.clone(),
-    }
+    };
+    (generate::side(r, &run.session.setup, name.key()), name)
 }
 
 /// A set in any session; most often in one that refuses little.
@@ -491,18 +493,17 @@ fn some_set(run: &mut Run, r: &mut Random) -> Call {
     let mut asked = generate::asked_on(r, &run.image);
     run.session = generate::session(r);
     if !r.once_in(4) {
-        run.session = (ENGINE.session_new)(&Setup::CUSTOM);
-        run.session.setup.records = generate::record_space_for(r, &run.session, &run.image, &asked);
+        run.session = (ENGINE.session_new)(&generate::lenient(r, run.image.len()));
         asked.presence = 1;
+        if r.once_in(3) {
+            generate::room_for(r, &mut run.session, &run.image, &asked);
+        }
         if r.once_in(3) {
             run.session.setup = run.session.setup.ruled(&generate::rules_for(r, &run.image, &asked));
         }
     }
+    asked.side = generate::side(r, &run.session.setup, asked.name.key());
     Call::Set(asked)
-}
-
-fn some_start_up(r: &mut Random) -> Call {
-    Call::StartUp(generate::setup(r))
 }
 
 /// An image as a done start-up left it, and its b; or one that a move has left, where a start-up finds nothing to do.
@@ -510,7 +511,8 @@ fn some_image(r: &mut Random) -> (Vec<u8>, usize) {
     if r.once_in(8) {
         let mut image = generate::moved(r);
         let blocks = Parts::of(&image).expect("an image").blocks;
-        assert_eq!((ENGINE.start_up)(Context::NO_LIMIT, &mut image, &Setup::PLAIN).answer, Answer::Done(0), "start-up on a moved image");
+        let setup = admitting(&image);
+        assert_eq!((ENGINE.start_up)(Context::NO_LIMIT, &mut image, &setup).answer, Answer::Done(0), "start-up on a moved image");
         return (image, blocks);
     }
     let blocks = generate::blocks(r);
@@ -519,7 +521,8 @@ fn some_image(r: &mut Random) -> (Vec<u8>, usize) {
         1 => generate::crafted::<Authenticated>(r, blocks),
         _ => generate::filled(r, blocks),
     };
-    match (ENGINE.start_up)(Context::NO_LIMIT, &mut image, &Setup::PLAIN).answer {
+    let setup = admitting(&image);
+    match (ENGINE.start_up)(Context::NO_LIMIT, &mut image, &setup).answer {
         Answer::Done(_) => (image, blocks),
         _ => (generate::empty(blocks), blocks),
     }
@@ -531,9 +534,13 @@ type Tally = BTreeMap<&'static str, usize>;
 /// One call of a run: whole, or cut.
 fn random_step(run: &mut Run, r: &mut Random, tally: &mut Tally) {
     let call = match r.below(8) {
-        0 => return *tally.entry(kind("get", get(run, &some_name(run, r)), false)).or_default() += 1,
-        1 => return *tally.entry(kind("next-name", next_name(run, &some_name(run, r)), false)).or_default() += 1,
-        2 | 3 => some_start_up(r),
+        0 | 1 => {
+            let (side, name) = some_name(run, r);
+            let kind = if r.once_in(2) { kind("get", get(run, side, &name), false) } else { kind("next-name", next_name(run, side, &name), false) };
+            return *tally.entry(kind).or_default() += 1;
+        }
+        2 => START_UP,
+        3 => Call::StartUp(generate::setup(r, &run.image)),
         _ => some_set(run, r),
     };
     let what = if matches!(call, Call::Set(_)) { "set" } else { "start-up" };
@@ -577,6 +584,7 @@ fn random_step(run: &mut Run, r: &mut Random, tally: &mut Tally) {
     match answer {
         Answer::Done(_) if what == "start-up" => run.check_book(),
         Answer::Refused(Rule::Worn) => run.cuts.clear(),
+        Answer::Refused(Rule::Tenant) => {}
         _ => assert!(what == "set", "a start-up in a run is {answer:?} after {:?}", run.cuts),
     }
 }
@@ -592,6 +600,7 @@ fn kind(what: &'static str, answer: Answer, both: bool) -> &'static str {
         ("set", Answer::Refused(Rule::Setting)) => "set refused by its rules",
         ("set", _) => "set refused",
         ("start-up", Answer::Refused(Rule::Worn)) => "start-up failed",
+        ("start-up", Answer::Refused(_)) => "start-up refused its shares",
         ("start-up", Answer::Done(0)) => "start-up without stores",
         ("start-up", Answer::Done(_)) if both => "start-up that compacts or resumes",
         ("start-up", _) => "start-up that erases",
@@ -609,7 +618,8 @@ fn any_call_of_a_run() {
     rounds(15, 200, |r| {
         let (image, blocks) = some_image(r);
         let mut former = generate::filled(r, blocks);
-        (PAPER.start_up)(Context::NO_LIMIT, &mut former, &Setup::PLAIN);
+        let setup = admitting(&former);
+        (PAPER.start_up)(Context::NO_LIMIT, &mut former, &setup);
         let mut run = Run::new(image, former[..blocks * BLOCK].to_vec());
         for _ in 0..r.below(60) {
             if r.once_in(10) && (PAPER.check)(&run.image).answer == Answer::Done(0) {
@@ -622,7 +632,7 @@ fn any_call_of_a_run() {
     });
     println!("{tally:?}");
     let whole = ["set done", "set done without stores", "set done by compaction", "set refused", "set refused before a start-up"];
-    let started = ["start-up without stores", "start-up that erases", "start-up that compacts or resumes"];
+    let started = ["start-up without stores", "start-up that erases", "start-up that compacts or resumes", "start-up refused its shares"];
     let read = ["get done", "get refused", "next-name done", "next-name refused"];
     let cut = ["store begun", "cut between stores", "set cut before deciding", "set cut when decided"];
     let failed = ["set failed", "start-up failed"];

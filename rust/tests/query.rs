@@ -9,15 +9,18 @@ use common::station::Station;
 use common::{A, B, OLD, RATE, RECORD, RECORDS, VENDOR};
 use varstore::calls::ENGINE;
 use varstore::engine::{self, Room};
-use varstore::interface::{Answer, Context, Key, Rule, Setup};
+use varstore::interface::{Answer, Context, Guid, Key, Rule, Setup, Tenant, MODEM, OURS, RUNTIME};
+
+const MODEMS: Guid = [0x11; 16];
 
 fn station(records: u32, blocks: usize) -> Station {
-    Station::formatted(ENGINE, &Setup { records, ..Setup::PLAIN }, blocks)
+    Station::formatted(ENGINE, &Setup::alone(BLOCK * (2 * blocks + 1)).with_records(records), blocks)
 }
 
 fn query(station: &Station, attributes: u32) -> Room {
-    let by_value = engine::query(Context::NO_LIMIT, &station.session, &station.image, attributes);
-    let lent = engine::lent::query(Context::NO_LIMIT, &station.session, &station.image, attributes);
+    let context = Context::NO_LIMIT.by(station.side);
+    let by_value = engine::query(context, &station.session, &station.image, attributes);
+    let lent = engine::lent::query(context, &station.session, &station.image, attributes);
     assert_eq!(by_value, lent, "the session by value and in the host's memory");
     by_value
 }
@@ -75,6 +78,23 @@ fn refusals() {
     assert_eq!(query(&unready, 0x00), refused(Rule::Unready));
 }
 
+/// 02 (f): each side is told of its own share, less its own reserve at runtime and what its own values take; and of L, where shares do not fit in it.
+#[test]
+fn by_side() {
+    let modem = Tenant { share: 1000, reserve: 300, vendor: MODEMS };
+    let mut store = Station::formatted(ENGINE, &Setup { share: 2000, reserve: 500, records: 1000, modem, ..Setup::NOTHING }, 1);
+    assert_eq!([OURS, MODEM].map(|side| query(&store.by(side), 0x07)), [room(2000, 2000, 1940), room(1000, 1000, 940)]);
+    assert_eq!([OURS, MODEM].map(|side| query(&store.by(side).in_phase(RUNTIME), 0x07)), [room(1500, 1500, 1440), room(700, 700, 640)]);
+    assert_eq!(store.set(RATE, 0x07, OLD), Answer::Done(75));
+    assert_eq!([OURS, MODEM].map(|side| query(&store.by(side), 0x07)), [room(2000, 1924, 1864), room(1000, 1000, 940)]);
+    store.side = MODEM;
+    assert_eq!(store.set(Key { vendor: &MODEMS, ..RATE }, 0x07, OLD), Answer::Done(75));
+    assert_eq!([OURS, MODEM].map(|side| query(&store.by(side), 0x07)), [room(2000, 1924, 1864), room(1000, 924, 864)]);
+    // 4,068 less 152
+    store.session.setup.modem.share = u32::MAX;
+    assert_eq!(query(&store, 0x07).remaining, 3916);
+}
+
 /// A new value of so many bytes, of sizes around what remains.
 fn is_told_right(store: &Station, key: Key, attributes: u32, told: &mut [u32; 2]) {
     let room = query(store, attributes);
@@ -114,6 +134,10 @@ fn a_new_value_is_stored_just_if_it_fits() {
             is_told_right(&store, A, 0x07, &mut told);
             is_told_right(&store, B, 0x47, &mut told);
             is_told_right(&store, RECORD, 0x0F, &mut told);
+            // the modem under the same name, with what its share and all values leave
+            let mut shared = store.by(MODEM);
+            shared.session.setup.modem = Tenant { share: [70, 300, 1000, 5000][random.below(4)], reserve: [0, 100][random.below(2)], vendor: MODEMS };
+            is_told_right(&shared, Key { vendor: &MODEMS, ..A }, 0x07, &mut told);
         }
     }
     assert!(told.iter().all(|&count| count > 2000), "both were told often: {told:?}");

@@ -5,9 +5,10 @@ mod common;
 
 use common::book::Book;
 use common::station::{with_space, Station};
+use common::tenants::is_refused;
 use common::{A, B, NEW, OLD, RATE, RECORD, RECORDS, VENDOR};
 use varstore::calls::{Calls, BOTH, ENGINE};
-use varstore::interface::{Answer, Context, Guid, Key, Request, Rule, Setup, AFTER_END_OF_DXE, RUNTIME};
+use varstore::interface::{Answer, Context, Guid, Key, Request, Rule, Setup, AFTER_END_OF_DXE, OURS, RUNTIME};
 use varstore::paper::entry::{self, Contents};
 use varstore::paper::layout::{Authenticated, Layout, Plain};
 use varstore::paper::{region, request};
@@ -193,9 +194,7 @@ fn place_of_17() {
         // both names are locked, and hold values
         assert_eq!((station.record(1, OLD), station.set(RATE, 0x07, OLD)), (Answer::Done(91), Answer::Done(75)));
         for key in [RECORD, RATE] {
-            let listed = (station.calls.lock)(station.session, key);
-            assert_eq!(listed.answer, Answer::Done(0));
-            station.session = listed.session;
+            assert_eq!(station.lock(key), Answer::Done(0));
         }
         station.session = (station.calls.phase)(station.session, AFTER_END_OF_DXE);
         assert_eq!(station.set(RECORD, 0x0F, NEW), refused(Rule::Locked));
@@ -328,7 +327,7 @@ fn space_lowered() {
     });
 }
 
-/// "a set of any other value meets 13 if 28, the other values, H and (at runtime) R exceed L", whether records stand or not: H = 1,000 leaves 3,068 bytes.
+/// 02 (f): "a side's sum without error records .. against its share", whether records stand or not: H = 1,000 leaves 3,068 bytes of L for ours.
 #[test]
 fn other_values_beside_the_records_space() {
     with_space(1000, |mut empty| {
@@ -355,7 +354,7 @@ fn other_values_beside_the_records_space() {
     });
 }
 
-/// Nothing caps H: above L less 28 no other value is set. A record is, as far as all values fit. No sum wraps.
+/// Nothing caps H: it may be above L, and then leaves no share for other values. A record is set as far as all values fit. No sum wraps.
 #[test]
 fn space_above_the_region() {
     // RATE's entry is 76 bytes
@@ -390,7 +389,7 @@ fn space_above_the_region() {
 fn all_values_count() {
     with_space(2136, |mut station| {
         assert_eq!(station.record(1, &[1; 2048]), Answer::Done(2135));
-        station.session.setup.records = 0;
+        station = station.with_h(0);
         // 28 + 2,136 + 64 + 1,868
         assert_eq!(station.would_store(A, 0x07, &[2; 1869]), Err(Rule::Room));
         assert_eq!(station.set(A, 0x07, &[2; 1868]), Answer::Done(1933));
@@ -518,13 +517,14 @@ fn check_entry(calls: &Calls, key: Key, attributes: u32, state: u8, sound: bool)
         (true, false) => Answer::Done(8197),
         (false, false) => refused(Rule::Unready),
     };
-    assert_eq!((calls.start_up)(Context::NO_LIMIT, &mut image.clone(), &Setup::PLAIN).answer, expected);
+    let given = Setup::PLAIN.with_records(500);
+    assert_eq!((calls.start_up)(Context::NO_LIMIT, &mut image.clone(), &given).answer, expected);
     // a clean spare is copied; else it is erased, and the work block too
     let rate = with_entry::<Authenticated>(RATE, 0x07, 0x3F);
     let mut pending = rate.clone();
     pending[BLOCK] = 0xFC;
     pending[2 * BLOCK..].copy_from_slice(&image[..BLOCK]);
-    let resumed = (calls.start_up)(Context::NO_LIMIT, &mut pending, &Setup::PLAIN).answer;
+    let resumed = (calls.start_up)(Context::NO_LIMIT, &mut pending, &given).answer;
     assert_eq!(resumed, Answer::Done(if clean { 4096 + 3 } else { 2 }), "from the spare");
     assert!(pending[..BLOCK] == if clean { image } else { rate }[..BLOCK], "the region after the start-up");
     let moved = (calls.from_plain)(&with_entry::<Plain>(key, attributes, state), &mut [0; 3 * BLOCK]);
@@ -538,7 +538,7 @@ fn a_leftover_of_a_record() {
     let foreign = with_entry::<Authenticated>(RECORD, 0x07, 0x3F);
     image[120..212].copy_from_slice(&foreign[28..120]);
     for calls in BOTH {
-        let mut station = Station::new(calls, &Setup { records: 500, ..Setup::PLAIN }, image.clone());
+        let mut station = Station::new(calls, &Setup::PLAIN.with_records(500), image.clone());
         assert_eq!((calls.check)(&station.image).answer, Answer::Done(0));
         assert_eq!(station.record(1, NEW), refused(Rule::Standing));
         assert_eq!(station.with_h(SMALLEST).record(2, &[1]), Answer::Done(88), "only the new one is a record");
@@ -554,7 +554,7 @@ fn foreign_values() {
     for attributes in [0x03, 0x07, 0x23, 0x27] {
         let image = with_entry::<Authenticated>(RECORD, attributes, 0x3F);
         for calls in BOTH {
-            let mut station = Station::new(calls, &Setup { records: 500, ..Setup::PLAIN }, image.clone());
+            let mut station = Station::new(calls, &Setup::PLAIN.with_records(500), image.clone());
             assert_eq!((calls.check)(&station.image).answer, Answer::Done(0), "{}: {attributes:#X}", calls.who);
             for data in [OLD, NEW, &[]] {
                 assert_eq!(station.set(RECORD, attributes, data), refused(Rule::Record), "{}: {attributes:#X}", calls.who);
@@ -597,7 +597,7 @@ fn moves() {
 #[test]
 fn kept_in_the_session() {
     for records in [0, 1, 500, 4068, 4096, 4097, 70_000, 0x8000_0000, u32::MAX] {
-        let given = Setup { custom: 1, reserve: 100, records, ..Setup::PLAIN };
+        let given = Setup { custom: 1, reserve: 100, ..Setup::PLAIN }.with_records(records);
         for calls in BOTH {
             assert_eq!((calls.session_new)(&given).setup, given, "{}", calls.who);
             let dirty = [&with_entry::<Authenticated>(RATE, 0x07, 0x3F)[..200], &[0], &[0xFF; 3 * BLOCK - 201]].concat();
@@ -610,28 +610,31 @@ fn kept_in_the_session() {
                 (unsound, Context::NO_LIMIT, refused(Rule::Unready)),
                 (vec![0xFF; 100], Context::NO_LIMIT, refused(Rule::Length)),
             ] {
+                let expected = if is_refused(&given, &image) { refused(Rule::Tenant) } else { expected };
                 let started = (calls.start_up)(context, &mut image.clone(), &given);
                 assert_eq!((started.answer, started.session.setup), (expected, given), "{}", calls.who);
                 assert_eq!(started.session, (calls.session_new)(&given), "{}", calls.who);
             }
-            let locked = (calls.lock)((calls.session_new)(&given), RECORD).session;
+            let locked = (calls.lock)((calls.session_new)(&given), OURS, RECORD).session;
             assert_eq!((calls.phase)(locked, RUNTIME).setup, given, "{}", calls.who);
         }
     }
 }
 
-/// A start-up asks for no room: records beyond H stand, are carried by its compaction, and a set then meets 18.
+/// 02 (f): "22 when a start-up finds .. the error records above H": it changes nothing; the next one, which is given as many bytes, carries them by its compaction.
 #[test]
 fn start_up_beyond_the_space() {
     with_space(2136, |mut station| {
         assert_eq!(station.record(1, &[1; 2048]), Answer::Done(2135));
         let book = Book::of(&station.image);
         station.image[BLOCK - 1] = 0;
-        let started = (station.calls.start_up)(Context::NO_LIMIT, &mut station.image, &Setup::PLAIN);
-        assert_eq!(started.answer, Answer::Done(8197));
+        let before = station.image.clone();
+        for records in [0, 88, 2135] {
+            assert_eq!(station.start_up(&Setup::PLAIN.with_records(records)), refused(Rule::Tenant));
+            assert!(station.image == before, "a start-up that is given {records}");
+        }
+        assert_eq!(station.start_up(&Setup::PLAIN.with_records(2136)), Answer::Done(8197));
         assert_eq!(Book::of(&station.image), book);
-        station.session = started.session;
-        assert_eq!(station.record(1, &[2; 2048]), refused(Rule::RecordRoom));
         assert_eq!(station.record(2, &[2]), refused(Rule::RecordRoom));
         assert_eq!(station.record(1, &[1; 2048]), Answer::Done(0));
         assert_eq!(station.delete(RECORD), Answer::Done(1));
@@ -642,7 +645,7 @@ fn start_up_beyond_the_space() {
 #[test]
 fn seven_blocks() {
     for calls in BOTH {
-        let mut station = Station::formatted(calls, &Setup { records: 5 * 2136, ..Setup::PLAIN }, 7);
+        let mut station = Station::formatted(calls, &Setup::alone(15 * BLOCK).with_records(5 * 2136), 7);
         for number in 0..5 {
             assert_eq!(station.record(number, &[1; 2048]), Answer::Done(2135));
         }
@@ -658,7 +661,7 @@ fn seven_blocks() {
         assert_eq!(station.record(4, &[4; 2048]), Answer::Done(57361));
         Book::of(&station.image).check_listed(&ENGINE, &station.image);
         // 18 and 13 where the records alone exceed L: thirteen stand, and a fourteenth makes 29,904 bytes
-        let mut full = Station::formatted(calls, &Setup { records: u32::MAX, ..Setup::PLAIN }, 7);
+        let mut full = Station::formatted(calls, &Setup::alone(15 * BLOCK).with_records(u32::MAX), 7);
         for number in 0..13 {
             assert_eq!(full.record(number, &[1; 2048]), Answer::Done(2135));
         }

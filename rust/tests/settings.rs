@@ -7,7 +7,7 @@ use common::book::Book;
 use common::station::{each, with_space, Station};
 use common::{signed, stamped, A, AUTUMN, B, NEW, OLD, RATE, RECORD, SPRING, VENDOR};
 use varstore::calls::ENGINE;
-use varstore::interface::{Answer, Context, Key, Request, Rule, Session, Setting, Setup, AFTER_END_OF_DXE, RUNTIME};
+use varstore::interface::{Answer, Context, Key, Request, Rule, Session, Setting, Setup, AFTER_END_OF_DXE, OURS, RUNTIME};
 use varstore::paper::request::{DB, KEK, PK};
 
 const BLOCK: usize = 4096;
@@ -56,7 +56,7 @@ fn a_sample_rate() {
             assert_eq!(station.set(RATE, 0x07, data), BROKEN);
         }
         // other names, and the name under another GUID
-        for key in [A, Key { vendor: &[0; 16], ..RATE }, Key { name: b"R\0A\0T\0F\0\0\0", ..RATE }] {
+        for key in [A, Key { vendor: &[0xEE; 16], ..RATE }, Key { name: b"R\0A\0T\0F\0\0\0", ..RATE }] {
             assert!(matches!(station.set(key, 0x07, &[0]), Answer::Done(1..)));
         }
         assert_eq!(station.value(RATE), Some(200u32.to_le_bytes().to_vec()));
@@ -547,7 +547,7 @@ fn rules_before_21() {
         assert_eq!(station.set(RATE, 0x0F, OLD), refused(Rule::Record));
         assert_eq!(station.set(RECORD, 0x07, OLD), refused(Rule::Record));
         let mut locked = station.clone();
-        locked.session = (station.calls.lock)(locked.session, RATE).session;
+        assert_eq!(locked.lock(RATE), Answer::Done(0));
         assert_eq!(locked.set(RATE, 0x07, OLD), BROKEN);
         assert_eq!(locked.in_phase(AFTER_END_OF_DXE).set(RATE, 0x07, OLD), refused(Rule::Locked));
         assert_eq!(station.set(RATE, 0x27, OLD), refused(Rule::Descriptor));
@@ -721,7 +721,7 @@ fn forbidden_values_that_stand() {
         assert_eq!(station.set(B, 0x07, &[2; 1700]), Answer::Done(8197));
         assert_eq!((station.value(RATE), station.value(A)), (Some(vec![0; 4]), Some(vec![1; 2048])));
         // a lock asks for no rule
-        let listed = (station.calls.lock)(station.session, RATE);
+        let listed = (station.calls.lock)(station.session, OURS, RATE);
         assert_eq!((listed.answer, listed.session.setup), (Answer::Done(0), given));
         // nor does a move, out or home
         let (mut plain, mut home) = (vec![0; 3 * BLOCK], vec![0; 3 * BLOCK]);
@@ -746,7 +746,7 @@ fn kept_in_the_session() {
         let mut unsound = station.image.clone();
         unsound[28 + 4] = 0;
         for count in [0, 1, 31, 32] {
-            let given = Setup { custom: 1, reserve: 100, records: 7, ..Setup::PLAIN }.ruled(&rules[..count]);
+            let given = Setup { custom: 1, reserve: 100, ..Setup::PLAIN }.with_records(7).ruled(&rules[..count]);
             for (image, context, expected) in [
                 (&station.image, Context::NO_LIMIT, Answer::Done(0)),
                 (&dirty, Context::NO_LIMIT, Answer::Done(8197)),
@@ -758,9 +758,9 @@ fn kept_in_the_session() {
                 let started = (station.calls.start_up)(context, &mut image.clone(), &given);
                 assert_eq!((started.answer, started.session.setup), (expected, given), "{count} rules");
                 assert_eq!(started.session, (station.calls.session_new)(&given), "{count} rules");
-                let locked = (station.calls.lock)(started.session, A);
+                let locked = (station.calls.lock)(started.session, OURS, A);
                 assert_eq!((locked.answer, locked.session.setup), (Answer::Done(0), given), "{count} rules");
-                assert_eq!((station.calls.lock)(locked.session, Key { name: &[], ..A }).session.setup, given, "{count} rules");
+                assert_eq!((station.calls.lock)(locked.session, OURS, Key { name: &[], ..A }).session.setup, given, "{count} rules");
                 let session = (station.calls.phase)(locked.session, RUNTIME);
                 assert_eq!(session.setup, given, "{count} rules");
                 // they hold in the session that came of it

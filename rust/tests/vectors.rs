@@ -6,7 +6,10 @@
 //!     startup custom reserve n · format n · lock name guid · phase to · varlist
 //!     set, startup and format also dead (02 (h): addresses joined by `,`, which may be more than 16; `-` none) and w (02 (i))
 //!     session and startup also hw (02 (a): H) and rules (02 (e): joined by `;`, which may be more than 32; `-` none)
+//!     session and startup also share, modem, share1 and reserve1 (02 (f): our share, the modem's GUID, share and reserve); set, get, next and lock also side
 //!     move src to (02 (d): from the image in slot src into the current one; to is `new` or `plain`)
+//!
+//! A session or startup without shares is that of a station without a modem: our share is what 28 and H leave of L, the rest 0.
 //!
 //! A line that a request of document 02 has changed says `why`: the sentence, with `_` for a space; also where only the image is another than it was.
 //!
@@ -25,7 +28,7 @@ use common::digest::{crc32, sha256};
 use common::generate::{Asked, Name};
 use common::stored::{carry_out, Call};
 use varstore::calls::{lent, Calls, BOTH, PAPER};
-use varstore::interface::{Answer, Context, Guid, Key, Reply, Rule, Session, Setting, Setup};
+use varstore::interface::{Answer, Context, Guid, Key, Reply, Rule, Session, Setting, Setup, Tenant, OURS};
 use varstore::paper::{self, Made};
 
 /// The fields of one line, and where it stands.
@@ -36,9 +39,9 @@ struct Line<'a> {
 
 /// What a line may give; every field that is not an argument is checked.
 const ARGUMENTS: &str =
-    "why op len rle off slot phase custom reserve count sizes locks name guid attrs data presence verdict dead w hw rules n buflen fill to src";
+    "why op len rle off slot phase custom reserve count sizes locks name guid attrs data presence verdict dead w hw rules modem share share1 reserve1 side n buflen fill to src";
 const EXPECTED: &str =
-    "answer rule stores list deciding made size attrs_out buf_sha256 text sha256 crc32 s_phase s_custom s_reserve s_hw s_count s_sizes s_locks";
+    "answer rule stores list deciding made size attrs_out buf_sha256 text sha256 crc32 s_phase s_custom s_reserve s_hw s_count s_sizes s_locks s_modem s_share s_share1 s_reserve1";
 
 impl<'a> Line<'a> {
     fn new(place: String, text: &'a str) -> Line<'a> {
@@ -74,15 +77,24 @@ impl<'a> Line<'a> {
         text.map_or(vec![], |text| text.split(';').map(rule).collect())
     }
 
-    fn guid(&self) -> Guid {
-        self.bytes("guid").try_into().unwrap_or_else(|_| panic!("{}: a GUID has 16 bytes", self.place))
+    fn guid(&self, key: &str) -> Guid {
+        self.bytes(key).try_into().unwrap_or_else(|_| panic!("{}: a GUID has 16 bytes", self.place))
+    }
+
+    /// Lines of older files have no shares.
+    fn has_shares(&self) -> bool {
+        self.fields.contains_key("share")
+    }
+
+    fn side(&self) -> u32 {
+        self.number_or("side", OURS)
     }
 
     /// Of more dead addresses than have a place, those that fit go over, and the full count.
     fn context(&self) -> Context {
         let dead = self.fields.get("dead").filter(|&&text| text != "-");
         let dead: Vec<u32> = dead.map_or(vec![], |text| text.split(',').map(|address| address.parse().expect("an address")).collect());
-        Context::worn(self.number("n").into(), &dead).paged(self.number_or("w", 1))
+        Context::worn(self.number("n").into(), &dead).paged(self.number_or("w", 1)).by(self.side())
     }
 
     /// Checks a field if the line gives it.
@@ -138,15 +150,20 @@ struct Player {
     calls: Calls,
     image: Vec<u8>,
     session: Session,
+    /// The session's line had no shares: ours goes by the current image.
+    alone: bool,
     slots: [Vec<u8>; 8],
 }
 
 impl Player {
     fn new(calls: Calls) -> Player {
-        Player { calls, image: Vec::new(), session: (calls.session_new)(&Setup::PLAIN), slots: Default::default() }
+        Player { calls, image: Vec::new(), session: (calls.session_new)(&Setup::NOTHING), alone: true, slots: Default::default() }
     }
 
     fn run(&mut self, line: &Line) {
+        if self.alone {
+            self.session.setup.share = Setup::alone(self.image.len()).with_records(self.session.setup.records).share;
+        }
         match line.text("op") {
             "image" => self.image(line),
             "poke" => {
@@ -155,7 +172,7 @@ impl Player {
             }
             "save" => self.slots[line.number("slot") as usize] = self.image.clone(),
             "load" => self.image = self.slots[line.number("slot") as usize].clone(),
-            "session" => self.session = session(line),
+            "session" => (self.session, self.alone) = (session(line), !line.has_shares()),
             "set" => self.set(line),
             "get" => self.read(line, self.calls.get),
             "next" => self.read(line, self.calls.next_name),
@@ -176,13 +193,14 @@ impl Player {
     }
 
     fn set(&mut self, line: &Line) {
-        let name = Name { name: line.bytes("name"), vendor: line.guid() };
+        let name = Name { name: line.bytes("name"), vendor: line.guid("guid") };
         let (attributes, presence, verdict) = (line.number("attrs"), line.number("presence"), line.number("verdict"));
-        self.store(line, &Call::Set(Asked { name, attributes, data: line.bytes("data"), presence, verdict }));
+        self.store(line, &Call::Set(Asked { name, attributes, data: line.bytes("data"), presence, verdict, side: line.side() }));
     }
 
     fn start_up(&mut self, line: &Line) {
-        self.store(line, &Call::StartUp(setup(line)));
+        self.store(line, &Call::StartUp(setup(line, self.image.len())));
+        self.alone = !line.has_shares();
     }
 
     fn store(&mut self, line: &Line, call: &Call) {
@@ -210,7 +228,7 @@ impl Player {
     }
 
     fn read(&mut self, line: &Line, call: fn(Context, &Session, &[u8], Key, &mut [u8]) -> Reply) {
-        let (name, vendor) = (line.bytes("name"), line.guid());
+        let (name, vendor) = (line.bytes("name"), line.guid("guid"));
         let mut buffer = vec![line.number("fill") as u8; line.number("buflen") as usize];
         let reply = call(line.context(), &self.session, &self.image, Key { name: &name, vendor: &vendor }, &mut buffer);
         expect_answer(line, reply.answer);
@@ -220,7 +238,7 @@ impl Player {
     }
 
     fn lock(&mut self, line: &Line) {
-        let listed = (self.calls.lock)(self.session, Key { name: &line.bytes("name"), vendor: &line.guid() });
+        let listed = (self.calls.lock)(self.session, line.side(), Key { name: &line.bytes("name"), vendor: &line.guid("guid") });
         self.session = listed.session;
         expect_answer(line, listed.answer);
     }
@@ -250,11 +268,21 @@ impl Player {
         line.expect("s_count", &self.session.count.to_string());
         line.expect("s_sizes", &self.session.sizes.map(|size| size.to_string()).join(","));
         line.expect_bytes("s_locks", &self.session.locks);
+        line.expect("s_share", &self.session.setup.share.to_string());
+        line.expect("s_share1", &self.session.setup.modem.share.to_string());
+        line.expect("s_reserve1", &self.session.setup.modem.reserve.to_string());
+        line.expect_bytes("s_modem", &self.session.setup.modem.vendor);
     }
 }
 
-fn setup(line: &Line) -> Setup {
-    let setup = Setup { custom: line.number("custom"), reserve: line.number("reserve"), records: line.number_or("hw", 0), ..Setup::PLAIN };
+/// On an image of so many bytes.
+fn setup(line: &Line, image_len: usize) -> Setup {
+    let (custom, reserve, records) = (line.number("custom"), line.number("reserve"), line.number_or("hw", 0));
+    let mut setup = Setup { custom, reserve, ..Setup::alone(image_len) }.with_records(records);
+    if line.has_shares() {
+        setup.share = line.number("share");
+        setup.modem = Tenant { share: line.number("share1"), reserve: line.number("reserve1"), vendor: line.guid("modem") };
+    }
     setup.ruled(&line.rules())
 }
 
@@ -262,7 +290,7 @@ fn session(line: &Line) -> Session {
     let sizes: Vec<u32> = line.text("sizes").split(',').map(|size| size.parse().expect("a size")).collect();
     Session {
         phase: line.number("phase"),
-        setup: setup(line),
+        setup: setup(line, 0),
         count: line.number("count"),
         sizes: sizes.try_into().expect("16 sizes"),
         locks: line.bytes("locks").try_into().expect("2,304 bytes"),
@@ -363,13 +391,19 @@ fn chips_that_program_a_page() {
 /// 02 (a): hardware error records.
 #[test]
 fn hardware_error_records() {
-    run_file("a.txt", 444, 0);
+    run_file("a.txt", 444, 5);
 }
 
 /// 02 (e): rules for settings.
 #[test]
 fn settings_that_must_make_sense() {
-    run_file("e.txt", 392, 0);
+    run_file("e.txt", 392, 9);
+}
+
+/// 02 (f): a second tenant in the same region.
+#[test]
+fn a_second_tenant() {
+    run_file("f.txt", 481, 0);
 }
 
 #[test]

@@ -6,7 +6,7 @@ use common::station::{each, Station};
 use common::{signed, stamped, A, AUTUMN, B, NEW, OLD, RATE, SPRING, VENDOR};
 use varstore::calls::lent;
 use varstore::engine;
-use varstore::interface::{Answer, Context, Key, Reply, Request, Rule, Setup, AFTER_END_OF_DXE, RUNTIME};
+use varstore::interface::{Answer, Context, Key, Reply, Request, Rule, Setup, AFTER_END_OF_DXE, OURS, RUNTIME};
 use varstore::paper::{self, request};
 use varstore::plan::{Content, Operation, Plan, OPERATIONS};
 
@@ -355,13 +355,13 @@ fn appended_nothing_and_to_nothing() {
 fn phases_and_locks() {
     on_rate(|mut station| {
         assert_eq!(station.set(A, 0x03, OLD), Answer::Done(69));
-        let listed = (station.calls.lock)(station.session, RATE);
+        let listed = (station.calls.lock)(station.session, OURS, RATE);
         assert_eq!((listed.answer, listed.session.count, listed.session.sizes[0]), (Answer::Done(0), 1, 10));
         station.session = listed.session;
         assert_eq!(station.set(RATE, 0x07, NEW), Answer::Done(77));
         station.session = (station.calls.phase)(station.session, AFTER_END_OF_DXE);
         assert_eq!(station.set(RATE, 0x07, OLD), refused(6));
-        assert_eq!((station.calls.lock)(station.session, RATE).answer, refused(15));
+        assert_eq!((station.calls.lock)(station.session, OURS, RATE).answer, refused(15));
         station.session = (station.calls.phase)(station.session, RUNTIME);
         assert_eq!(station.get(A).0.answer, refused(11));
         assert_eq!(station.set(A, 0x03, OLD), refused(4));
@@ -370,19 +370,19 @@ fn phases_and_locks() {
     });
 }
 
-/// "The lock list holds 16 other names": 16; "a name already listed is accepted unchanged".
+/// 02 (f): "16, eight of that side's names or no free place"; "a name already listed is accepted unchanged".
 #[test]
-fn sixteen_locks() {
+fn eight_locks() {
     each(|station| {
         let mut session = station.session;
-        for letter in b'a'..b'a' + 16 {
-            let listed = (station.calls.lock)(session, Key { name: &[letter, 0, 0, 0], vendor: &VENDOR });
+        for letter in b'a'..b'a' + 8 {
+            let listed = (station.calls.lock)(session, OURS, Key { name: &[letter, 0, 0, 0], vendor: &VENDOR });
             assert_eq!(listed.answer, Answer::Done(0));
             session = listed.session;
         }
-        let again = (station.calls.lock)(session, Key { name: b"c\0\0\0", vendor: &VENDOR });
+        let again = (station.calls.lock)(session, OURS, Key { name: b"c\0\0\0", vendor: &VENDOR });
         assert_eq!((again.answer, again.session), (Answer::Done(0), session));
-        let more = (station.calls.lock)(session, RATE);
+        let more = (station.calls.lock)(session, OURS, RATE);
         assert_eq!((more.answer, more.session), (refused(16), session));
     });
 }
@@ -426,7 +426,7 @@ fn deciding_stores() {
     on_rate(|mut station| {
         let deciding = |station: &Station, key, attributes, data| {
             let request = Request { key, attributes, data, presence: 0, verdict: 0 };
-            let list = paper::set_stores(1, &station.session, &station.image, &request).expect("accepted");
+            let list = paper::set_stores(1, OURS, &station.session, &station.image, &request).expect("accepted");
             (list.len(), list.deciding(), list.deciding().and_then(|index| list.get(index)))
         };
         assert_eq!(deciding(&station, RATE, 0x07, NEW), (77, Some(75), Some(paper::Store::byte(106, 0x3F))));
@@ -454,7 +454,7 @@ fn planned_operations() {
         let erase = |first, count| Operation::Erase { first, count };
         let set = |attributes, data| {
             let request = Request { key: RATE, attributes, data, presence: 0, verdict: 0 };
-            planned(|content| engine::plan_set(&session, &image, &request, content))
+            planned(|content| engine::plan_set(&session, OURS, &image, &request, content))
         };
         let header = [Operation::Header { at: 104, from: 0 }];
         let written = [mark(106, 0x7F), program(164, 60, 10), program(174, 70, 4), mark(106, 0x3F), mark(STATE, 0x3C)];
@@ -462,11 +462,11 @@ fn planned_operations() {
         assert_eq!(set(0, &[]), (vec![mark(STATE, 0x3D)], Some(mark(STATE, 0x3D))));
         assert_eq!(set(0x07, OLD), (vec![], None));
         assert_eq!(planned(|content| engine::plan_format(&image, content)), (vec![erase(0, 3), program(0, 0, 28)], None));
-        assert_eq!(planned(|content| engine::plan_start_up(&image, content)), (vec![], None));
+        assert_eq!(planned(|content| engine::plan_start_up(&image, &Setup::PLAIN, content)), (vec![], None));
         station.image[4000] = 0;
         let filled = [mark(WORK, 0xFE), program(SPARE, 0, 4096), mark(WORK, 0xFC)];
         let copied = [erase(0, 1), program(0, 0, 4096), mark(WORK, 0xF8), erase(2, 1)];
-        assert_eq!(planned(|content| engine::plan_start_up(&station.image, content)), ([&filled[..], &copied].concat(), None));
+        assert_eq!(planned(|content| engine::plan_start_up(&station.image, &Setup::PLAIN, content)), ([&filled[..], &copied].concat(), None));
     });
 }
 
@@ -491,7 +491,7 @@ fn every_stop_of_a_compaction() {
         station.set(A, 0x07, &[1; 2048]);
         station.set(B, 0x07, &[2; 1892]);
         let request = Request { key: A, attributes: 0x07, data: &[3; 2048], presence: 0, verdict: 0 };
-        let list = paper::set_stores(1, &station.session, &station.image, &request).expect("accepted");
+        let list = paper::set_stores(1, OURS, &station.session, &station.image, &request).expect("accepted");
         let mut after = station.image.clone();
         for (n, store) in list.iter().enumerate() {
             assert_eq!(list.get(n), Some(store));

@@ -15,6 +15,7 @@ use common::generate::{self, BLOCK};
 use common::random::Random;
 use common::rounds::{once, rounds};
 use common::stored::{carry_out, Call};
+use common::tenants::admitting;
 use common::{signed, A, B, NEW, OLD, RATE, RECORD, VENDOR};
 use varstore::calls::{lent, Calls, BOTH, ENGINE};
 use varstore::interface::{Answer, Context, Key, Rule, Setup, DEAD};
@@ -255,7 +256,7 @@ fn marks_on_a_dead_state() {
 #[test]
 fn session_of_a_failed_start_up() {
     let dirty = with_dirty_tail(1).image;
-    let given = Setup { custom: 7, reserve: 5000, records: u32::MAX, ..Setup::PLAIN };
+    let given = Setup { custom: 7, reserve: 5000, ..Setup::PLAIN }.with_records(500);
     for calls in BOTH {
         let started = (calls.start_up)(Context::worn(u64::MAX, &[BLOCK as u32]), &mut dirty.clone(), &given);
         assert_eq!(started.answer, WORN, "{}", calls.who);
@@ -325,7 +326,8 @@ fn a_host_that_reads_back() {
 fn some_image(r: &mut Random) -> Vec<u8> {
     let blocks = if r.once_in(4) { 2 } else { 1 };
     let mut image = if r.once_in(2) { generate::filled(r, blocks) } else { generate::crafted::<Authenticated>(r, blocks) };
-    match (ENGINE.start_up)(Context::NO_LIMIT, &mut image, &Setup::PLAIN).answer {
+    let setup = admitting(&image);
+    match (ENGINE.start_up)(Context::NO_LIMIT, &mut image, &setup).answer {
         Answer::Done(_) => image,
         _ => generate::empty(blocks),
     }
@@ -336,7 +338,7 @@ fn some_call(run: &mut Run, r: &mut Random) -> Call {
     if r.once_in(4) {
         return START_UP;
     }
-    run.session = (ENGINE.session_new)(&generate::lenient(r));
+    run.session = (ENGINE.session_new)(&generate::lenient(r, run.image.len()));
     let mut asked = generate::asked_on(r, &run.image);
     asked.presence = 1;
     Call::Set(asked)

@@ -10,13 +10,14 @@ use std::hint::black_box;
 use std::time::{Duration, Instant};
 
 use varstore::calls::{lent, Calls, ENGINE, PAPER};
-use varstore::interface::{Answer, Context, Guid, Key, Request, Rule, Session, Setup};
+use varstore::interface::{Answer, Context, Guid, Key, Request, Rule, Session, Setup, Tenant, MODEM, OURS};
 use varstore::paper::entry::{self, Contents, GONE, STATE};
 use varstore::paper::layout::Authenticated;
 use varstore::paper::region;
 
 const BLOCK: usize = 4096;
 const VENDOR: Guid = [1, 2, 3, 4, 5, 6, 7, 8, 9, 10, 11, 12, 13, 14, 15, 16];
+const MODEMS: Guid = [0x4D; 16];
 const NONE: Variable = (Vec::new(), VENDOR);
 /// How many values a region of seven blocks has in the rows that grow.
 const COUNTS: [usize; 4] = [25, 50, 100, 200];
@@ -39,6 +40,9 @@ struct Case {
     variable: Variable,
     image: Vec<u8>,
     width: u32,
+    /// Who asks, and what the session was given.
+    side: u32,
+    setup: Setup,
     turns: usize,
     /// One of a row of cases that grow: its instructions are counted, and compared with those of the others.
     grows: bool,
@@ -49,8 +53,8 @@ struct Case {
 impl Case {
     fn desk(&self) -> Desk {
         Desk {
-            context: Context::NO_LIMIT.paged(self.width),
-            session: (PAPER.session_new)(&Setup::PLAIN),
+            context: Context::NO_LIMIT.paged(self.width).by(self.side),
+            session: (PAPER.session_new)(&self.setup),
             variable: self.variable.clone(),
             image: self.image.clone(),
             buffer: [0; 2048],
@@ -104,6 +108,11 @@ fn name(text: &str) -> Vec<u8> {
 /// Names of one front that differ late, as the settings of a device do.
 fn numbered(index: usize) -> Variable {
     (name(&format!("SET{index:04}")), VENDOR)
+}
+
+/// The same, every second one the modem's.
+fn by_turns(index: usize) -> Variable {
+    (numbered(index).0, if index % 2 == 0 { VENDOR } else { MODEMS })
 }
 
 /// Long names of one front and one end, as people give them.
@@ -187,7 +196,7 @@ fn check(calls: &Calls, desk: &mut Desk) -> Answer {
 }
 
 fn start(calls: &Calls, desk: &mut Desk) -> Answer {
-    (calls.start_up)(desk.context, &mut desk.image, &Setup::PLAIN).answer
+    (calls.start_up)(desk.context, &mut desk.image, &desk.session.setup).answer
 }
 
 /// Replaces a value by another of the same length.
@@ -201,8 +210,9 @@ fn replace(calls: &Calls, desk: &mut Desk) -> Answer {
 fn names(calls: &Calls, desk: &mut Desk) -> Answer {
     let (mut last, mut size) = ([0; 144], 0);
     let Desk { context, session, image, buffer, .. } = desk;
+    let vendor = if context.side == MODEM { &MODEMS } else { &VENDOR };
     loop {
-        let key = if size == 0 { BEGIN } else { Key { name: &last[16..size], vendor: &VENDOR } };
+        let key = if size == 0 { BEGIN } else { Key { name: &last[16..size], vendor } };
         let reply = (calls.next_name)(*context, session, image, key, &mut buffer[..144]);
         if reply.answer != Answer::Done(0) {
             return reply.answer;
@@ -221,7 +231,29 @@ fn case(
     turn: fn(&Calls, &mut Desk) -> Answer,
     expected: Answer,
 ) -> Case {
-    Case { name: name.into(), variable, image: image(region, blocks), width: 1, turns, grows: false, turn, expected }
+    let image = image(region, blocks);
+    let setup = Setup::alone(image.len());
+    Case { name: name.into(), variable, image, width: 1, side: OURS, setup, turns, grows: false, turn, expected }
+}
+
+/// Two hundred values in seven blocks of which a modem has half, asked by a side; each has a share that is not full.
+fn beside_a_modem() -> Vec<Case> {
+    let setup = Setup { share: 14000, modem: Tenant { share: 14000, reserve: 0, vendor: MODEMS }, ..Setup::NOTHING };
+    let row = |name, side, index, turns, turn, expected| Case {
+        side,
+        setup,
+        ..case(name, by_turns(index), region_with(7, 200, by_turns, 50), 7, turns, turn, expected)
+    };
+    let end = Answer::Refused(Rule::Absent);
+    vec![
+        row("get beside a modem, 200", OURS, 198, 20, get, Answer::Done(0)),
+        row("get by the modem, 200", MODEM, 199, 20, get, Answer::Done(0)),
+        row("next-name beside it, 101 calls", OURS, 0, 2, names, end),
+        row("next-name by it, 101 calls", MODEM, 1, 2, names, end),
+        row("set in the tail beside it", OURS, 0, 20, replace, Answer::Done(129)),
+        row("set in the tail by it", MODEM, 1, 20, replace, Answer::Done(129)),
+        row("start-up with a modem, 200", OURS, 0, 20, start, Answer::Done(0)),
+    ]
 }
 
 /// Full regions of one to seven blocks; more and more values in seven blocks.
@@ -265,6 +297,7 @@ fn cases() -> Vec<Case> {
         case("get, marks equal, 286 names", last17, alike17, 7, 2, get, done(0)),
         case("get, marks equal, 421 GUIDs", last_under, under, 7, 2, get, done(0)),
     ];
+    cases.extend(beside_a_modem());
     cases.extend(growing());
     cases
 }

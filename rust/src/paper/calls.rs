@@ -1,13 +1,14 @@
 //! The calls. Each that stores has two halves: its list of stores, or the rule broken; and the list made up to n.
 
-use super::entry::{well_formed, Entry, RT};
+use super::entry::{Entry, RT};
 use super::image::{blank, Parts};
 use super::layout::Authenticated;
 use super::region::{self, find, values};
 use super::request::{change, Change};
-use super::rules::{of_the_call, of_the_change, of_what_stands, ready};
+use super::rules::{broken, of_the_call, of_the_change, of_the_name, of_what_stands, ready};
 use super::session::{is_runtime, session_new};
 use super::stores::{clearing, compaction, deletion, formatting, in_tail, resumption, Stores, Wanting};
+use super::tenants::{exceeded, Side};
 use super::work;
 use crate::interface::{Answer, Checked, Context, Key, Reply, Request, Rule, Session, Setup, Started, DEAD};
 
@@ -24,13 +25,11 @@ fn is_seen(session: &Session, value: &Entry) -> bool {
     !is_runtime(session) || value.attributes() & RT != 0
 }
 
-/// The value's data into the front of the buffer. Rules 1, 2, 3, 11 and 14. It makes no stores, so no n stops it and none fails.
-pub fn get(_: Context, session: &Session, image: &[u8], key: Key, buffer: &mut [u8]) -> Reply {
+/// The value's data into the front of the buffer. Rules 1, 2, 3, 22, 11 and 14. It makes no stores, so no n stops it and none fails.
+pub fn get(context: Context, session: &Session, image: &[u8], key: Key, buffer: &mut [u8]) -> Reply {
     let found = || {
         let ready = ready::<Authenticated>(image)?;
-        if !well_formed(key.name) {
-            return Err(Rule::Name);
-        }
+        of_the_name(&session.setup, Side::of(context.side), key)?;
         find(ready.parts.region, key).value().filter(|value| is_seen(session, value)).ok_or(Rule::Absent)
     };
     match found() {
@@ -39,15 +38,17 @@ pub fn get(_: Context, session: &Session, image: &[u8], key: Key, buffer: &mut [
     }
 }
 
-/// The GUID and name of the value after the named one into the front of the buffer. Rules 1, 2, 3, 11 and 14.
-pub fn next_name(_: Context, session: &Session, image: &[u8], key: Key, buffer: &mut [u8]) -> Reply {
+/// The GUID and name of the value after the named one into the front of the buffer. Rules 1, 2, 3, 22, 11 and 14; the empty name is no side's. 02 (f): "Next-name
+/// shows a side only its own values".
+pub fn next_name(context: Context, session: &Session, image: &[u8], key: Key, buffer: &mut [u8]) -> Reply {
     let found = || {
         let ready = ready::<Authenticated>(image)?;
-        let begins = key.name == [0, 0];
-        if !begins && !well_formed(key.name) {
-            return Err(Rule::Name);
+        let (side, begins) = (Side::of(context.side), key.name == [0, 0]);
+        if !begins {
+            of_the_name(&session.setup, side, key)?;
         }
-        let mut values = values(ready.parts.region).filter(|value| is_seen(session, value));
+        let is_own = |value: &Entry| Side::owning(&session.setup, value.key()) == side;
+        let mut values = values(ready.parts.region).filter(|value| is_seen(session, value) && is_own(value));
         if !begins && !values.any(|value| value.is_for(key)) {
             return Err(Rule::Absent);
         }
@@ -104,16 +105,16 @@ pub fn width(context: &Context) -> usize {
     }
 }
 
-/// Sets, appends to or deletes a value. Rules 1 to 13, 17, 18, 21 and 23.
+/// Sets, appends to or deletes a value. Rules 1 to 13, 17, 18, 21, 22 and 23.
 pub fn set(context: Context, session: &Session, image: &mut [u8], request: &Request) -> Answer {
-    made(set_stores(width(&context), session, image, request), context, image)
+    made(set_stores(width(&context), context.side, session, image, request), context, image)
 }
 
-/// The list of stores of w bytes.
-pub fn set_stores(w: usize, session: &Session, image: &[u8], request: &Request) -> Result<Stores, Rule> {
+/// The list of stores of w bytes, where a side asks.
+pub fn set_stores(w: usize, side: u32, session: &Session, image: &[u8], request: &Request) -> Result<Stores, Rule> {
     let ready = ready::<Authenticated>(image)?;
     let (region, key) = (ready.parts.region, request.key);
-    of_the_call(session, request)?;
+    of_the_call(session, Side::of(side), request)?;
     let standing = find(region, key);
     let value = standing.value();
     let payload = of_what_stands(session, region, request, value.as_ref())?;
@@ -138,18 +139,21 @@ pub fn format_stores(w: usize, image: &[u8]) -> Result<Stores, Rule> {
     Parts::of(image).map(|parts| formatting(w, &parts)).ok_or(Rule::Length)
 }
 
-/// Finishes what a power cut has left, and makes a fresh session. Rules 1 and 2, and 23.
+/// Finishes what a power cut has left, and makes a fresh session. Rules 1, 2 and 22, and 23.
 pub fn start_up(context: Context, image: &mut [u8], setup: &Setup) -> Started {
-    let answer = made(start_up_stores(width(&context), image), context, image);
+    let answer = made(start_up_stores(width(&context), image, setup), context, image);
     Started { answer, session: session_new(setup) }
 }
 
-pub fn start_up_stores(w: usize, image: &[u8]) -> Result<Stores, Rule> {
+/// 02 (f): 22 on the values that it finds, "(in the spare if pending)".
+pub fn start_up_stores(w: usize, image: &[u8], setup: &Setup) -> Result<Stores, Rule> {
     let parts = Parts::of(image).ok_or(Rule::Length)?;
     if let Some(record) = work::pending(&parts) {
+        broken(Rule::Tenant, exceeded(setup, parts.spare))?;
         return Ok(resumption(w, &parts, record));
     }
     let tail = region::sound::<Authenticated>(parts.region).ok_or(Rule::Unready)?;
+    broken(Rule::Tenant, exceeded(setup, parts.region))?;
     let records = work::read(parts.work).filter(|records| !records.ends_in_spare_complete);
     let wanting = Wanting { erase_spare: !blank(parts.spare), erase_work: records.is_none(), compact: !blank(&parts.region[tail..]) };
     Ok(clearing(w, &parts, records.map_or(0, |records| records.used), wanting))

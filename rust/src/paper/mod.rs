@@ -13,6 +13,7 @@ pub mod rules;
 pub mod session;
 pub mod settings;
 pub mod stores;
+pub mod tenants;
 pub mod varlist;
 pub mod work;
 

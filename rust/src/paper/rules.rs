@@ -8,8 +8,9 @@ use super::region::{self, REGION_HEADER};
 use super::request::{is_later, key_name, payload, wanted, Change, Payload};
 use super::session::{is_boot, is_locked, is_runtime, record_space, reserve};
 use super::settings::breaks_rule;
+use super::tenants::{Side, Sizes};
 use super::work;
-use crate::interface::{Key, Request, Rule, Session};
+use crate::interface::{Key, Request, Rule, Session, Setup};
 
 pub fn broken(rule: Rule, is: bool) -> Result<(), Rule> {
     if is {
@@ -36,13 +37,19 @@ pub fn ready<F: Layout>(image: &[u8]) -> Result<Ready<'_>, Rule> {
     Ok(Ready { parts, tail, records: records.used })
 }
 
-/// Rules 3 to 5, 17 and 6: the call by itself.
-pub fn of_the_call(session: &Session, request: &Request) -> Result<(), Rule> {
+/// Rules 3 and 22: the name by itself. 02 (f): "22 .. when a call names the other side's name, the empty one apart, after 3".
+pub fn of_the_name(setup: &Setup, side: Side, key: Key) -> Result<(), Rule> {
+    broken(Rule::Name, !well_formed(key.name))?;
+    broken(Rule::Tenant, Side::owning(setup, key) != side)
+}
+
+/// Rules 3, 22, 4, 5, 17 and 6: the call by itself.
+pub fn of_the_call(session: &Session, side: Side, request: &Request) -> Result<(), Rule> {
     let attributes = request.attributes;
     let without_append = attributes & !APPEND;
     let known = without_append == 0 || STORABLE.contains(&without_append);
     let hidden = is_runtime(session) && attributes != 0 && attributes & RT == 0;
-    broken(Rule::Name, !well_formed(request.key.name))?;
+    of_the_name(&session.setup, side, request.key)?;
     broken(Rule::Attributes, !known || attributes == APPEND || hidden)?;
     broken(Rule::KeyAttributes, key_name(request.key).is_some() && attributes != 0x27 && attributes != 0x67)?;
     // 02 (a): "17 when a call with attributes other than 0 has attribute 0x08 without this GUID and name form, or both of those without 0x08, after 5"
@@ -83,31 +90,22 @@ pub fn of_the_change(session: &Session, region: &[u8], key: Key, value: Option<&
         Change::Put(contents) => {
             broken(Rule::DataSize, contents.data_size() > MOST_DATA)?;
             broken(Rule::Setting, breaks_rule(session, key, Some([contents.old, contents.new])))?;
-            let Sizes { records, others } = sizes_after(region, key, contents);
-            let (header, length) = (REGION_HEADER as u64, region.len() as u64);
-            // 02 (a): "18 when after a set of one their rounded sizes exceed H, before 13 and with its exemptions"; "a set of any other value meets 13 if 28, the
-            // other values, H and (at runtime) R exceed L; every set, if 28 and all values do"
+            let (side, sizes) = (Side::owning(&session.setup, key), sizes_after(&session.setup, region, key, contents));
+            // 02 (a): "18 when after a set of one their rounded sizes exceed H, before 13 and with its exemptions"; 02 (f): "Rule 13 .. reads a side's sum without error
+            // records, with its reserve at runtime, against its share, and still 28 plus all values against L (an error record's set meets only this)"
             if is_record(contents.attributes) {
-                broken(Rule::RecordRoom, records > record_space(session))?;
+                broken(Rule::RecordRoom, sizes.records > record_space(session))?;
             } else {
-                broken(Rule::Room, header + others + record_space(session) + reserve(session) > length)?;
+                broken(Rule::Room, sizes.of_side(side) + reserve(session, side) > side.share(&session.setup))?;
             }
-            broken(Rule::Room, header + records + others > length)
+            broken(Rule::Room, REGION_HEADER as u64 + sizes.all() > region.len() as u64)
         }
     }
 }
 
-/// The rounded entry sizes of all records, and of all other values.
-struct Sizes {
-    records: u64,
-    others: u64,
-}
-
-/// Those after the change. H is added to them, which may be any u32, and R: 64 bits hold the sums.
-fn sizes_after(region: &[u8], key: Key, contents: &Contents) -> Sizes {
-    let mut sizes = Sizes { records: 0, others: 0 };
-    let mut add = |attributes, size: usize| *(if is_record(attributes) { &mut sizes.records } else { &mut sizes.others }) += size as u64;
-    region::values::<Authenticated>(region).filter(|value| !value.is_for(key)).for_each(|value| add(value.attributes(), value.size()));
-    add(contents.attributes, contents.entry_size::<Authenticated>(key));
+/// The sizes of all values after the change.
+fn sizes_after(setup: &Setup, region: &[u8], key: Key, contents: &Contents) -> Sizes {
+    let mut sizes = Sizes::of(setup, region::values::<Authenticated>(region).filter(|value| !value.is_for(key)));
+    sizes.add(setup, key, contents.attributes, contents.entry_size::<Authenticated>(key));
     sizes
 }

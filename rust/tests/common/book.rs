@@ -1,8 +1,9 @@
 //! *The book*: the list of values that the calls' arguments and answers alone have made.
 
 use super::generate::Name;
+use super::tenants::is_modems;
 use varstore::calls::Calls;
-use varstore::interface::{Answer, Context, Key, Request, Session, Setup, RUNTIME};
+use varstore::interface::{Answer, Context, Key, Request, Session, Setup, MODEM, RUNTIME};
 use varstore::paper::image::Parts;
 use varstore::paper::layout::{Authenticated, Layout};
 use varstore::paper::region;
@@ -35,8 +36,12 @@ impl Book {
 
     /// The same of a clean image in a form of its own.
     pub fn of_form<F: Layout>(image: &[u8]) -> Book {
-        let parts = Parts::of(image).expect("the length of an image");
-        let values = region::values::<F>(parts.region).map(|value| Value {
+        Book::in_region::<F>(Parts::of(image).expect("the length of an image").region)
+    }
+
+    /// The same of a sound region.
+    pub fn in_region<F: Layout>(region: &[u8]) -> Book {
+        let values = region::values::<F>(region).map(|value| Value {
             name: Name { name: value.name().to_vec(), vendor: *value.vendor() },
             attributes: value.attributes(),
             stamp: *value.stamp(),
@@ -84,9 +89,10 @@ impl Book {
         value.is_seen(session).then_some((value.attributes, &value.data))
     }
 
-    /// What an accepted next-name gives: the value behind the named one, or the first.
-    pub fn next(&self, session: &Session, key: Key) -> Option<&Name> {
-        let mut seen = self.values.iter().filter(|value| value.is_seen(session));
+    /// What an accepted next-name gives: of a side's own values the one behind the named one, or the first.
+    pub fn next(&self, session: &Session, side: u32, key: Key) -> Option<&Name> {
+        let is_own = |value: &&Value| is_modems(&session.setup, value.name.key()) == (side == MODEM);
+        let mut seen = self.values.iter().filter(|value| value.is_seen(session)).filter(is_own);
         if key.name != [0, 0] {
             seen.find(|value| value.name.key() == key)?;
         }

@@ -4,13 +4,13 @@ use super::cuts::Run;
 use super::generate::{self, Asked, Name, BLOCK};
 use super::stored::Call;
 use super::{signed, A, B, NEW, OLD, RATE, VENDOR};
-use varstore::interface::{Answer, Key, Setting};
+use varstore::interface::{Answer, Key, Setting, Setup, OURS};
 
 pub const C: Key = Key { name: b"C\0\0\0", vendor: &VENDOR };
 pub const S: Key = Key { name: b"S\0\0\0", vendor: &VENDOR };
 
 pub fn asked(key: Key, attributes: u32, data: &[u8]) -> Asked {
-    Asked { name: Name { name: key.name.to_vec(), vendor: *key.vendor }, attributes, data: data.to_vec(), presence: 0, verdict: 3 }
+    Asked { name: Name { name: key.name.to_vec(), vendor: *key.vendor }, attributes, data: data.to_vec(), presence: 0, verdict: 3, side: OURS }
 }
 
 pub fn set(key: Key, data: &[u8]) -> Call {
@@ -50,9 +50,9 @@ impl Run {
         self
     }
 
-    /// The same in a session with so many bytes for records.
+    /// The same in a session with so many bytes for records, and the rest of L for others.
     pub fn with_space(mut self, records: u32) -> Run {
-        self.session.setup.records = records;
+        self.session.setup = Setup { share: Setup::alone(self.image.len()).share, ..self.session.setup }.with_records(records);
         self
     }
 

@@ -7,6 +7,7 @@ use super::random::Random;
 use super::same_bytes;
 use super::settings::check_kept;
 use super::stored::{carry_out, Call};
+use super::tenants::is_refused;
 use varstore::calls::{lent, ENGINE};
 use varstore::interface::{Answer, Context, Rule, Session, Setup};
 use varstore::paper::layout::Authenticated;
@@ -14,7 +15,7 @@ use varstore::paper::region::header;
 use varstore::paper::work::{BEGUN, SPARE_COMPLETE, UNUSED};
 use varstore::paper::{self, Made, Page, Store, Stores};
 
-pub const START_UP: Call = Call::StartUp(Setup::PLAIN);
+pub const START_UP: Call = Call::Restart;
 
 /// How the stores of a call reach the image: the engine makes them, or it plans them and a host carries them out.
 #[derive(Clone, Copy, PartialEq, Eq, Debug)]
@@ -192,7 +193,7 @@ pub struct Run {
 impl Run {
     /// Begins on an image as a done start-up left it.
     pub fn new(image: Vec<u8>, former: Vec<u8>) -> Run {
-        let session = (ENGINE.session_new)(&Setup::PLAIN);
+        let session = (ENGINE.session_new)(&Setup::alone(image.len()));
         Run { way: Way::Called, book: Book::of(&image), image, session, former, dead: vec![], width: 1, cuts: vec![] }
     }
 
@@ -213,6 +214,9 @@ impl Run {
 
     /// Makes the call up to n stores: answer and image are the paper's, and the book is fed.
     pub fn make(&mut self, call: &Call, n: u64) -> Answer {
+        let setup = call.setup(&self.image);
+        let refused = matches!(call, Call::StartUp(given) if is_refused(given, &self.image));
+        let call = &setup.map_or_else(|| call.clone(), Call::StartUp);
         let list = self.stores(call);
         let mut after = self.image.clone();
         let (expected, made) = match &list {
@@ -232,8 +236,9 @@ impl Run {
             self.book.set(&asked.request());
             check_kept(&self.session, &asked.request(), &self.book);
         }
-        if let Call::StartUp(setup) = call {
-            assert!(self.session == paper::session_new(setup), "a start-up's session is fresh");
+        if let Some(setup) = setup {
+            assert!(self.session == paper::session_new(&setup), "a start-up's session is fresh");
+            assert_eq!(answer == Answer::Refused(Rule::Tenant), refused, "22 with {setup:?} after {:?}", self.cuts);
         }
         answer
     }
@@ -248,12 +253,13 @@ impl Run {
     /// One planning call, and its stores are made on the part; also tells whether the deciding one was among those made.
     fn carry_out(&mut self, call: &Call, n: u64) -> (Answer, bool) {
         let context = self.context(n);
+        let session = call.planned_session(&self.session, &self.image);
         let planned = lent(|content| {
             let plan = call.plan(&self.session, &self.image, content)?;
             let made = carry_out(&plan, content, &context, &mut self.image);
             Ok((plan, made))
         });
-        self.session = call.planned_session(&self.session);
+        self.session = session;
         match planned {
             Err(rule) => (Answer::Refused(rule), false),
             Ok((plan, made)) => {

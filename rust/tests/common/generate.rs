@@ -1,12 +1,14 @@
 //! Random names, data, descriptors, sessions and images: mostly well formed, often on a boundary, sometimes damaged. Pools are small, so that
 //! calls meet what stands.
 
+use super::book::{Book, Value};
 use super::random::Random;
+use super::tenants::{admitting, found, is_modems, Taken};
 use varstore::calls::PAPER;
-use varstore::interface::{Answer, Context, Guid, Key, Request, Session, Setting, Setup, PLACE, PLACES};
+use varstore::interface::{Answer, Context, Guid, Key, Request, Session, Setting, Setup, Tenant, MODEM, OURS, PLACE, PLACES};
 use varstore::paper::image::Parts;
 use varstore::paper::layout::{Authenticated, Layout, Plain};
-use varstore::paper::records::{self, is_record, record_name};
+use varstore::paper::records::{self, record_name};
 use varstore::paper::region::{self, values};
 use varstore::paper::request::{DB, DBT, DBX, KEK, PK};
 use varstore::paper::{Store, Stores};
@@ -103,7 +105,7 @@ pub fn name(r: &mut Random) -> Name {
         return near_record(r);
     }
     let name = if r.once_in(16) { bad_name(r) } else { good_name(r) };
-    let vendor = r.pick(&[PLAIN_VENDOR, PLAIN_VENDOR, PLAIN_VENDOR, OTHER_VENDOR, *PK.vendor, *DB.vendor, records::VENDOR, [0xFF; 16]]);
+    let vendor = r.pick(&[PLAIN_VENDOR, PLAIN_VENDOR, PLAIN_VENDOR, OTHER_VENDOR, OTHER_VENDOR, *PK.vendor, *DB.vendor, records::VENDOR, [0xFF; 16]]);
     Name { name, vendor }
 }
 
@@ -178,11 +180,12 @@ pub struct Asked {
     pub data: Vec<u8>,
     pub presence: u32,
     pub verdict: u32,
+    pub side: u32,
 }
 
 impl Asked {
     pub fn request(&self) -> Request<'_> {
-        let Asked { name, attributes, data, presence, verdict } = self;
+        let Asked { name, attributes, data, presence, verdict, .. } = self;
         Request { key: name.key(), attributes: *attributes, data, presence: *presence, verdict: *verdict }
     }
 }
@@ -190,12 +193,13 @@ impl Asked {
 /// The data's size and first bytes only: there may be many.
 impl std::fmt::Debug for Asked {
     fn fmt(&self, f: &mut std::fmt::Formatter<'_>) -> std::fmt::Result {
-        let Asked { name, attributes, data, presence, verdict } = self;
-        write!(f, "{name:X?}, attributes {attributes:#X}, presence {presence}, verdict {verdict}, ")?;
+        let Asked { name, attributes, data, presence, verdict, side } = self;
+        write!(f, "side {side}, {name:X?}, attributes {attributes:#X}, presence {presence}, verdict {verdict}, ")?;
         write!(f, "{} bytes of data {:X?}", data.len(), &data[..data.len().min(48)])
     }
 }
 
+/// By our side: who sees the session may choose another.
 pub fn asked(r: &mut Random) -> Asked {
     let name = name(r);
     let is_key = KEYS.contains(&name.key());
@@ -214,7 +218,7 @@ pub fn asked(r: &mut Random) -> Asked {
     let proper = if r.once_in(8) { vec![] } else { data(r, most) };
     let data = if attributes & 0x20 != 0 && !r.once_in(20) { signed(r, &proper) } else { proper };
     let verdict = r.pick(&[0, 1, 1, 2, 3, 3, 4, 4, 5, u32::MAX]);
-    Asked { name, attributes, data, presence: r.pick(&[0, 0, 1, 2, 0x100]), verdict }
+    Asked { name, attributes, data, presence: r.pick(&[0, 0, 1, 2, 0x100]), verdict, side: OURS }
 }
 
 /// A set, append or delete of a value that stands, half of the times where there is one; its attributes and its data often as they are.
@@ -242,31 +246,48 @@ pub fn record_space(r: &mut Random) -> u32 {
     r.pick(&[0, 0, 0, 0, 87, 88, 176, 500, 500, 1000, 1000, 2000, 4068, 4069, 28_644, 70_000, u32::MAX])
 }
 
-/// The same with an eye to a set: what the records take before it or after it, what the other values then leave of L, one byte less or more; or any.
-pub fn record_space_for(r: &mut Random, session: &Session, image: &[u8], asked: &Asked) -> u32 {
-    let region = match Parts::of(image) {
-        Some(parts) if !r.once_in(3) && (PAPER.check)(image).answer == Answer::Done(0) => parts.region,
-        _ => return record_space(r),
-    };
-    let old = values::<Authenticated>(region).find(|value| value.key() == asked.name.key());
-    let joined = old.filter(|_| asked.attributes & 0x40 != 0).map_or(0, |value| value.data_size());
+/// 02 (f): a share: none, around one entry, some, all of a region of one block or of seven, or more than any.
+fn share(r: &mut Random) -> u32 {
+    r.pick(&[0, 75, 76, 500, 2000, 4068, 4068, 4069, 28_644, 28_644, 70_000, u32::MAX])
+}
+
+/// Any numbers of the modem, and one of the GUIDs that names have.
+fn modem(r: &mut Random) -> Tenant {
+    let vendor = r.pick(&[OTHER_VENDOR, OTHER_VENDOR, OTHER_VENDOR, PLAIN_VENDOR, *PK.vendor, *DB.vendor, records::VENDOR, [0; 16]]);
+    Tenant { share: share(r), reserve: r.pick(&[0, 0, 1, 100, 2000, 4095, 4096, 4097, u32::MAX]), vendor }
+}
+
+/// Who asks: the side whose the name is most often, else the other one; ours under any number that is not the modem's.
+pub fn side(r: &mut Random, setup: &Setup, key: Key) -> u32 {
+    match is_modems(setup, key) != r.once_in(8) {
+        true => MODEM,
+        false => r.pick(&[OURS, OURS, OURS, 2, 0x101, u32::MAX]),
+    }
+}
+
+/// Another H and other shares in a session with an eye to a set: what stands or would stand with the reserve, a byte less or more; what the others leave of L; or any.
+pub fn room_for(r: &mut Random, session: &mut Session, image: &[u8], asked: &Asked) {
+    let setup = &mut session.setup;
+    if r.once_in(3) || (PAPER.check)(image).answer != Answer::Done(0) {
+        return [setup.share, setup.modem.share, setup.records] = [share(r), share(r), record_space(r)];
+    }
+    let mut values = Book::of(image).values;
+    let before = Taken::by(setup, &values);
+    let old = values.iter().position(|value| value.name == asked.name).map(|place| values.remove(place));
+    let joined = old.filter(|_| asked.attributes & 0x40 != 0).map_or(0, |value| value.data.len());
     let given = if asked.attributes & 0x20 != 0 { asked.data.len().saturating_sub(40) } else { asked.data.len() };
-    let size = (60 + asked.name.name.len() + joined + given).next_multiple_of(4);
-    let sum = |records| -> usize {
-        values::<Authenticated>(region).filter(|value| is_record(value.attributes()) == records).map(|value| value.size()).sum()
+    let stands = Value { name: asked.name.clone(), attributes: asked.attributes & !0x40, stamp: [0; 16], data: vec![0; joined + given] };
+    values.push(stands);
+    let after = Taken::by(setup, &values);
+    let reserve = |reserve: u32| if session.phase >= 2 { reserve.min(4096).into() } else { 0 };
+    let rest = u64::from(Setup::alone(image.len()).share).saturating_sub(after.ours + after.modem + after.records);
+    let mut near = |before: u64, after: u64| {
+        let bytes = r.pick(&[before, after, after, after, after + rest, after + rest]);
+        (bytes as u32).saturating_add_signed(r.pick(&[-1, 0, 0, 0, 1]))
     };
-    let sum_after = |records| {
-        let kept = sum(records) - old.filter(|value| is_record(value.attributes()) == records).map_or(0, |value| value.size());
-        kept + if is_record(asked.attributes) == records { size } else { 0 }
-    };
-    let reserve = if session.phase >= 2 { session.setup.reserve.min(4096) as usize } else { 0 };
-    let space = match r.below(5) {
-        0 => sum(true),
-        1 | 2 if is_record(asked.attributes) => sum_after(true),
-        3 if is_record(asked.attributes) => region.len(),
-        _ => region.len().saturating_sub(28 + sum_after(false) + reserve),
-    };
-    (space as u32).saturating_add_signed(r.pick(&[-1, 0, 0, 0, 1]))
+    setup.records = near(before.records, after.records);
+    setup.share = near(before.ours, after.ours + reserve(setup.reserve));
+    setup.modem.share = near(before.modem, after.modem + reserve(setup.modem.reserve));
 }
 
 /// 02 (e): a rule for a name, with an eye to data: they break it in no way, or in one most often.
@@ -379,26 +400,43 @@ fn would_stand(image: &[u8], asked: &Asked) -> Vec<u8> {
     [old, given].concat()
 }
 
-/// What a start-up is given.
-pub fn setup(r: &mut Random) -> Setup {
-    let mut setup =
-        Setup { custom: r.pick(&[0, 1, 2, u32::MAX]), reserve: r.pick(&[0, 1, 4096, 4097, u32::MAX]), records: record_space(r), ..Setup::PLAIN };
+/// What a start-up is given, with an eye to what it finds: shares and H that admit it most often, with the rest of L for one of them or for none, or a byte off; or
+/// any.
+pub fn setup(r: &mut Random, image: &[u8]) -> Setup {
+    let mut setup = Setup { custom: r.pick(&[0, 1, 2, u32::MAX]), reserve: r.pick(&[0, 1, 4096, 4097, u32::MAX]), modem: modem(r), ..Setup::NOTHING };
     rules(r, &mut setup);
+    let taken = match found(image) {
+        Some(values) if !r.once_in(4) => Taken::by(&setup, &values),
+        _ => {
+            [setup.share, setup.records] = [share(r), record_space(r)];
+            return setup;
+        }
+    };
+    let mut numbers = [taken.ours, taken.modem, taken.records].map(|bytes| bytes as u32);
+    let rest = Setup::alone(image.len()).share.saturating_sub(numbers.iter().sum());
+    numbers[r.below(3)] += r.pick(&[0, rest, rest, rest]);
+    if r.once_in(4) {
+        let number = &mut numbers[r.below(3)];
+        *number = number.saturating_add_signed(r.pick(&[-1, 1]));
+    }
+    [setup.share, setup.modem.share, setup.records] = numbers;
     setup
 }
 
-/// The same where little is to be refused: custom mode, and room for some records.
-pub fn lenient(r: &mut Random) -> Setup {
-    Setup { records: r.pick(&[0, 500, 1000]), ..Setup::CUSTOM }
+/// The same on an image of so many bytes where little is to be refused: custom mode, no modem, and room for some records.
+pub fn lenient(r: &mut Random, image_len: usize) -> Setup {
+    Setup { custom: 1, ..Setup::alone(image_len) }.with_records(r.pick(&[0, 500, 1000]))
 }
 
-/// Any session: counts above 16, sizes above 128, phases above 2, reserves above 4,096, any H, any rules.
+/// Any session: counts above 16, sizes above 128, phases above 2, reserves above 4,096, any H, shares, modem and rules.
 pub fn session(r: &mut Random) -> Session {
-    let mut session = (PAPER.session_new)(&Setup::PLAIN);
+    let mut session = (PAPER.session_new)(&Setup::NOTHING);
     session.phase = r.pick(&[0, 0, 0, 1, 1, 2, 2, 3, 0x100, u32::MAX]);
     session.setup.custom = r.pick(&[0, 0, 0, 1, 2, 0x100, u32::MAX]);
     session.setup.reserve = r.pick(&[0, 0, 1, 100, 2000, 4095, 4096, 4097, 0x1_0000, u32::MAX]);
     session.setup.records = record_space(r);
+    session.setup.share = share(r);
+    session.setup.modem = modem(r);
     rules(r, &mut session.setup);
     session.count = r.pick(&[0, 0, 1, 2, 3, 15, 16, 17, 0x100, 0x1_0000, u32::MAX]);
     for place in 0..PLACES {
@@ -468,13 +506,15 @@ pub fn empty(blocks: usize) -> Vec<u8> {
 pub fn filled(r: &mut Random, blocks: usize) -> Vec<u8> {
     let mut image = empty(blocks);
     for _ in 0..r.below(30 * blocks) {
-        let session = (PAPER.session_new)(&Setup { custom: r.below(2) as u32, records: r.pick(&[0, 500, 2000]), ..Setup::PLAIN });
+        let setup = Setup { custom: r.below(2) as u32, ..Setup::alone(image.len()) };
+        let session = (PAPER.session_new)(&setup.with_records(r.pick(&[0, 500, 2000])));
         let mut asked = asked(r);
         asked.presence = 1;
         let limit = if r.once_in(10) { r.below(300) as u64 } else { u64::MAX };
         (PAPER.set)(Context::with(limit), &session, &mut image, &asked.request());
         if r.once_in(10) {
-            (PAPER.start_up)(Context::NO_LIMIT, &mut image, &Setup::PLAIN);
+            let setup = admitting(&image);
+            (PAPER.start_up)(Context::NO_LIMIT, &mut image, &setup);
         }
     }
     image

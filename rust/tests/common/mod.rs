@@ -12,6 +12,7 @@ pub mod rounds;
 pub mod settings;
 pub mod station;
 pub mod stored;
+pub mod tenants;
 
 use varstore::interface::{Guid, Key};
 

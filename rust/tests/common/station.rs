@@ -4,7 +4,7 @@ use super::book::Book;
 use super::generate::BLOCK;
 use varstore::calls::{lent, Calls, BOTH};
 use varstore::engine;
-use varstore::interface::{Answer, Context, Key, Reply, Request, Rule, Session, Setting, Setup, RUNTIME};
+use varstore::interface::{Answer, Context, Key, Reply, Request, Rule, Session, Setting, Setup, OURS, RUNTIME};
 
 #[derive(Clone)]
 pub struct Station {
@@ -14,6 +14,8 @@ pub struct Station {
     /// What sets say of themselves.
     pub presence: u32,
     pub verdict: u32,
+    /// Who asks.
+    pub side: u32,
 }
 
 /// Runs a case on an empty store of b = 1, with a session that was given nothing, in each implementation.
@@ -23,16 +25,21 @@ pub fn each(case: impl Fn(Station)) {
 
 /// The same with so many bytes for records.
 pub fn with_space(records: u32, case: impl Fn(Station)) {
+    with_setup(&Setup::PLAIN.with_records(records), case);
+}
+
+/// The same in the session of a setup.
+pub fn with_setup(setup: &Setup, case: impl Fn(Station)) {
     for calls in BOTH {
         println!("implementation: {}", calls.who);
-        case(Station::formatted(calls, &Setup { records, ..Setup::PLAIN }, 1));
+        case(Station::formatted(calls, setup, 1));
     }
 }
 
 impl Station {
     /// In the fresh session of a setup.
     pub fn new(calls: Calls, setup: &Setup, image: Vec<u8>) -> Station {
-        Station { calls, session: (calls.session_new)(setup), image, presence: 0, verdict: 0 }
+        Station { calls, session: (calls.session_new)(setup), image, presence: 0, verdict: 0, side: OURS }
     }
 
     /// On a store of so many blocks that was just formatted: each block is erased, and the header has 28 bytes.
@@ -42,6 +49,17 @@ impl Station {
         station
     }
 
+    fn context(&self) -> Context {
+        Context::NO_LIMIT.by(self.side)
+    }
+
+    /// The lock is listed where it is accepted.
+    pub fn lock(&mut self, key: Key) -> Answer {
+        let listed = (self.calls.lock)(self.session, self.side, key);
+        self.session = listed.session;
+        listed.answer
+    }
+
     fn request<'a>(&self, key: Key<'a>, attributes: u32, data: &'a [u8]) -> Request<'a> {
         Request { key, attributes, data, presence: self.presence, verdict: self.verdict }
     }
@@ -49,9 +67,9 @@ impl Station {
     /// What is planned has the same answer, and a refused call changes nothing.
     pub fn set(&mut self, key: Key, attributes: u32, data: &[u8]) -> Answer {
         let request = self.request(key, attributes, data);
-        let planned = lent(|content| engine::plan_set(&self.session, &self.image, &request, content).map(|plan| plan.count(1) as u64));
+        let planned = lent(|content| engine::plan_set(&self.session, self.side, &self.image, &request, content).map(|plan| plan.count(1) as u64));
         let before = self.image.clone();
-        let answer = (self.calls.set)(Context::NO_LIMIT, &self.session, &mut self.image, &request);
+        let answer = (self.calls.set)(self.context(), &self.session, &mut self.image, &request);
         assert_eq!(planned.map_or_else(Answer::Refused, Answer::Done), answer, "planned: {attributes:#X}, {} bytes, {key:X?}", data.len());
         assert!(!matches!(answer, Answer::Refused(_)) || self.image == before, "a refused set has changed the image");
         answer
@@ -60,7 +78,7 @@ impl Station {
     /// Stopped by n, or failing at a dead address.
     pub fn set_in(&mut self, context: Context, key: Key, attributes: u32, data: &[u8]) -> Answer {
         let request = self.request(key, attributes, data);
-        (self.calls.set)(context, &self.session, &mut self.image, &request)
+        (self.calls.set)(context.by(self.side), &self.session, &mut self.image, &request)
     }
 
     pub fn delete(&mut self, key: Key) -> Answer {
@@ -83,7 +101,7 @@ impl Station {
 
     pub fn get(&self, key: Key) -> (Reply, Vec<u8>) {
         let mut buffer = vec![0; 2048];
-        let reply = (self.calls.get)(Context::NO_LIMIT, &self.session, &self.image, key, &mut buffer);
+        let reply = (self.calls.get)(self.context(), &self.session, &self.image, key, &mut buffer);
         buffer.truncate(reply.size as usize);
         (reply, buffer)
     }
@@ -108,11 +126,16 @@ impl Station {
         started.answer
     }
 
-    /// The same store in a session with another H, at runtime with a reserve, with rules for settings, or in another phase.
+    /// The same store in a session with another H, and the rest of L for others; at runtime with a reserve, with rules for settings, in another phase, or asked by a
+    /// side.
     pub fn with_h(&self, records: u32) -> Station {
         let mut station = self.clone();
-        station.session.setup.records = records;
+        station.session.setup = Setup { share: Setup::alone(self.image.len()).share, ..self.session.setup }.with_records(records);
         station
+    }
+
+    pub fn by(&self, side: u32) -> Station {
+        Station { side, ..self.clone() }
     }
 
     pub fn at_runtime(&self, reserve: u32) -> Station {

@@ -3,6 +3,7 @@
 use std::ops::Range;
 
 use super::generate::Asked;
+use super::tenants::admitting;
 use varstore::calls::Calls;
 use varstore::engine;
 use varstore::interface::{Answer, Context, Rule, Session, Setup};
@@ -13,58 +14,66 @@ use varstore::plan::{Content, Operation, Plan};
 pub enum Call {
     Set(Asked),
     StartUp(Setup),
+    /// A start-up that is given what admits the values that it finds.
+    Restart,
     Format,
 }
 
 impl Call {
+    /// What a start-up is given on an image.
+    pub fn setup(&self, image: &[u8]) -> Option<Setup> {
+        match self {
+            Call::StartUp(setup) => Some(*setup),
+            Call::Restart => Some(admitting(image)),
+            Call::Set(_) | Call::Format => None,
+        }
+    }
+
     /// The paper's list of stores of w bytes.
     pub fn stores(&self, w: usize, session: &Session, image: &[u8]) -> Result<Stores, Rule> {
-        match self {
-            Call::Set(asked) => paper::set_stores(w, session, image, &asked.request()),
-            Call::StartUp(_) => paper::start_up_stores(w, image),
-            Call::Format => paper::format_stores(w, image),
+        match (self, self.setup(image)) {
+            (_, Some(setup)) => paper::start_up_stores(w, image, &setup),
+            (Call::Set(asked), _) => paper::set_stores(w, asked.side, session, image, &asked.request()),
+            _ => paper::format_stores(w, image),
         }
     }
 
     /// By an implementation: the answer, and the session after it.
     pub fn by(&self, calls: &Calls, context: Context, session: &Session, image: &mut [u8]) -> (Answer, Session) {
-        match self {
-            Call::Set(asked) => ((calls.set)(context, session, image, &asked.request()), *session),
-            Call::StartUp(setup) => {
-                let started = (calls.start_up)(context, image, setup);
+        match (self, self.setup(image)) {
+            (_, Some(setup)) => {
+                let started = (calls.start_up)(context, image, &setup);
                 (started.answer, started.session)
             }
-            Call::Format => ((calls.format)(context, image), *session),
+            (Call::Set(asked), _) => ((calls.set)(context.by(asked.side), session, image, &asked.request()), *session),
+            _ => ((calls.format)(context, image), *session),
         }
     }
 
     /// By the engine, with a content of the test's own.
     pub fn by_engine(&self, context: Context, session: &Session, image: &mut [u8], content: &mut Content) -> (Answer, Session) {
-        match self {
-            Call::Set(asked) => (engine::set(context, session, image, &asked.request(), content), *session),
-            Call::StartUp(setup) => {
-                let started = engine::start_up(context, image, setup, content);
+        match (self, self.setup(image)) {
+            (_, Some(setup)) => {
+                let started = engine::start_up(context, image, &setup, content);
                 (started.answer, started.session)
             }
-            Call::Format => (engine::format(context, image, content), *session),
+            (Call::Set(asked), _) => (engine::set(context.by(asked.side), session, image, &asked.request(), content), *session),
+            _ => (engine::format(context, image, content), *session),
         }
     }
 
     /// The engine's plan.
     pub fn plan(&self, session: &Session, image: &[u8], content: &mut Content) -> Result<Plan, Rule> {
-        match self {
-            Call::Set(asked) => engine::plan_set(session, image, &asked.request(), content),
-            Call::StartUp(_) => engine::plan_start_up(image, content),
-            Call::Format => engine::plan_format(image, content),
+        match (self, self.setup(image)) {
+            (_, Some(setup)) => engine::plan_start_up(image, &setup, content),
+            (Call::Set(asked), _) => engine::plan_set(session, asked.side, image, &asked.request(), content),
+            _ => engine::plan_format(image, content),
         }
     }
 
-    /// The session of a host that has planned the call: a start-up's is a new one.
-    pub fn planned_session(&self, session: &Session) -> Session {
-        match self {
-            Call::StartUp(setup) => engine::session_new(setup),
-            _ => *session,
-        }
+    /// The session of a host that has planned the call on an image: a start-up's is a new one.
+    pub fn planned_session(&self, session: &Session, image: &[u8]) -> Session {
+        self.setup(image).map_or(*session, |setup| engine::session_new(&setup))
     }
 }
 
