@@ -5,6 +5,7 @@ import contextlib
 import os
 import re
 import shutil
+import struct
 import sys
 import traceback
 
@@ -58,6 +59,41 @@ def all_said():
         sys.stdout.flush()
     if not Said.whole:
         raise Refused("standard error has not taken all")
+
+
+# ---- numbers and GUIDs that are typed
+
+# the largest number of 32 bits
+ALL = 0xFFFFFFFF
+MOST_DIGITS = len(str(ALL))
+# first, second and third field of a GUID in text are numbers, little-endian in memory
+GUID = re.compile(r"([0-9A-Fa-f]{8})-([0-9A-Fa-f]{4})-([0-9A-Fa-f]{4})-([0-9A-Fa-f]{4})-([0-9A-Fa-f]{12})")
+
+
+def vendor_of(text):
+    parts = GUID.fullmatch(text)
+    if parts:
+        first, second, third, *rest = parts.groups()
+        return struct.pack("<IHH", int(first, 16), int(second, 16), int(third, 16)) + bytes.fromhex("".join(rest))
+    if re.fullmatch("[0-9A-Fa-f]{32}", text):
+        return bytes.fromhex(text)
+    raise Refused("%s is no GUID: 8-4-4-4-12 hexadecimal digits, or 32" % text)
+
+
+def vendor_text(vendor):
+    first, second, third = struct.unpack("<IHH", vendor[:8])
+    return "%08X-%04X-%04X-%s-%s" % (first, second, third, vendor[8:10].hex().upper(), vendor[10:].hex().upper())
+
+
+def number_of(text, what):
+    if not re.fullmatch("[0-9]+|0[xX][0-9A-Fa-f]+", text):
+        raise Refused("%s: %s is no number" % (what, text or "nothing"))
+    base, digits = (16, text[2:]) if text[:2] in ("0x", "0X") else (10, text)
+    digits = digits.lstrip("0") or "0"
+    # Python makes no number of thousands of digits
+    if len(digits) > MOST_DIGITS or int(digits, base) > ALL:
+        raise Refused("%s: %s is more than 32 bits hold" % (what, text if len(digits) <= 2 * MOST_DIGITS else "a number of %d digits" % len(digits)))
+    return int(digits, base)
 
 
 # ---- arguments and files

@@ -1,5 +1,5 @@
 """A reader of images that follows document 01, "Flash image" and rules 1 and 2, sentence by sentence, and document 02, requests (d), for the plain form, and
-(a), for hardware error records; nothing in it comes from the store's own code."""
+(a), for hardware error records, and (f), for whose a name is; nothing in it comes from the store's own code."""
 import re
 import struct
 
@@ -11,6 +11,8 @@ ATTRIBUTES = (0x03, 0x07, 0x23, 0x27, 0x0F)
 LARGEST_DATA = 2048
 ERROR_RECORD = 0x08
 RECORD_VENDOR = bytes.fromhex("DD6B4E417BE4CC47B244BB61020CF516")
+# PK and KEK are EFI_GLOBAL_VARIABLE's, db, dbx and dbt EFI_IMAGE_SECURITY_DATABASE's
+KEY_NAMES = {bytes.fromhex("61DFE48BCA93D211AA0D00E098032B8C"): ("PK", "KEK"), bytes.fromhex("CBB219D73A3D9645A3BCDAD00E67656F"): ("db", "dbx", "dbt")}
 
 
 class Form:
@@ -102,6 +104,15 @@ def has_record_name(e):
 def is_error_record(e):
     """a value with attribute 0x08"""
     return bool(e.attributes & ERROR_RECORD)
+
+
+def is_key_name(e):
+    return e.name in [(name + "\0").encode("utf-16-le") for name in KEY_NAMES.get(e.vendor, ())]
+
+
+def is_modems(e, guid):
+    """"All names under one vendor GUID, named in the session, are the modem's; the rest are ours, key names and error records always included." """
+    return e.vendor == guid and not is_key_name(e) and not has_record_name(e)
 
 
 def faults_of(entries, length):

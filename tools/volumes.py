@@ -1,4 +1,4 @@
-"""What tools/volume, tools/convert, tools/records and tools/settings know of stores: the variable store in a firmware volume or SPI dump, what keeps a region from
+"""What tools/volume, tools/convert, tools/records, tools/settings and tools/shares know of stores: the variable store in a firmware volume or SPI dump, what keeps a region from
 being sound in words, images made of entries, what a start-up finds in them, and what can be read of a store that no start-up would take."""
 import argparse
 import struct
@@ -210,7 +210,11 @@ def entries_of(held, at, blocks):
 
 def values_in(path, at, blocks):
     """for a tool that only reads: the values of a file that can be read, and the exit status; the rest is reported"""
-    held = read(path)
+    return values_held(path, read(path), at, blocks)
+
+
+def values_held(path, held, at, blocks):
+    """the same of a file that was read"""
     with about(path):
         entries, pending, faults = entries_of(held, at, blocks)
     if pending:
