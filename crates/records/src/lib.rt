@@ -1,6 +1,7 @@
 // The records of the work block.
 ghost use mathlib.Core.Path.{_≡_};
 ghost use Prim.Native.Nat.{_≤_, _<_};
+ghost use lib.ListN.{length};
 ghost use Rattle.model.specs.Lists.{among};
 ghost use Rattle.model.specs.Work.{recordStates};
 ghost use Rattle.records.specs.Look.{lookAt, idleAt, endsAt};
@@ -55,12 +56,30 @@ fn look_through(records: &[u8]) -> Look
     l
 }
 
-// One pass over the block, of any length.
+// How many records are used before the first that is not. What is proved is that they are no more than all.
+fn used_first(records: &[u8]) -> usize
+    ensures { λ r. ⌜ r ≤ length (now (records .entry)) ⌝ }
+{
+    let mut k = 0;
+    while k < records.len() {
+        if records[k] == 0xFF {
+            return k;
+        }
+        k += 1;
+    }
+    k
+}
+
+// A look at a block of any length. Where all is FF behind the first used records, these tell everything.
 pub fn look_at(w: &[u8]) -> Look
     ensures { λ r. ⌜ r ≡ lookAt (now (w .entry)) ⌝ }
 {
     if w.len() <= RECORDS {
         return look_through(w);
+    }
+    let k = used_first(&w[..RECORDS]);
+    if slices::is_blank(&w[k..]) {
+        return look_through(&w[..k]);
     }
     let l = look_through(&w[..RECORDS]);
     if l.formed {
