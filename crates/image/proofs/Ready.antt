@@ -3,7 +3,7 @@
 -- Assumes nothing.
 use Prim.Native.Nat.{ℕ, _*_, _%_, _≤_}
 use native.Mathlib.Omega.{arith}
-use mathlib.Core.Path.{_≡_, refl, sym, ap, _∙_}
+use mathlib.Core.Path.{_≡_, refl, sym, ap, ap₂, _∙_}
 use mathlib.Core.Bool.{true, _&&_}
 use mathlib.Core.List.{List}
 use mathlib.Core.Option.{Option, none, some}
@@ -12,7 +12,7 @@ use borrow.Author.Tests.{not-false}
 use Rattle.model.specs.declared.Layout.{Layout}
 use Rattle.model.specs.Lists.{part, onSome, allFF}
 use Rattle.model.specs.Image.{block, blocks, rightLength, regionSize, region, spare, work}
-use Rattle.model.specs.Region.{tailAtIn, tailIn, soundIn, cleanIn}
+use Rattle.model.specs.Region.{entriesIn, tailAtIn, tailIn, soundIn, cleanIn}
 use Rattle.model.specs.Work.{usedRecords, idle, readyIn}
 use Rattle.model.specs.Rules.{firstBroken, rule1, rule2In, imageRulesIn}
 use Rattle.model.specs.declared.Rule.{Rule}
@@ -20,7 +20,11 @@ use Rattle.model.proofs.Tests.{and-split}
 use Rattle.model.proofs.Parts.{right-parts, parts-region, parts-size}
 use Rattle.model.proofs.Chunks.{sound-chunked, made-length, made-tailAt}
 use Rattle.model.proofs.Requests.{unbroken}
-use Rattle.image.specs.Check.{callIn, IsReadyIn}
+use Rattle.region.specs.Met.{keyFrom, nowhere, metOf}
+use Rattle.region.specs.declared.Met.{Met}
+use Rattle.image.specs.Check.{callIn, checkedIn, IsReadyIn}
+use Rattle.image.specs.declared.Check.{Check}
+use Rattle.image.specs.declared.Checked.{Checked}
 use Rattle.image.specs.declared.Check.the-variants.{Ready, Refused}
 
 -- a refused image
@@ -84,3 +88,24 @@ is-ready y {img} {b} {t} {u} p = go (firstBroken (imageRulesIn y img)) refl p
           tail-within = omega arith;
           used = k;
         }
+
+-- with a sought name
+module _ (y : Layout) (img key : List ℕ) where
+  pub checked-ready : {b t u : ℕ} {c : Check} {m : Met} → c ≡ Ready b t u → callIn y img ≡ Ready b t u → m ≡ metOf (keyFrom key) (entriesIn y (region img))
+      → _≡_ {A = Checked} (record { check = c; met = m }) (checkedIn y img key)
+  unfolding checkedIn
+  checked-ready c p q =
+      rw (is-ready y p .unbroken) (ap₂ (λ (c : Check) (m : Met). record { check = c; met = m }) (c ∙ sym p) q)
+
+  pub checked-refused : {rule : Rule} → callIn y img ≡ Refused rule → _≡_ {A = Checked} (record { check = Refused rule; met = nowhere }) (checkedIn y img key)
+  unfolding checkedIn
+  checked-refused {rule} p =
+      rw (refused-rule y img rule p) (ap (λ (c : Check). record { check = c; met = nowhere }) (sym p))
+
+  pub checked-call : (c : Checked) → c ≡ checkedIn y img key → c .check ≡ callIn y img
+  unfolding checkedIn
+  checked-call c e = rw e
+
+  pub checked-met : (c : Checked) → c ≡ checkedIn y img key → {b t u : ℕ} → c .check ≡ Ready b t u → c .met ≡ metOf (keyFrom key) (entriesIn y (region img))
+  unfolding checkedIn
+  checked-met c e p = ap (λ (x : Checked). x .met) e ∙ rw (is-ready y (sym (checked-call c e) ∙ p) .unbroken)

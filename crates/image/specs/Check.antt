@@ -9,13 +9,15 @@ use Rattle.model.specs.declared.Layout.{Layout}
 use Rattle.model.specs.Layout.{authenticated}
 use Rattle.model.specs.Lists.{part, onSome}
 use Rattle.model.specs.Image.{blocks, rightLength, region, work}
-use Rattle.model.specs.Region.{tailAtIn, soundIn, clean}
+use Rattle.model.specs.Region.{entriesIn, tailAtIn, soundIn, clean}
 use Rattle.model.specs.Work.{usedRecords, readyIn, pending}
 use Rattle.model.specs.declared.Rule.the-variants.{Length, Unready}
 use Rattle.model.specs.Rules.{firstBroken, rule1, rule2StartUp, imageRulesIn}
 use Rattle.records.specs.Look.{lookAt}
+use Rattle.region.specs.Met.{keyFrom, nowhere, metOf}
 use Rattle.image.specs.declared.Check.{Check}
 use Rattle.image.specs.declared.Check.the-variants as call
+use Rattle.image.specs.declared.Checked.{Checked}
 use Rattle.image.specs.declared.Start.{Start}
 use Rattle.image.specs.declared.Start.the-variants as start
 
@@ -30,6 +32,13 @@ callIn y img =
 
 abbrev pub callOf : List ℕ → Check
 callOf = callIn authenticated
+
+-- the same, and where a ready image has a sought name
+unfoldable pub checkedIn : Layout → List ℕ → List ℕ → Checked
+checkedIn y img key = record {
+  check = callIn y img;
+  met = onSome (firstBroken (imageRulesIn y img)) (λ rule. nowhere) (metOf (keyFrom key) (entriesIn y (region img)));
+}
 
 -- of a start-up: the first of rules 1 and 2 broken (22, which comes after them, is asked with what the start-up is given), or b of what is pending, else of the sound
 -- region, and what a look at the work block tells; of the region whether it is clean

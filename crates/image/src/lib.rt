@@ -4,10 +4,11 @@ ghost use Prim.Native.Nat.{_≤_};
 ghost use Rattle.model.specs.Image.{work};
 ghost use Rattle.model.specs.Work.{pending};
 ghost use Rattle.records.specs.Look.{lookAt};
-ghost use Rattle.image.specs.Check.{blocksOf, callIn, startUpOf};
+ghost use Rattle.image.specs.Check.{blocksOf, callIn, checkedIn, startUpOf};
 use model::Layout;
 use model::Rule;
 use records::Look;
+use region::Met;
 
 // The bytes of a block of the region and of its block of the spare.
 const PAIR: usize = 8192;
@@ -44,25 +45,57 @@ pub fn blocks(image: &[u8]) -> usize
     0
 }
 
-// Rules 1 and 2 as a call meets them, in a stored form. What is cheap to look at comes first: the work block, the spare, then the entries.
-pub fn check_call(y: Layout, image: &[u8]) -> Check
-    ensures { λ r. ⌜ r ≡ callIn y (now (image .entry)) ⌝ }
+// What rules 1 and 2 leave to a call, and where a ready image has a sought name.
+pub struct Checked {
+    pub check: Check,
+    pub met: Met,
+}
+
+// Rules 1 and 2 as a call meets them, in a stored form, and where the region has a name: the name behind its GUID. What is cheap to look at comes first: the
+// work block, the spare, then the entries.
+pub fn check_for(y: Layout, image: &[u8], key: &[u8]) -> Checked
+    ensures { λ r. ⌜ r ≡ checkedIn y (now (image .entry)) (now (key .entry)) ⌝ }
 {
     let b = blocks(image);
     if b == 0 {
-        return Check::Refused(Rule::Length);
+        return Checked {
+            check: Check::Refused(Rule::Length),
+            met: Met {
+                added: 0,
+                replacing: 0,
+            },
+        };
     }
     let size = layout::BLOCK * b;
     let work = records::look_at(slices::cut(image, size, layout::BLOCK));
     if records::is_idle(work) {
         if slices::is_blank(slices::cut(image, size + layout::BLOCK, size)) {
-            let j = region::judge::judge(y, slices::cut(image, 0, size));
+            let s = region::judge::judge_for(y, slices::cut(image, 0, size), key);
+            let j = s.judged;
             if j.clean {
-                return Check::Ready(b, j.tail, work.used);
+                let met = s.met;
+                return Checked {
+                    check: Check::Ready(b, j.tail, work.used),
+                    met,
+                };
             }
         }
     }
-    Check::Refused(Rule::Unready)
+    Checked {
+        check: Check::Refused(Rule::Unready),
+        met: Met {
+            added: 0,
+            replacing: 0,
+        },
+    }
+}
+
+// The same with no name sought.
+pub fn check_call(y: Layout, image: &[u8]) -> Check
+    ensures { λ r. ⌜ r ≡ callIn y (now (image .entry)) ⌝ }
+{
+    let c = check_for(y, image, b"");
+    c.check
 }
 
 // Whether a compaction of b blocks is pending, by a look at the work block.

@@ -11,6 +11,8 @@ pub mod Scanning
 pub mod Whole
 -- Names judged against those before them
 pub mod Passing
+-- Where a sought name is met among them
+pub mod Meetings
 -- The same by marks
 pub mod Marked
 -- The same by places in a table

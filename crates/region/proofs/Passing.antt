@@ -1,11 +1,12 @@
 -- Whether a name is doubled may be judged by looking at each entry against those before it, since being doubled by goes both ways. A pass over the entries keeps
 -- the list of those passed, and something that is known of each of them.
 -- Assumes nothing.
-use Prim.Native.Nat.{ℕ, _≤_, _<_}
+use Prim.Native.Nat.{ℕ, zero, suc, _-_, _≤_, _<_}
 use native.Mathlib.Omega.{arith}
 use mathlib.Core.Path.{_≡_, refl, sym, ap, _∙_}
 use mathlib.Core.Bool.{Bool, true, false, not, _&&_, _||_, and-true, and-false}
-use mathlib.Core.List.{List, [], _∷_, _++_, append-assoc}
+use mathlib.Core.List.{List, [], _∷_, _++_, append-assoc, append-nil}
+use lib.ListN.{length}
 use lib.Dec.{eqb}
 use borrow.Author.Tests.{eq-eqb, eqb-true, le-leb, lt-leb}
 use Rattle.model.specs.declared.Layout.{Layout}
@@ -53,6 +54,22 @@ up-past form r at end h = go (turnIn form r at) refl
     go (Entry e k) p = up-stop (at-entry refl p) h
     go Stop p = up-none (at-end refl p) end
 
+-- before the end of the region all begin
+all-turn : (form : Layout) (r : List ℕ) (at : ℕ) (t : Turn) → turnIn form r at ≡ t
+    → ((k : ℕ) → length r - k < length r - at → upTo (length r) (fromIn form r k) ≡ fromIn form r k)
+    → upTo (length r) (fromIn form r at) ≡ fromIn form r at
+all-turn form r at (Entry e k) p later =
+    let w = at-entry refl p in
+    up-next w (omega (arith, w .fits)) ∙ ap (λ l. entryAs form r at e ∷ l) (later k (w .less)) ∙ sym (w .walk)
+all-turn form r at Stop p later = let z = at-end refl p in up-none z (length r) ∙ sym (z .walk)
+
+all-from : (form : Layout) (r : List ℕ) (n at : ℕ) → length r - at ≤ n → upTo (length r) (fromIn form r at) ≡ fromIn form r at
+all-from form r zero at h = all-turn form r at (turnIn form r at) refl (λ k l. absurd (omega arith))
+all-from form r (suc n) at h = all-turn form r at (turnIn form r at) refl (λ k l. all-from form r n k (omega arith))
+
+pub up-all : (form : Layout) (r : List ℕ) → upTo (length r) (entriesIn form r) ≡ entriesIn form r
+up-all form r = ap (upTo (length r)) (entries-from form r) ∙ all-from form r (length r) regionHeaderSize (omega arith) ∙ sym (entries-from form r)
+
 -- ---- being doubled by goes both ways
 
 unfoldable pub doubles : walk.Entry → walk.Entry → Bool
@@ -77,7 +94,7 @@ swapped x y = both-ways (doubles x y) (doubles y x) (both x y) (both y x)
 abbrev pub clash : List walk.Entry → List walk.Entry → Bool
 clash p l = any (λ x. doubledIn x p) l
 
-any-last : (f : walk.Entry → Bool) (p : List walk.Entry) (x : walk.Entry) → any f (p ++ (x ∷ [])) ≡ (f x || any f p)
+pub any-last : (f : walk.Entry → Bool) (p : List walk.Entry) (x : walk.Entry) → any f (p ++ (x ∷ [])) ≡ (f x || any f p)
 any-last f [] x = refl
 any-last f (y ∷ p) x = rw (any-last f p x) (swap (f y) (f x) (any f p))
   where
@@ -183,9 +200,23 @@ module _ {form : Layout} {r : List ℕ} {q : walk.Entry → Type 0} {at : ℕ} (
   before : upTo at (entriesIn form r) ≡ c .passed
   before = ap (upTo at) (c .whole) ∙ up-passed q at (c .passed) (fromIn form r at) (c .each) (up-past form r at at (omega arith))
 
+  -- at the end they are all
+  pub up-end : Ended form r at → upTo at (entriesIn form r) ≡ entriesIn form r
+  up-end z = before ∙ sym (c .whole ∙ ap (λ l. c .passed ++ l) (z .walk) ∙ append-nil (c .passed))
+
   pub ended : Ended form r at → undoubled (entriesIn form r) ≡ true
   unfolding undoubled
   ended z = c .judge ∙ ap (judged (c .passed)) (z .walk)
+
+  -- before the next offset there is one more
+  pub up-more : {e : numbers.Entry} {k : ℕ} → Turned form r at e k → upTo k (entriesIn form r) ≡ upTo at (entriesIn form r) ++ (entryAs form r at e ∷ [])
+  up-more {e} {k} w =
+      let x = entryAs form r at e in
+      let more : at < k = omega (arith, w .more) in
+      let each = each-last (Before q at) (Before (λ y. Unit {0}) k) (λ y n. (omega arith, tt)) (c .passed) x (c .each) (rw (at-place form r at e) more, tt) in
+      ap (upTo k) (c .whole ∙ ap (λ l. c .passed ++ l) (w .walk) ∙ sym (append-assoc (c .passed) (x ∷ []) (fromIn form r k)))
+      ∙ up-passed (λ y. Unit {0}) k (c .passed ++ (x ∷ [])) (fromIn form r k) each (up-past form r k k (omega arith))
+      ∙ ap (λ l. l ++ (x ∷ [])) (sym before)
 
   module _ {e : numbers.Entry} {k : ℕ} (w : Turned form r at e k) (suspect : Bool) where
     pub doubled : (suspect && doubledIn (entryAs form r at e) (upTo at (entriesIn form r))) ≡ true → undoubled (entriesIn form r) ≡ false

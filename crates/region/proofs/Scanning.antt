@@ -67,14 +67,6 @@ module _ {l es : List walk.Entry} {x : walk.Entry} (first : l ≡ x ∷ es) wher
   pub scan-stop : (size at : ℕ) → entrySound size x ≡ false → scanned size at l ≡ record { sound = false; tail = 0 }
   scan-stop size at s = ap (scanned size at) first ∙ rw s
 
-  -- ---- an entry that passes a test
-
-  pub any-next : (f : walk.Entry → Bool) → f x ≡ false → any f l ≡ any f es
-  any-next f h = ap (any f) first ∙ rw h
-
-  pub any-here : (f : walk.Entry → Bool) → f x ≡ true → any f l ≡ true
-  any-here f h = ap (any f) first ∙ rw h
-
 -- ---- both
 
 module _ (y : Layout) (r : List ℕ) where

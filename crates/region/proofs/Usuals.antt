@@ -122,10 +122,10 @@ module _ (y : Layout) (r : List ℕ) (at name end : ℕ) (found : 0 < name → (
       let n = u .ends in
       (omega arith, omega arith)
 
-  pub mark-usual : (v : ℕ) → v ≡ at + vendorAt y → keyMark (take (v + 16 + name - v) (drop v r)) ≡ markAt (entryAs y r at (numbersAt y (drop at r)))
+  pub mark-usual : (v : ℕ) → v ≡ at + vendorAt y → keyMark (take (v + (16 + name) - v) (drop v r)) ≡ markAt (entryAs y r at (numbersAt y (drop at r)))
   mark-usual v h =
       let e : numbers.Entry = numbersAt y (drop at r) in
-      let m : v + 16 + name - v ≡ 16 + name = omega arith in
+      let m : v + (16 + name) - v ≡ 16 + name = omega arith in
       let z = added in
       let live : liveState (e .state) ≡ true = rw z in
       ap keyMark

@@ -3,7 +3,7 @@
 -- Assumes nothing.
 use Prim.Native.Nat.{ℕ}
 use native.Mathlib.Omega.{arith}
-use mathlib.Core.Path.{_≡_, _∙_}
+use mathlib.Core.Path.{_≡_, ap₂, _∙_}
 use mathlib.Core.Bool.{true, false, _&&_, and-assoc, and-false}
 use mathlib.Core.List.{List}
 use lib.ListN.{length, drop, length-drop}
@@ -12,7 +12,11 @@ use Rattle.model.specs.Lists.{part, allFF}
 use Rattle.model.specs.declared.Layout.{Layout}
 use Rattle.model.specs.Region.{entriesIn, tailAtIn, tailIn, rightHeaderIn, undoubled, soundIn, cleanIn}
 use Rattle.region.specs.Judge.{entriesSound, allSound, scanOf, judgedIn}
+use Rattle.region.specs.Met.{keyFrom, nowhere, metOf, searchedIn}
 use Rattle.region.specs.declared.Scan.{Scan}
+use Rattle.region.specs.declared.Met.{Met}
+use Rattle.region.specs.declared.Judged.{Judged}
+use Rattle.region.specs.declared.Searched.{Searched}
 
 module _ (y : Layout) (r : List ℕ) where
   sound-parts : soundIn y r ≡ (rightHeaderIn y r && entriesSound y r && undoubled (entriesIn y r))
@@ -54,3 +58,19 @@ module _ (y : Layout) (r : List ℕ) where
   pub scan-tail : (s : Scan) → s ≡ scanOf y r → allSound y r ≡ true → s .tail ≡ tailAtIn y r
   unfolding scanOf
   scan-tail s e h = rw (e, h)
+
+  -- with a sought name
+  module _ (key : List ℕ) where
+    pub searched-sound : soundIn y r ≡ true → {j : Judged} {m : Met} → j ≡ judgedIn y r → m ≡ metOf (keyFrom key) (entriesIn y r)
+        → _≡_ {A = Searched} (record { judged = j; met = m }) (searchedIn y r key)
+    unfolding searchedIn
+    searched-sound s p q = rw s (ap₂ (λ (j : Judged) (m : Met). record { judged = j; met = m }) p q)
+
+    pub searched-unsound : soundIn y r ≡ false → {j : Judged} {m : Met} → j ≡ judgedIn y r → m ≡ nowhere
+        → _≡_ {A = Searched} (record { judged = j; met = m }) (searchedIn y r key)
+    unfolding searchedIn
+    searched-unsound s p q = rw s (ap₂ (λ (j : Judged) (m : Met). record { judged = j; met = m }) p q)
+
+    pub searched-judged : (s : Searched) → s ≡ searchedIn y r key → s .judged ≡ judgedIn y r
+    unfolding searchedIn
+    searched-judged s e = rw e

@@ -2,4 +2,5 @@
 pub mod Walk
 pub mod Judge
 pub mod Marks
+pub mod Met
 pub mod Sorted

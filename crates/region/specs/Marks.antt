@@ -53,11 +53,11 @@ weighed key =
 
 -- the mark of a GUID with the name behind it
 unfoldable pub keyMark : List ℕ → Mark
-keyMark key = record { place = weighed key % 1279; sign = weighed key / 1279 % 128 + 1 }
+keyMark key = record { place = weighed key % 1279; sign = weighed key / 1279 % 128 + 128 }
 
 -- the mark of what is not live
 unfoldable pub deadMark : Mark
-deadMark = record { place = 1279; sign = 1 }
+deadMark = record { place = 1279; sign = 128 }
 
 -- the mark of a state, name and GUID
 unfoldable pub markOf : ℕ → Key → Mark
@@ -73,11 +73,11 @@ markIn y s e = markOf (e .state) (keyed (nameIn y s e) (headerFieldsIn y s .vend
 
 -- by what is noted at its place, a name of a sign may have been met
 unfoldable pub isNoted : ℕ → ℕ → Bool
-isNoted noted sign = not (eqb noted 0) && (eqb noted sign || eqb noted 255)
+isNoted noted sign = not (eqb noted 0) && (eqb noted sign || eqb noted 1)
 
--- what is noted once it is met: its sign, or 255 if there was another
+-- what is noted once it is met: its sign, or 1 if there was another
 unfoldable pub note : ℕ → ℕ → ℕ
-note noted sign = cond (eqb noted 0) sign (cond (eqb noted sign) sign 255)
+note noted sign = cond (eqb noted 0) sign (cond (eqb noted sign) sign 1)
 
 -- the entries of a list that begin before an offset, up to the first that does not
 unfoldable pub upTo : ℕ → List Entry → List Entry

@@ -1,20 +1,25 @@
 // When a region is sound and clean, in every stored form.
 ghost use mathlib.Core.Path.{_≡_};
-ghost use mathlib.Core.Bool.{true, false, _&&_};
+ghost use mathlib.Core.Bool.{true, false, not, _&&_};
 ghost use Prim.Native.Nat.{_+_, _*_, _<_, _≤_};
 ghost use lib.ListN.{length, drop};
-ghost use Rattle.model.specs.Lists.{any, among};
+ghost use lib.Dec.{eqb};
+ghost use Rattle.model.specs.Lists.{among, allFF, part};
 ghost use Rattle.model.specs.Name.{keyed};
 ghost use Rattle.model.specs.Layout.{headerLength};
 ghost use Rattle.model.specs.Entry.{states};
 ghost use Rattle.model.specs.Walk.{entryKey};
 ghost use Rattle.model.specs.Region.{entriesIn, rightLive, isEntry};
 ghost use Rattle.region.specs.Walk.{entryAs};
-ghost use Rattle.region.specs.Judge.{plainAttributes, liveState, rightRecord, entrySound, doubledIn, scanOf, judgedIn, UsualFront, RightSizes, UsualOf};
+ghost use Rattle.region.specs.Judge.{plainAttributes, liveState, rightRecord, entrySound, doubledIn, judgedIn, UsualFront, RightSizes, UsualOf};
 ghost use Rattle.region.specs.Marks.{upTo};
+ghost use Rattle.region.specs.Met.{Meeting, keyFrom, isSought, nowhere, metOf, metBy, metAt, Surveys, searchedIn};
 use crate::Judged;
+use crate::Met;
 use crate::Pass;
 use crate::Scan;
+use crate::Searched;
+use crate::Survey;
 use crate::Turn;
 use crate::Usual;
 use crate::marks;
@@ -113,22 +118,29 @@ pub(crate) fn entry_sound(y: Layout, s: &[u8], e: Entry) -> bool
     }
 }
 
-// Whether an entry before an offset has this state, name and GUID.
-fn came_before(y: Layout, region: &[u8], end: usize, state: u8, name: &[u8], vendor: &[u8]) -> bool
-    ensures { λ r. ⌜ r ≡ any (isEntry state (keyed (now (name .entry)) (now (vendor .entry)))) (upTo end (entriesIn y (now (region .entry)))) ⌝ }
+// The offset of the first entry before an offset that has this state, name and GUID; 0 where none has.
+fn first_before(
+    y: Layout,
+    region: &[u8],
+    end: usize,
+    state: u8,
+    name: &[u8],
+    vendor: &[u8],
+) -> usize
+    ensures { λ r. ⌜ Meeting (isEntry state (keyed (now (name .entry)) (now (vendor .entry)))) r (upTo end (entriesIn y (now (region .entry)))) ⌝ }
 {
     let mut at: usize = layout::REGION_HEADER;
     while at < end {
         let t = walk::turn(y, region, at);
         let Turn::Entry(e, next) = t else {
-            return false;
+            return 0;
         };
         if walk::is_entry(y, region, at, e, state, name, vendor) {
-            return true;
+            return at;
         }
         at = next;
     }
-    false
+    0
 }
 
 // Whether an entry is live and its state, name and GUID came before. They are looked for only where that may be.
@@ -139,7 +151,7 @@ pub(crate) fn is_doubled(y: Layout, region: &[u8], at: usize, e: Entry, suspect:
         if is_live(e.state) {
             let name = walk::name_of(y, region, at, e);
             let vendor = walk::vendor_of(y, region, at);
-            came_before(y, region, at, e.state, name, vendor)
+            first_before(y, region, at, e.state, name, vendor) != 0
         } else {
             false
         }
@@ -263,13 +275,65 @@ fn left_after(left: usize, at: usize, e: Entry, suspect: bool) -> usize {
     left
 }
 
+// A name that is not met.
+fn nowhere() -> Met
+    ensures { λ r. ⌜ r ≡ nowhere ⌝ }
+{
+    Met {
+        added: 0,
+        replacing: 0,
+    }
+}
+
+// Whether an entry is live and has the sought name and GUID. They are compared only where that may be.
+fn is_sought(y: Layout, region: &[u8], at: usize, e: Entry, key: &[u8], suspect: bool) -> bool
+    requires { ⌜ at + headerLength y ≤ length (now region) ⌝ }
+    ensures { λ r. ⌜ r ≡ (suspect && isSought (keyFrom (now (key .entry))) (entryAs y (now (region .entry)) at e)) ⌝ }
+{
+    if suspect {
+        if is_live(e.state) {
+            return slices::equal(layout::key_of(y, slices::from(region, at), e), key);
+        }
+    }
+    false
+}
+
+// Whether the sought name was met in a live state.
+fn is_met(met: Met, state: u8) -> bool
+    ensures { λ r. ⌜ r ≡ not (eqb (metBy state met) 0) ⌝ }
+{
+    if state == 0x3F {
+        return met.added != 0;
+    }
+    met.replacing != 0
+}
+
+// Where it is met once it is met in such a state at an offset.
+fn met_at(met: Met, state: u8, at: usize) -> Met
+    ensures { λ r. ⌜ r ≡ metAt state at met ⌝ }
+{
+    if state == 0x3F {
+        return Met {
+            added: at,
+            replacing: met.replacing,
+        };
+    }
+    Met {
+        added: met.added,
+        replacing: at,
+    }
+}
+
 // The answers of the pass by marks where the region is not sound, and where it gives up.
 fn wrong() -> Pass
-    ensures { λ r. ⌜ r .scan ≡ record { sound = false; tail = 0 } ⌝ }
+    ensures { λ r. ⌜ r .survey .scan ≡ record { sound = false; tail = 0 } ⌝ }
 {
     Pass {
         known: true,
-        scan: unsound(),
+        survey: Survey {
+            scan: unsound(),
+            met: nowhere(),
+        },
     }
 }
 
@@ -278,29 +342,38 @@ fn given_up() -> Pass
 {
     Pass {
         known: false,
-        scan: unsound(),
+        survey: Survey {
+            scan: unsound(),
+            met: nowhere(),
+        },
     }
 }
 
 // One pass over the entries: each is sound by itself, and no name with its GUID has two 3F or two 3E entries. An entry whose mark is not noted is the first of its
-// name. The inner loop passes usual entries whose marks are not noted, as nearly all are; at any other it stops, and the code after it judges that one. Where too many
-// bytes would have to be passed in looking back, it gives up.
-fn scan_by_marks(y: Layout, region: &[u8]) -> Pass
-    ensures { λ r. ⌜ (r .known ≡ true → r .scan ≡ scanOf y (now (region .entry))) ⌝ }
+// name. The inner loop passes usual entries whose marks are not noted, as nearly all are; at any other it stops, and the code after it judges that one. The mark of the
+// sought name is noted from the beginning, so none of its entries is passed by the inner loop. Where too many bytes would have to be passed in looking back, it
+// gives up.
+fn scan_by_marks(y: Layout, region: &[u8], key: &[u8]) -> Pass
+    ensures { λ r. ⌜ (r .known ≡ true → Surveys y (now (region .entry)) (now (key .entry)) (r .survey)) ⌝ }
 {
     let last = last_header(y, region);
     let mut noted = marks::no_marks();
+    let own = marks::mark_of_key(key);
+    let p = own.place;
+    noted[p] = own.sign;
+    let mut met = nowhere();
     let mut left = WALKED;
     let mut at: usize = layout::REGION_HEADER;
     loop {
         loop {
             let u = usual_at(y, region, last, at);
-            let name = u.name;
-            if name == 0 {
+            let n = u.name;
+            if n == 0 {
                 break;
             }
             let v = at + y.vendor();
-            let m = marks::mark_of_key(&region[v..v + 16 + name]);
+            let k = 16 + n;
+            let m = marks::mark_of_key(&region[v..v + k]);
             let i = m.place;
             let old = noted[i];
             if old == 0 {
@@ -318,9 +391,12 @@ fn scan_by_marks(y: Layout, region: &[u8]) -> Pass
         let Turn::Entry(e, next) = t else {
             return Pass {
                 known: true,
-                scan: Scan {
-                    sound: true,
-                    tail: at,
+                survey: Survey {
+                    scan: Scan {
+                        sound: true,
+                        tail: at,
+                    },
+                    met,
                 },
             };
         };
@@ -331,6 +407,14 @@ fn scan_by_marks(y: Layout, region: &[u8]) -> Pass
         let i = m.place;
         let old = noted[i];
         let suspect = marks::is_noted(old, m.sign);
+        if is_sought(y, region, at, e, key, suspect) {
+            if is_met(met, e.state) {
+                return wrong();
+            }
+            met = met_at(met, e.state, at);
+            at = next;
+            continue;
+        }
         left = left_after(left, at, e, suspect);
         if left == 0 {
             return given_up();
@@ -343,35 +427,85 @@ fn scan_by_marks(y: Layout, region: &[u8]) -> Pass
     }
 }
 
-// What one pass over the entries finds.
-fn scan(y: Layout, region: &[u8]) -> Scan
-    ensures { λ r. ⌜ r ≡ scanOf y (now (region .entry)) ⌝ }
+// Where a name is met, by a walk over all entries for each state.
+fn met_in(y: Layout, region: &[u8], key: &[u8]) -> Met
+    ensures { λ r. ⌜ r ≡ metOf (keyFrom (now (key .entry))) (entriesIn y (now (region .entry))) ⌝ }
 {
-    let p = scan_by_marks(y, region);
-    if p.known {
-        return p.scan;
+    let name = slices::from(key, 16);
+    let vendor = slices::cut(key, 0, 16);
+    Met {
+        added: first_before(y, region, region.len(), 0x3F, name, vendor),
+        replacing: first_before(y, region, region.len(), 0x3E, name, vendor),
     }
-    sorted::scan_sorted(y, region)
 }
 
-// Whether the region is sound and clean, and where its tail begins.
-pub fn judge(y: Layout, region: &[u8]) -> Judged
-    ensures { λ r. ⌜ r ≡ judgedIn y (now (region .entry)) ⌝ }
+// What one pass over the entries finds.
+fn scan(y: Layout, region: &[u8], key: &[u8]) -> Survey
+    ensures { λ r. ⌜ Surveys y (now (region .entry)) (now (key .entry)) r ⌝ }
+{
+    let p = scan_by_marks(y, region, key);
+    if p.known {
+        return p.survey;
+    }
+    let s = sorted::scan_sorted(y, region);
+    if s.sound {
+        return Survey {
+            scan: s,
+            met: met_in(y, region, key),
+        };
+    }
+    Survey {
+        scan: s,
+        met: Met {
+            added: 0,
+            replacing: 0,
+        },
+    }
+}
+
+// What is told of a sound region, by where its tail begins.
+fn with_tail(region: &[u8], tail: usize) -> Judged
+    ensures { λ r. ⌜ r ≡ record { sound = true; clean = allFF (part tail (length (now (region .entry))) (now (region .entry))); tail = tail } ⌝ }
+{
+    Judged {
+        sound: true,
+        clean: slices::is_blank(slices::cut(region, tail, region.len())),
+        tail,
+    }
+}
+
+// Whether the region is sound and clean, where its tail begins, and where it has a name. It is sought as a GUID with the name behind it; by no bytes, nothing is.
+pub fn judge_for(y: Layout, region: &[u8], key: &[u8]) -> Searched
+    ensures { λ r. ⌜ r ≡ searchedIn y (now (region .entry)) (now (key .entry)) ⌝ }
 {
     if layout::fixed::right_header(y, region) {
-        let s = scan(y, region);
+        let found = scan(y, region, key);
+        let s = found.scan;
         if s.sound {
-            let tail = s.tail;
-            return Judged {
-                sound: true,
-                clean: slices::is_blank(slices::cut(region, tail, region.len())),
-                tail,
+            let met = found.met;
+            return Searched {
+                judged: with_tail(region, s.tail),
+                met,
             };
         }
     }
-    Judged {
-        sound: false,
-        clean: false,
-        tail: 0,
+    Searched {
+        judged: Judged {
+            sound: false,
+            clean: false,
+            tail: 0,
+        },
+        met: Met {
+            added: 0,
+            replacing: 0,
+        },
     }
+}
+
+// The same with no name sought.
+pub fn judge(y: Layout, region: &[u8]) -> Judged
+    ensures { λ r. ⌜ r ≡ judgedIn y (now (region .entry)) ⌝ }
+{
+    let s = judge_for(y, region, b"");
+    s.judged
 }

@@ -18,10 +18,22 @@ pub struct Scan {
     pub tail: usize,
 }
 
+// Where a name's 3F entry begins, and where its 3E entry; 0 where there is none.
+pub struct Met {
+    pub added: usize,
+    pub replacing: usize,
+}
+
+// What one pass finds, and where it met a sought name.
+pub struct Survey {
+    pub scan: Scan,
+    pub met: Met,
+}
+
 // What a pass by marks finds, if it does not give up.
 pub struct Pass {
     pub known: bool,
-    pub scan: Scan,
+    pub survey: Survey,
 }
 
 // Whether a region is sound, whether it is clean, and where the tail of a sound one begins (else 0).
@@ -29,6 +41,12 @@ pub struct Judged {
     pub sound: bool,
     pub clean: bool,
     pub tail: usize,
+}
+
+// The same, and where a sound region has a sought name.
+pub struct Searched {
+    pub judged: Judged,
+    pub met: Met,
 }
 
 // The sizes of a usual entry: of its name, and of header, name and data. A name of 0 bytes: it is not known to be usual.

@@ -12,11 +12,11 @@ use model::Layout;
 // How many places names have: a prime, so that a character tells wherever it stands in its word. The compiler divides by this one without a correction.
 const PLACES: u64 = 1279;
 
-// A sign is a number from 1 to 128.
+// A sign is a number from 128 to 255.
 const SIGNS: u64 = 128;
 
-// What is noted at a place where names of several signs have been met.
-const SEVERAL: u8 = 255;
+// What is noted at a place where names of several signs have been met: no sign.
+const SEVERAL: u8 = 1;
 
 // A table in which no mark is noted: 0 at every place.
 pub(crate) fn no_marks() -> [u8; 1280]
@@ -100,7 +100,7 @@ pub(crate) fn mark_of_key(key: &[u8]) -> Mark
     let w = weighed(key);
     Mark {
         place: (w % PLACES) as usize,
-        sign: (w / PLACES % SIGNS + 1) as u8,
+        sign: (w / PLACES % SIGNS + SIGNS) as u8,
     }
 }
 
@@ -113,7 +113,7 @@ pub(crate) fn mark_of(y: Layout, s: &[u8], e: Entry) -> Mark
     }
     Mark {
         place: 1279,
-        sign: 1,
+        sign: 128,
     }
 }
 

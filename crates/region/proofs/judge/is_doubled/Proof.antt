@@ -20,7 +20,7 @@ returns c =
     let r = now (a .region) in
     let old = upTo (a .at) (entriesIn (a .y) r) in
     rw (b .if1 .taken)
-    (c .came-before .ensures
+    (sym (c .first-before .ensures .1)
     ∙ ap₂ (λ (name vendor : List ℕ). any (isEntry (a .e .state) (keyed name vendor)) old) (c .before .before .name-of .ensures)
     (c .before .vendor-of .ensures)
     ∙ sym (doubled-live (a .y) r (a .at) (a .e) old (sym (c .before .before .before .before .is-live .ensures) ∙ c .before .before .before .if2 .taken)))
