@@ -1,27 +1,62 @@
 -- Rules are checked in stages: the first rule broken of two lists is the first of the one list, else of the other. So where rules 1, 2, 3 and 22 are kept the later ones
 -- decide, and where one of them is broken it is the answer, which is not rule 14.
 -- Assumes nothing.
-use Prim.Native.Nat.{ℕ}
+use Prim.Native.Nat.{ℕ, _+_, _≤_}
 use native.Mathlib.Omega.{arith}
-use mathlib.Core.Path.{_≡_, refl, sym, ap, _∙_}
-use mathlib.Core.Bool.{Bool, true, false, not, cond}
+use mathlib.Core.Path.{_≡_, refl, sym, ap, ap₂, _∙_}
+use mathlib.Core.Bool.{Bool, true, false, not, cond, _&&_, _||_}
 use mathlib.Core.List.{List, [], _∷_, _++_}
 use mathlib.Core.Option.{Option, none, some}
-use lib.Dec.{eqb}
+use lib.ListN.{length, take, drop, length-append}
+use lib.Seq.{sets, length-sets, sets-eq, take-at, drop-at}
+use lib.Dec.{eqb, leb}
+use borrow.Author.Tests.{leb-true}
 use Rattle.model.specs.Layout.{authenticated}
-use Rattle.model.specs.Lists.{onSome, orElse}
+use Rattle.model.specs.Lists.{onSome, orElse, part, same}
 use Rattle.model.specs.Image.{blocks, region, work}
-use Rattle.model.specs.Region.{tailAt}
+use Rattle.model.specs.Name.{Key, keyed, wellNamed, zeroEnded, emptyName}
+use Rattle.model.specs.Region.{entries, tailAt}
 use Rattle.model.specs.Work.{usedRecords}
 use Rattle.model.specs.Rules.{firstBroken, rule1, rule2, imageRules, imageRulesIn}
 use Rattle.model.specs.Answers.{ruleNumber}
+use Rattle.model.proofs.Tests.{and-split, same-eq}
 use Rattle.model.proofs.Requests.{broken-append}
 use Rattle.model.specs.declared.Rule.{Rule}
 use Rattle.model.specs.declared.Rule.the-variants.{Length, Unready, Name, Side}
-use Rattle.image.specs.Check.{callIn, callOf, IsReady}
+use Rattle.region.specs.Met.{keyFrom, metOf}
+use Rattle.region.specs.declared.Met.{Met}
+use Rattle.image.specs.Check.{callIn, callOf, checkedIn, IsReady}
+use Rattle.image.specs.declared.Check.{Check}
+use Rattle.image.specs.declared.Checked.{Checked}
 use Rattle.image.specs.declared.Check.the-variants.{Ready, Refused}
-use Rattle.image.proofs.Ready.{is-ready, refused-rule}
-use Rattle.engine.specs.Read.{openOf}
+use Rattle.image.proofs.Ready.{is-ready, checked-call, checked-met}
+use Rattle.engine.specs.Read.{openOf, brokenLater, Opened}
+
+-- ---- the key that is sought
+
+pub named-short : (name : List ℕ) → wellNamed name ≡ true → length name ≤ 128
+unfolding wellNamed
+named-short name h =
+    let p = and-split (leb 4 (length name) && leb (length name) 128) (zeroEnded name) h in
+    leb-true (length name) 128 (and-split (leb 4 (length name)) (leb (length name) 128) (p .0) .1)
+
+pub next-short : (name : List ℕ) → (wellNamed name || same name emptyName) ≡ true → length name ≤ 128
+unfolding emptyName
+next-short name h = go (wellNamed name) refl h
+  where
+    go : (t : Bool) → wellNamed name ≡ t → (t || same name emptyName) ≡ true → length name ≤ 128
+    go true q h = named-short name q
+    go false q h = let n = ap length (same-eq name emptyName h) in omega arith
+
+pub joined-key : (key name vendor : List ℕ) → length key ≡ 144 → length vendor ≡ 16 → length name ≤ 128 → {after : List ℕ} → after ≡ sets key 0 (vendor ++ name)
+    → part 0 (16 + length name) after ≡ vendor ++ name
+joined-key key name vendor k v n e =
+    let l = length-append vendor name in
+    ap (take (16 + length name)) (e ∙ sets-eq (vendor ++ name) key 0 (omega arith))
+    ∙ take-at (vendor ++ name) (drop (0 + length (vendor ++ name)) key) (16 + length name) (omega arith)
+
+pub joined-long : (key name vendor : List ℕ) → length key ≡ 144 → {after : List ℕ} → after ≡ sets key 0 (vendor ++ name) → 144 ≡ length after
+joined-long key name vendor k e = sym (ap length e ∙ length-sets key 0 (vendor ++ name) ∙ k)
 
 -- ---- rules 1, 2, 3 and 22 as the code checks them
 
@@ -31,23 +66,51 @@ module _ (img : List ℕ) where
   unfolding firstBroken
   with-name named foreign = broken-append (imageRules img) ((Name, not named) ∷ (Side, foreign) ∷ [])
 
-  pub open-own : {b t u : ℕ} → callOf img ≡ Ready b t u → openOf img true false ≡ Ready b t u
-  unfolding openOf
-  open-own p =
-      let r = is-ready authenticated p in
-      rw (with-name true false, r .unbroken, r .number, r .tail-at, r .used)
+  -- what rules 1 and 2 leave, or one that is broken after them
+  open-own : openOf img true false ≡ callOf img
+  unfolding openOf callIn
+  open-own = rw (with-name true false) (go (firstBroken (imageRules img)))
+    where
+      go : (o : Option Rule) → onSome (orElse o none) Refused (Ready (blocks img) (tailAt (region img)) (usedRecords (work img)))
+          ≡ onSome o Refused (Ready (blocks img) (tailAt (region img)) (usedRecords (work img)))
+      go (some x) = refl
+      go none = refl
 
-  pub open-foreign : {b t u : ℕ} → callOf img ≡ Ready b t u → openOf img true true ≡ Refused Side
-  unfolding openOf
-  open-foreign p = rw (with-name true true, is-ready authenticated p .unbroken)
+  later-rule : (rule : Rule) (o : Option Rule)
+      → onSome (orElse o (some rule)) Refused (Ready (blocks img) (tailAt (region img)) (usedRecords (work img)))
+      ≡ brokenLater rule (onSome o Refused (Ready (blocks img) (tailAt (region img)) (usedRecords (work img))))
+  later-rule rule (some x) = refl
+  later-rule rule none = refl
 
-  pub open-unnamed : {b t u : ℕ} (foreign : Bool) → callOf img ≡ Ready b t u → openOf img false foreign ≡ Refused Name
-  unfolding openOf
-  open-unnamed foreign p = rw (with-name false foreign, is-ready authenticated p .unbroken)
+  pub open-foreign : openOf img true true ≡ brokenLater Side (callOf img)
+  unfolding openOf callIn
+  open-foreign = rw (with-name true true) (later-rule Side (firstBroken (imageRules img)))
 
-  pub open-refused : (rule : Rule) (named foreign : Bool) → callOf img ≡ Refused rule → openOf img named foreign ≡ Refused rule
-  unfolding openOf
-  open-refused rule named foreign p = rw (with-name named foreign, refused-rule authenticated img rule p)
+  pub open-unnamed : (foreign : Bool) → openOf img false foreign ≡ brokenLater Name (callOf img)
+  unfolding openOf callIn
+  open-unnamed foreign = rw (with-name false foreign) (later-rule Name (firstBroken (imageRules img)))
+
+  -- of a name that the call takes
+  pub opened-own : (name vendor : List ℕ) → length vendor ≡ 16 → (c : Checked) → c ≡ checkedIn authenticated img (vendor ++ name)
+      → Opened img true false (keyed name vendor) c
+  opened-own name vendor l c e =
+      let k : keyFrom (vendor ++ name) ≡ keyed name vendor = ap₂ keyed (drop-at vendor name 16 l) (take-at vendor name 16 l) in
+      record {
+        check = checked-call authenticated img (vendor ++ name) c e ∙ sym open-own;
+        met = λ b t u p. checked-met authenticated img (vendor ++ name) c e p ∙ ap (λ (j : Key). metOf j (entries (region img))) k;
+      }
+
+  -- of another
+  never-ready : (rule : Rule) (x : Check) {b t u : ℕ} → brokenLater rule x ≡ Ready b t u → (m n : Met) → m ≡ n
+  never-ready rule (Ready b t u) p m n = let z : _≡_ {A = ℕ} 0 1 = cc in absurd (omega arith)
+  never-ready rule (Refused first) p m n = let z : _≡_ {A = ℕ} 0 1 = cc in absurd (omega arith)
+
+  pub opened-broken : (named foreign : Bool) (k : Key) (rule : Rule) (c : Checked) → openOf img named foreign ≡ brokenLater rule (callOf img)
+      → (x : Check) → x ≡ callOf img → c .check ≡ brokenLater rule x → Opened img named foreign k c
+  opened-broken named foreign k rule c p x e q = record {
+    check = q ∙ ap (brokenLater rule) e ∙ sym p;
+    met = λ b t u r. never-ready rule x (sym q ∙ r) (c .met) (metOf k (entries (region img)));
+  }
 
   -- ---- what they leave to the later rules
 

@@ -10,7 +10,7 @@ use Rattle.model.specs.Lists.{same, onSome}
 use Rattle.model.specs.Image.{blocks, region, work}
 use Rattle.model.specs.Name.{Key, wellNamed, emptyName}
 use Rattle.model.specs.Entry.{Value}
-use Rattle.model.specs.Region.{tailAt, valuesOf}
+use Rattle.model.specs.Region.{entries, tailAt, valuesOf}
 use Rattle.model.specs.Work.{usedRecords}
 use Rattle.model.specs.Rules.{firstBroken, imageRules, rule11Read, rule14, rule22Next, namedBytes, valueToName}
 use Rattle.model.specs.Answers.{ruleNumber, Reply, refusal, written, answerOf, done, refused}
@@ -19,7 +19,9 @@ use Rattle.model.specs.declared.Rule.{Rule}
 use Rattle.model.specs.declared.Rule.the-variants.{Name, Side, Absent, Buffer}
 use Rattle.model.specs.declared.Answer.the-variants.{Refused}
 use Rattle.model.specs.declared.Got.{Got}
+use Rattle.region.specs.Met.{metOf}
 use Rattle.image.specs.declared.Check.{Check}
+use Rattle.image.specs.declared.Checked.{Checked}
 use Rattle.image.specs.declared.Check.the-variants as call
 
 -- rules 1, 2, 3 and 22, of an image, of whether the name is one that the call takes, and of whether it is the other side's
@@ -27,6 +29,16 @@ unfoldable pub openOf : List ℕ → Bool → Bool → Check
 openOf img named foreign =
     onSome (firstBroken (imageRules img ++ ((Name, not named) ∷ (Side, foreign) ∷ []))) call.Refused
     (call.Ready (blocks img) (tailAt (region img)) (usedRecords (work img)))
+
+-- what rules 1 and 2 leave, where a later rule is broken
+abbrev pub brokenLater : Rule → Check → Check
+brokenLater rule (call.Ready b t u) = call.Refused rule
+brokenLater rule (call.Refused first) = call.Refused first
+
+-- what all four leave, and if they are kept where the region has the name
+pub record Opened (img : List ℕ) (named foreign : Bool) (k : Key) (c : Checked) : Type 0 where
+  pub check : c .check ≡ openOf img named foreign
+  pub met : (b t u : ℕ) → c .check ≡ call.Ready b t u → c .met ≡ metOf k (entries (region img))
 
 -- rules 11 and 14, of the value found and of what the call writes of it
 unfoldable pub foundBroken : Option Value → (Value → List ℕ) → List ℕ → Option Rule

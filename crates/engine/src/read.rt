@@ -1,10 +1,12 @@
 // The calls that read: get and next-name. They make no stores, so n never stops them, and they write the front of the buffer and no more. What they ensure holds of every
 // session that says what they are given.
 ghost use mathlib.Core.Path.{_≡_};
-ghost use mathlib.Core.Bool.{Bool, _||_};
+ghost use mathlib.Core.Bool.{Bool, true, _||_};
 ghost use mathlib.Core.List.{_++_};
 ghost use Prim.Native.Nat.{_≤_};
 ghost use lib.ListN.{length};
+ghost use lib.Seq.{sets};
+ghost use Rattle.model.specs.Layout.{authenticated};
 ghost use Rattle.model.specs.Lists.{same, overlay};
 ghost use Rattle.model.specs.Name.{keyed, wellNamed, emptyName};
 ghost use Rattle.model.specs.Region.{entries, values};
@@ -14,8 +16,11 @@ ghost use Rattle.model.specs.Answers.{getReply, nextReply};
 ghost use Rattle.model.specs.Beside.{Gives};
 ghost use Rattle.model.specs.Book as book;
 ghost use Rattle.recovery.specs.Interface.{Returned};
-ghost use Rattle.engine.specs.Read.{openOf, refusedGot, Answered, shortOf, replyTo, foundBroken, foundReply, nextBrokenAt, nextReplyAt};
+ghost use Rattle.region.specs.Met.{metOf};
+ghost use Rattle.image.specs.Check.{checkedIn};
+ghost use Rattle.engine.specs.Read.{brokenLater, Opened, refusedGot, Answered, shortOf, replyTo, foundBroken, foundReply, nextBrokenAt, nextReplyAt};
 use image::Check;
+use image::Checked;
 use layout::fixed;
 use model::Answer;
 use model::Context;
@@ -24,6 +29,7 @@ use model::Layout;
 use model::Named;
 use model::Rule;
 use model::View;
+use region::Met;
 use region::walk;
 use values::Found;
 
@@ -59,23 +65,66 @@ fn is_foreign(view: View, name: &[u8], vendor: &[u8; 16]) -> bool
     !fixed::is_own(&guid, view.modem, name, vendor)
 }
 
-// Rules 1, 2, 3 and 22, the last two as the name was found: what they leave to a call, or the rule broken.
-fn open(image: &[u8], named: bool, foreign: bool) -> Check
-    ensures { λ r. ⌜ r ≡ openOf (now (image .entry)) named foreign ⌝ }
+// A GUID and behind it a name, at the front of a key. What the GUID's type tells is its length.
+fn join(key: &mut [u8; 144], name: &[u8], vendor: &[u8; 16])
+    requires { ⌜ length (now name) ≤ 128 ⌝ }
+    ensures { λ _. ⌜ (now (key .exit) ≡ sets (now (key .entry)) 0 (now (vendor .entry) ++ now (name .entry)))
+        × (length (now (vendor .entry)) ≡ 16) ⌝ }
 {
-    let check = image::check_call(Layout::AUTHENTICATED, image);
+    let next = output::put_bytes(key, 0, vendor);
+    output::put_bytes(key, next, name);
+}
+
+// Rules 1 and 2, and where the region has a name.
+fn check_name(image: &[u8], name: &[u8], vendor: &[u8; 16]) -> Checked
+    requires { ⌜ length (now name) ≤ 128 ⌝ }
+    ensures { λ r. ⌜ (r ≡ checkedIn authenticated (now (image .entry)) (now (vendor .entry) ++ now (name .entry))) × (length (now (vendor .entry)) ≡ 16) ⌝ }
+{
+    let mut key = [0; 144];
+    join(&mut key, name, vendor);
+    image::check_for(
+        Layout::AUTHENTICATED,
+        image,
+        slices::cut(&key, 0, 16 + name.len()),
+    )
+}
+
+// A rule that is broken, after rules 1 and 2: one of these comes first.
+fn broken_later(check: Check, rule: Rule) -> Checked
+    ensures { λ r. ⌜ r .check ≡ brokenLater rule check ⌝ }
+{
     match check {
-        Check::Ready(_, _, _) => {
-            if !named {
-                return Check::Refused(Rule::Name);
-            }
-            if foreign {
-                return Check::Refused(Rule::Side);
-            }
-            check
-        }
-        Check::Refused(_) => check,
+        Check::Ready(_, _, _) => Checked {
+            check: Check::Refused(rule),
+            met: Met {
+                added: 0,
+                replacing: 0,
+            },
+        },
+        Check::Refused(first) => Checked {
+            check: Check::Refused(first),
+            met: Met {
+                added: 0,
+                replacing: 0,
+            },
+        },
     }
+}
+
+// Rules 1, 2, 3 and 22, the last two as the name was found: what they leave to a call, or the rule broken; and where the region has the name.
+fn open(image: &[u8], named: bool, foreign: bool, name: &[u8], vendor: &[u8; 16]) -> Checked
+    requires { ⌜ (named ≡ true → length (now name) ≤ 128) ⌝ }
+    ensures { λ r. ⌜ Opened (now (image .entry)) named foreign (keyed (now (name .entry)) (now (vendor .entry))) r ⌝ }
+{
+    if named {
+        let checked = check_name(image, name, vendor);
+        if foreign {
+            let check = checked.check;
+            return broken_later(check, Rule::Side);
+        }
+        return checked;
+    }
+    broken_later(image::check_call(Layout::AUTHENTICATED, image), Rule::Name)
 }
 
 // Data handed out, if the buffer holds them.
@@ -123,8 +172,15 @@ fn give_name(vendor: &[u8], name: &[u8], buffer: &mut [u8]) -> Got
 }
 
 // Rules 11 and 14 of a get, from a region.
-fn get_from(region: &[u8], runtime: bool, name: &[u8], vendor: &[u8; 16], buffer: &mut [u8]) -> Got
-    requires { ⌜ length (now region) ≤ 28672 ⌝ }
+fn get_from(
+    region: &[u8],
+    runtime: bool,
+    name: &[u8],
+    vendor: &[u8; 16],
+    met: Met,
+    buffer: &mut [u8],
+) -> Got
+    requires { ⌜ (length (now region) ≤ 28672) × (met ≡ metOf (keyed (now name) (now vendor)) (entries (now region))) ⌝ }
     ensures { λ r. ⌜ Answered
         (foundBroken
         (valueToGet runtime (keyed (now (name .entry)) (now (vendor .entry))) (values (entries (now (region .entry)))))
@@ -134,7 +190,7 @@ fn get_from(region: &[u8], runtime: bool, name: &[u8], vendor: &[u8; 16], buffer
         gotBytes (λ v. v .attributes) (now (buffer .entry)))
         r (now (buffer .exit)) ⌝ }
 {
-    let found = query::to_get(region, runtime, name, vendor);
+    let found = query::to_get(region, runtime, name, vendor, met);
     let Found::At(at, e) = found else {
         return refused(Rule::Absent, 0);
     };
@@ -146,8 +202,15 @@ fn get_from(region: &[u8], runtime: bool, name: &[u8], vendor: &[u8; 16], buffer
 }
 
 // Rules 11 and 14 of a next-name, from a region.
-fn name_from(region: &[u8], view: View, name: &[u8], vendor: &[u8; 16], buffer: &mut [u8]) -> Got
-    requires { ⌜ length (now region) ≤ 28672 ⌝ }
+fn name_from(
+    region: &[u8],
+    view: View,
+    name: &[u8],
+    vendor: &[u8; 16],
+    met: Met,
+    buffer: &mut [u8],
+) -> Got
+    requires { ⌜ (length (now region) ≤ 28672) × (met ≡ metOf (keyed (now name) (now vendor)) (entries (now region))) ⌝ }
     ensures { λ r. ⌜ Answered
         (foundBroken
         (valueToName (view .vendor) (view .modem) (view .runtime) (keyed (now (name .entry)) (now (vendor .entry))) (values (entries (now (region .entry)))))
@@ -158,7 +221,7 @@ fn name_from(region: &[u8], view: View, name: &[u8], vendor: &[u8; 16], buffer: 
         r (now (buffer .exit)) ⌝ }
 {
     let guid = view.vendor;
-    let found = query::to_name(region, view.runtime, &guid, view.modem, name, vendor);
+    let found = query::to_name(region, view.runtime, &guid, view.modem, name, vendor, met);
     let Found::At(at, e) = found else {
         return refused(Rule::Absent, 0);
     };
@@ -186,17 +249,22 @@ pub fn get(
         (getReply m s (keyed (now (name .entry)) (now (vendor .entry))) (now (buffer .entry)) (now (image .entry)))
         (r .size) (r .attributes) (r .needed) (now (buffer .exit))) ⌝ }
 {
-    let opened = open(
+    let checked = open(
         image,
         slices::is_named(name),
         is_foreign(view, name, vendor),
+        name,
+        vendor,
     );
+    let opened = checked.check;
+    let met = checked.met;
     match opened {
         Check::Ready(b, _, _) => get_from(
             slices::cut(image, 0, layout::BLOCK * b),
             view.runtime,
             name,
             vendor,
+            met,
             buffer,
         ),
         Check::Refused(rule) => refused(rule, 0),
@@ -230,17 +298,22 @@ fn name_behind(view: View, image: &[u8], name: &[u8], vendor: &[u8; 16], buffer:
         (nextReplyAt view (keyed (now (name .entry)) (now (vendor .entry))) (now (buffer .entry)) (now (image .entry)))
         r (now (buffer .exit)) ⌝ }
 {
-    let opened = open(
+    let checked = open(
         image,
         is_next_named(name),
         is_next_foreign(view, name, vendor),
+        name,
+        vendor,
     );
+    let opened = checked.check;
+    let met = checked.met;
     match opened {
         Check::Ready(b, _, _) => name_from(
             slices::cut(image, 0, layout::BLOCK * b),
             view,
             name,
             vendor,
+            met,
             buffer,
         ),
         Check::Refused(rule) => refused(rule, 0),

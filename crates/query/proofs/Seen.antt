@@ -1,17 +1,16 @@
 -- The entries that are seen from an offset on: at an entry they are that entry, if it is seen, and those from the next offset on. So the entry to get,
 -- and the one to name, is found there or among the rest.
 -- Assumes nothing.
-use Prim.Native.Nat.{ℕ, _-_}
+use Prim.Native.Nat.{ℕ}
 use mathlib.Core.Path.{_≡_, refl, sym, ap, _∙_}
 use mathlib.Core.Bool.{Bool, true, false, _&&_, and-true, and-false, true≢false}
 use mathlib.Core.List.{List, [], _∷_}
 use mathlib.Core.Option.{none, some}
-use lib.ListN.{length, take, drop}
 use lib.Dec.{eqb}
 use borrow.Author.Tests.{eq-eqb, eqb-false}
 use Rattle.model.specs.Layout.{authenticated}
 use Rattle.model.specs.Lists.{same, keep, first, head}
-use Rattle.model.specs.Name.{Key, keyed, sameKey, emptyName}
+use Rattle.model.specs.Name.{Key, sameKey, emptyName}
 use Rattle.model.specs.Sides.{owns}
 use Rattle.model.specs.Entry.{keyOf}
 use Rattle.model.specs.Walk as walk
@@ -19,14 +18,12 @@ use Rattle.model.specs.Region.{entries, isEntry, isValue}
 use Rattle.model.specs.Beside.{from}
 use Rattle.model.proofs.Tests.{and-split, or-split}
 use Rattle.model.proofs.Walking.{entries-from}
-use Rattle.layout.specs.Head.{Unlike}
 use Rattle.layout.specs.declared.Entry as numbers
 use Rattle.region.specs.Walk.{entryAt, entryAs}
 use Rattle.region.specs.Judge.{liveState}
 use Rattle.region.proofs.Turns.{Turned, Ended}
 use Rattle.values.proofs.Listed.{value-other}
-use Rattle.values.proofs.Finds.{other-name}
-use Rattle.query.specs.Query.{visible, isSeen, isSought, isShown, isPassed, entryToGet, entryFollowing, goingOn, entryToName}
+use Rattle.query.specs.Query.{visible, isSeen, isSought, isShown, isPassed, entryFollowing, goingOn, entryToName}
 
 -- the entries that are seen from an offset on
 unfoldable pub seenFrom : Bool → List ℕ → ℕ → List walk.Entry
@@ -68,11 +65,6 @@ module _ (runtime : Bool) (r : List ℕ) (at : ℕ) (e : numbers.Entry) where
 
 -- ---- of the walk from an offset on
 
-pub get-from : (runtime : Bool) (k : Key) (r : List ℕ) → entryToGet runtime k (entries r) ≡ first (λ e. sameKey (walk.entryKey e) k) (seenFrom runtime r 28)
-unfolding entryToGet seenFrom
-get-from runtime k r = ap (λ (es : List walk.Entry). first (λ e. sameKey (walk.entryKey e) k) (keep (isSeen runtime (entries r)) es))
-    (entries-from authenticated r)
-
 -- the entries that are shown a side from an offset on
 unfoldable pub shownFrom : List ℕ → Bool → Bool → List ℕ → ℕ → List walk.Entry
 shownFrom guid modem runtime r at = keep (isShown guid modem runtime (entries r)) (from r at)
@@ -97,11 +89,6 @@ going-none true k p = rw p
 going-none false k p = rw p
 
 module _ {r : List ℕ} {at : ℕ} {e : numbers.Entry} {n : ℕ} (w : Turned authenticated r at e n) (runtime : Bool) where
-  pub sought-unlike : (name vendor : List ℕ) → Unlike (take (length r - at) (drop at r)) name
-      → isSought runtime (keyed name vendor) (entries r) (entryAt r at e) ≡ false
-  unfolding isSought
-  sought-unlike name vendor u = rw (other-name w name u)
-
   seen-here : isSeen runtime (entries r) (entryAt r at e) ≡ true → seenFrom runtime r at ≡ entryAt r at e ∷ seenFrom runtime r n
   unfolding seenFrom
   seen-here h = ap (keep (isSeen runtime (entries r))) (w .walk) ∙ rw h
@@ -148,14 +135,16 @@ module _ (guid : List ℕ) (modem runtime : Bool) (r : List ℕ) (at : ℕ) (e :
       let p = and-split (sameKey (walk.entryKey (entryAt r at e)) k) (isSeen runtime (entries r) (entryAt r at e)) h in
       rw (p .0, p .1)
 
-  pub passed-other : (k : Key) → isSought runtime k (entries r) (entryAt r at e) ≡ false → isPassed guid modem runtime k (entries r) (entryAt r at e) ≡ false
-  unfolding isSought isPassed isShown
-  passed-other k h = go (sameKey (walk.entryKey (entryAt r at e)) k) (isSeen runtime (entries r) (entryAt r at e)) (owns guid modem (walk.entryKey (entryAt r at e))) h
-    where
-      go : (x y z : Bool) → (x && y) ≡ false → (x && (y && z)) ≡ false
-      go true true z h = absurd (true≢false h)
-      go true false z h = refl
-      go false y z h = refl
+-- what is not sought is not passed
+pub passed-other : (guid : List ℕ) (modem runtime : Bool) (k : Key) (es : List walk.Entry) (x : walk.Entry) → isSought runtime k es x ≡ false
+    → isPassed guid modem runtime k es x ≡ false
+unfolding isSought isPassed isShown
+passed-other guid modem runtime k es x h = go (sameKey (walk.entryKey x) k) (isSeen runtime es x) (owns guid modem (walk.entryKey x)) h
+  where
+    go : (s t u : Bool) → (s && t) ≡ false → (s && (t && u)) ≡ false
+    go true true u h = absurd (true≢false h)
+    go true false u h = refl
+    go false t u h = refl
 
 module _ {r : List ℕ} {at : ℕ} {e : numbers.Entry} {n : ℕ} (w : Turned authenticated r at e n) (guid : List ℕ) (modem runtime : Bool) where
   shown-here : isShown guid modem runtime (entries r) (entryAt r at e) ≡ true → shownFrom guid modem runtime r at ≡ entryAt r at e ∷ shownFrom guid modem runtime r n
@@ -165,10 +154,6 @@ module _ {r : List ℕ} {at : ℕ} {e : numbers.Entry} {n : ℕ} (w : Turned aut
   shown-next : isShown guid modem runtime (entries r) (entryAt r at e) ≡ false → shownFrom guid modem runtime r at ≡ shownFrom guid modem runtime r n
   unfolding shownFrom
   shown-next h = ap (keep (isShown guid modem runtime (entries r))) (w .walk) ∙ rw h
-
-  pub passed-unlike : (name vendor : List ℕ) → Unlike (take (length r - at) (drop at r)) name
-      → isPassed guid modem runtime (keyed name vendor) (entries r) (entryAt r at e) ≡ false
-  passed-unlike name vendor u = passed-other guid modem runtime r at e (keyed name vendor) (sought-unlike w runtime name vendor u)
 
   -- the entry to name, behind the name
   pub name-here : (k : Key) {p : Bool} → p ≡ true → isShown guid modem runtime (entries r) (entryAt r at e) ≡ true

@@ -3,6 +3,7 @@ use Prim.Native.Nat.{ℕ}
 use mathlib.Core.Bool.{Bool, not, cond, _&&_, _||_}
 use mathlib.Core.List.{List, [], _∷_}
 use mathlib.Core.Option.{Option, none, some}
+use lib.Dec.{eqb}
 use Rattle.model.specs.Lists.{same, keep, first, head}
 use Rattle.model.specs.Name.{Key, sameKey, emptyName}
 use Rattle.model.specs.Walk.{Entry, entryKey}
@@ -10,6 +11,7 @@ use Rattle.model.specs.Region.{isValue}
 use Rattle.model.specs.Request.{runtimeAccess}
 use Rattle.model.specs.Sides.{owns}
 use Rattle.region.specs.Walk.{entryAt}
+use Rattle.region.specs.declared.Met.{Met}
 use Rattle.values.specs.declared.Found.{Found}
 use Rattle.values.specs.declared.Found.the-variants.{At, Nothing}
 
@@ -52,3 +54,7 @@ isPassed guid modem runtime k es e = sameKey (entryKey e) k && isShown guid mode
 -- the entry of the next value: the first after the empty name, whatever the GUID
 unfoldable pub entryToName : List ℕ → Bool → Bool → Key → List Entry → Option Entry
 entryToName guid modem runtime k es = goingOn (same (k .name) emptyName) k (keep (isShown guid modem runtime es) es)
+
+-- "A name's value is its 3F entry, else its 3E entry": the offset of the one that holds it, by where the name is met
+abbrev pub standingAt : Met → ℕ
+standingAt m = cond (eqb (m .added) 0) (m .replacing) (m .added)

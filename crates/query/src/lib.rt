@@ -1,12 +1,16 @@
 // Which value a get and a next-name answer with: the entry of a region that holds it.
 ghost use mathlib.Core.Path.{_≡_};
+ghost use mathlib.Core.Bool.{cond};
 ghost use Rattle.model.specs.Lists.{same};
 ghost use Rattle.model.specs.Name.{keyed, emptyName};
+ghost use Rattle.model.specs.Image.{regionHeaderSize};
 ghost use Rattle.model.specs.Region.{entries};
 ghost use Rattle.region.specs.Walk.{entryAt};
-ghost use Rattle.query.specs.Query.{entryIn, visible, isSeen, isSought, isShown, isPassed, entryToGet, entryToName};
+ghost use Rattle.region.specs.Met.{metOf};
+ghost use Rattle.query.specs.Query.{entryIn, visible, isSeen, isSought, isShown, isPassed, entryToGet, entryToName, standingAt};
 use layout::Entry;
 use model::Layout;
+use region::Met;
 use region::Turn;
 use region::judge;
 use region::walk;
@@ -46,20 +50,32 @@ fn is_sought(region: &[u8], at: usize, e: Entry, runtime: bool, name: &[u8], ven
     false
 }
 
-// The value to get: the one of this name and GUID, if it is seen. Nearly every other name is told by two words of it.
-pub fn to_get(region: &[u8], runtime: bool, name: &[u8], vendor: &[u8; 16]) -> Found
+// Where the entry begins that holds a name's value: its 3F entry, else its 3E entry; 0 where there is none.
+fn standing(met: Met) -> usize
+    ensures { λ r. ⌜ r ≡ standingAt met ⌝ }
+{
+    if met.added == 0 {
+        return met.replacing;
+    }
+    met.added
+}
+
+// The value to get: the one of this name and GUID, if it is seen. It is where the name was met; the walk begins there.
+pub fn to_get(region: &[u8], runtime: bool, name: &[u8], vendor: &[u8; 16], met: Met) -> Found
+    requires { ⌜ met ≡ metOf (keyed (now name) (now vendor)) (entries (now region)) ⌝ }
     ensures { λ r. ⌜ entryIn (now (region .entry)) r ≡ entryToGet runtime (keyed (now (name .entry)) (now (vendor .entry))) (entries (now (region .entry))) ⌝ }
 {
-    let mut at: usize = layout::REGION_HEADER;
+    let mut at = standing(met);
+    if at == 0 {
+        return Found::Nothing;
+    }
     loop {
         let t = walk::turn(Layout::AUTHENTICATED, region, at);
         let Turn::Entry(e, next) = t else {
             return Found::Nothing;
         };
-        if layout::may_be(&region[at..], name) {
-            if is_sought(region, at, e, runtime, name, vendor) {
-                return Found::At(at, e);
-            }
+        if is_sought(region, at, e, runtime, name, vendor) {
+            return Found::At(at, e);
         }
         at = next;
     }
@@ -102,6 +118,16 @@ fn is_passed(
     false
 }
 
+// Where the walk for the next name begins: at the name, or behind the empty name at the first entry.
+fn begin(empty: bool, met: Met) -> usize
+    ensures { λ r. ⌜ r ≡ cond empty regionHeaderSize (standingAt met) ⌝ }
+{
+    if empty {
+        return layout::REGION_HEADER;
+    }
+    standing(met)
+}
+
 // The value to name: of those that are seen and a side's own, the first after the one of this name and GUID, or the first of all after the empty name.
 pub fn to_name(
     region: &[u8],
@@ -110,12 +136,17 @@ pub fn to_name(
     modem: bool,
     name: &[u8],
     vendor: &[u8; 16],
+    met: Met,
 ) -> Found
+    requires { ⌜ met ≡ metOf (keyed (now name) (now vendor)) (entries (now region)) ⌝ }
     ensures { λ r. ⌜ entryIn (now (region .entry)) r ≡ entryToName (now (guid .entry)) modem runtime (keyed (now (name .entry)) (now (vendor .entry)))
         (entries (now (region .entry))) ⌝ }
 {
     let mut passed = is_empty_name(name);
-    let mut here: usize = layout::REGION_HEADER;
+    let mut here = begin(passed, met);
+    if here == 0 {
+        return Found::Nothing;
+    }
     loop {
         let t = walk::turn(Layout::AUTHENTICATED, region, here);
         let Turn::Entry(e, next) = t else {
@@ -126,9 +157,7 @@ pub fn to_name(
                 return Found::At(here, e);
             }
         } else {
-            if layout::may_be(&region[here..], name) {
-                passed = is_passed(region, here, e, runtime, guid, modem, name, vendor);
-            }
+            passed = is_passed(region, here, e, runtime, guid, modem, name, vendor);
         }
         here = next;
     }

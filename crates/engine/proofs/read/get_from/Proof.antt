@@ -16,6 +16,9 @@ use borrow.Author.Needs.{needs}
 use Rattle.engine.proofs.read.get_from.Statement.{statement}
 use Rattle.engine.proofs.read.get_from.Tie as tie
 
+to-get-requires : tie.Need-to-get-requires
+to-get-requires c κs = c .before .before .before .pre .1
+
 returns : tie.Need-returns
 returns c =
     let a = c .before .before .before .before .before .before .before .args in
@@ -48,7 +51,7 @@ pub get-from-spec : {M : Type 1} → statement M
 get-from-spec =
     tie.close
     (tie.spec
-    (λ c κs. search needs)
+    to-get-requires
     (λ c. search needs)
     (λ c. search needs)
     (λ c κs. search needs)

@@ -17,6 +17,9 @@ use borrow.Author.Needs.{needs}
 use Rattle.engine.proofs.read.name_from.Statement.{statement}
 use Rattle.engine.proofs.read.name_from.Tie as tie
 
+to-name-requires : tie.Need-to-name-requires
+to-name-requires c κs = c .before .before .before .before .before .pre .1
+
 returns : tie.Need-returns
 returns c =
     let a = c .before .before .before .before .before .before .before .before .before .args in
@@ -52,7 +55,7 @@ pub name-from-spec : {M : Type 1} → statement M
 name-from-spec =
     tie.close
     (tie.spec
-    (λ c κs. search needs)
+    to-name-requires
     (λ c. search needs)
     (λ c. search needs)
     (λ c κs. search needs)

@@ -1,50 +1,45 @@
--- `engine::read::open` meets its contract: rules 1 and 2 as the image's check tells them, then the name's.
+-- `engine::read::open` meets its contract: rules 1 and 2 as the image's check tells them, then the name and whose it is.
 -- Assumes nothing.
-use mathlib.Core.Path.{sym, ap, ap₂, _∙_}
-use mathlib.Core.Bool.{Bool}
-use borrow.Author.Tests.{not-true, not-false}
+use mathlib.Core.Bool.{true, false}
+use mathlib.Core.List.{_++_}
 use denote.Ref.{now}
-use Rattle.engine.specs.Read.{openOf}
-use Rattle.engine.proofs.Opened.{open-own, open-foreign, open-unnamed, open-refused}
+use Rattle.model.specs.Layout.{authenticated}
+use Rattle.model.specs.Name.{keyed}
+use Rattle.model.specs.declared.Rule.the-variants.{Name, Side}
+use Rattle.image.proofs.Ready.{checked-call}
+use Rattle.engine.proofs.Opened.{open-foreign, open-unnamed, opened-own, opened-broken}
 use borrow.Author.Needs.{needs}
 use Rattle.engine.proofs.read.open.Statement.{statement}
 use Rattle.engine.proofs.read.open.Tie as tie
 
+check-name-requires : tie.Need-check-name-requires
+check-name-requires c κs = c .before .before .before .pre (c .if1 .taken)
+
 returns : tie.Need-returns
 returns c =
-    let a = c .before .before .before .before .before .args in
+    let s = c .before .before .before in
+    let a = s .before .before .before .args in
     let img = now (a .image) in
-    let t = c .before .enum-told .given in
-    sym (ap (λ (n : Bool). openOf img n (a .foreign)) (not-true (a .named) (c .if1 .taken)) ∙ open-unnamed img (a .foreign) (sym (c .before .before .before .check-call .ensures) ∙ t .1))
+    let n = c .before .before .check-name in
+    rw (s .if1 .taken, c .before .if2 .taken)
+    (opened-broken img true true (keyed (now (a .name)) (now (a .vendor))) Side (c .broken-later .result) (open-foreign img) (n .result .check)
+    (checked-call authenticated img (now (a .vendor) ++ now (a .name)) (n .result) (n .ensures .0)) (c .broken-later .ensures))
 
 returns-2 : tie.Need-returns-2
 returns-2 c =
-    let a = c .before .before .before .before .before .before .args in
-    let img = now (a .image) in
-    let t = c .before .before .enum-told .given in
-    sym (ap₂ (openOf img) (not-false (a .named) (c .before .if1 .left)) (c .if2 .taken) ∙ open-foreign img (sym (c .before .before .before .before .check-call .ensures) ∙ t .1))
+    let s = c .before .before in
+    let a = s .before .before .before .args in
+    let n = c .before .check-name in
+    rw (s .if1 .taken, c .if2 .left) (opened-own (now (a .image)) (now (a .name)) (now (a .vendor)) (n .ensures .1) (n .result) (n .ensures .0))
 
 returns-3 : tie.Need-returns-3
 returns-3 c =
-    let a = c .before .before .before .before .before .before .args in
+    let s = c .before .before in
+    let a = s .before .before .before .args in
     let img = now (a .image) in
-    let t = c .before .before .enum-told .given in
-    t .1 ∙ sym (ap₂ (openOf img) (not-false (a .named) (c .before .if1 .left)) (c .if2 .left) ∙ open-own img (sym (c .before .before .before .before .check-call .ensures) ∙ t .1))
-
-returns-4 : tie.Need-returns-4
-returns-4 c =
-    let a = c .before .before .before .before .args in
-    let t = c .enum-told2 .given in
-    t .1 ∙ sym (open-refused (now (a .image)) (t .0 .0) (a .named) (a .foreign) (sym (c .before .before .check-call .ensures) ∙ t .1))
+    let n = c .before .check-call in
+    rw (s .if1 .left)
+    (opened-broken img false (a .foreign) (keyed (now (a .name)) (now (a .vendor))) Name (c .broken-later2 .result) (open-unnamed img (a .foreign)) (n .result) (n .ensures) (c .broken-later2 .ensures))
 
 pub open-spec : {M : Type 1} → statement M
-open-spec =
-    tie.close
-    (tie.spec
-    (λ c κs. search needs)
-    (λ c. search needs)
-    returns
-    returns-2
-    (λ c. search needs)
-    returns-3
-    returns-4)
+open-spec = tie.close (tie.spec check-name-requires (λ c κs. search needs) returns returns-2 (λ c κs. search needs) (λ c κs. search needs) returns-3)
