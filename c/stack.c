@@ -1,4 +1,4 @@
-/* How much stack the calls take, measured: each is made on a painted stack of its own, at b = 7, with 32 rules for settings, and where it takes its longest way.
+/* How much stack the calls take, measured: each is made on a painted stack of its own, at b = 7, with 32 rules for settings, and where it takes the longest way that is known.
  * Three figures for each:
  *
  *   own     from the return address that the call instruction pushes, which is counted in, down to the deepest byte that was written, but for the copies
@@ -20,7 +20,7 @@
 
 #include "varstore.h"
 
-enum { BLOCKS = 7, IMAGE = VS_LARGEST_IMAGE, STACK = 1 << 18, PAINT = 0xC5, ADDRESS = 8, OWN = 6 * 1024 + 512, ALL = 23 * 1024, LOCK = 28 * 1024, READS = 4 * 1024, WRITES = 6 * 1024, PLAIN = VS_NV | VS_BOOT_ACCESS };
+enum { BLOCKS = 7, IMAGE = VS_LARGEST_IMAGE, STACK = 1 << 18, PAINT = 0xC5, ADDRESS = 8, OWN = 6 * 1024 + 512, ALL = 23 * 1024, LOCK = 28 * 1024, ALIKE = 40, READS = 4 * 1024, WRITES = 6 * 1024, PLAIN = VS_NV | VS_BOOT_ACCESS };
 
 static const vs_context no_limit = {.limit = VS_NO_LIMIT};
 static vs_setup setup; /* no custom mode, no reserve, no bytes for error records, a modem with nothing, and as many rules as there may be */
@@ -81,9 +81,21 @@ static void lay_rules(void)
     }
 }
 
-static void put(unsigned i, uint32_t attributes, size_t size)
+static void put(unsigned i, const uint8_t *under, uint32_t attributes, size_t size)
 {
-    vs_set(no_limit, session, image, IMAGE, named(i), 6, vendor, attributes, zeros, size, 0, VS_BY_NONE, content);
+    vs_set(no_limit, session, image, IMAGE, named(i), 6, under, attributes, zeros, size, 0, VS_BY_NONE, content);
+}
+
+/* Values of one name under GUIDs whose marks are equal (docs/CHECK.md): a check looks back at the first few, then sorts. */
+static void put_alike(void)
+{
+    for (uint64_t i = 1; i <= ALIKE; i++) {
+        uint8_t under[16] = {0};
+        for (unsigned k = 0; k < 8; k++) {
+            under[k] = (uint8_t)(i * 1279 * 128 >> 8 * k);
+        }
+        put(FIRST, under, PLAIN, 1);
+    }
 }
 
 /* A region whose free part is too short for `size` bytes more, with deleted entries before it. */
@@ -91,10 +103,11 @@ static void fill(size_t size)
 {
     vs_format(no_limit, image, IMAGE, content);
     session = vs_start_up(no_limit, image, IMAGE, setup, content).session;
-    put(FIRST, PLAIN, 1024);
+    put(FIRST, vendor, PLAIN, 1024);
+    put_alike();
     for (unsigned i = 1; vs_check(image, IMAGE).tail + 72 + size <= 4096 * BLOCKS; i++) {
-        put(i, PLAIN, 512);
-        put(i, 0, 0);
+        put(i, vendor, PLAIN, 512);
+        put(i, vendor, 0, 0);
     }
 }
 
