@@ -60,6 +60,15 @@ pub const ENGINE: Calls = Calls {
     to_plain: engine::to_plain,
 };
 
+/// The engine with its session lent to get, next-name and set.
+pub const LENT: Calls = Calls {
+    who: "lent",
+    get: engine::lent::get,
+    next_name: engine::lent::next_name,
+    set: |context, session, image, request| lent(|content| engine::lent::set(context, session, image, request, content)),
+    ..ENGINE
+};
+
 /// Lends a call of the engine the content, as the last call has left it.
 pub fn lent<T>(call: impl FnOnce(&mut Content) -> T) -> T {
     thread_local!(static CONTENT: RefCell<Box<Content>> = RefCell::new(Box::new([0xA5; size_of::<Content>()])));

@@ -3,13 +3,14 @@
 //!
 //!     bench                              wall time, the best of many alternating turns
 //!     bench names                        each case, its number of turns, and whether it is one of a growing row, for tools/bench
-//!     bench bench-one NAME SIDE COUNT    prepares all turns of a case and makes the first COUNT; what two counts differ by is the calls alone
+//!     bench bench-one NAME SIDE COUNT    prepares all turns of a case and makes the first COUNT, by engine, lent (its session) or paper; what two counts differ by is
+//!                                        the calls alone
 
 use std::env;
 use std::hint::black_box;
 use std::time::{Duration, Instant};
 
-use varstore::calls::{lent, Calls, ENGINE, PAPER};
+use varstore::calls::{lent, Calls, ENGINE, LENT, PAPER};
 use varstore::interface::{Answer, Context, Guid, Key, Request, Rule, Session, Setup, Tenant, MODEM, OURS};
 use varstore::paper::entry::{self, Contents, GONE, STATE};
 use varstore::paper::layout::Authenticated;
@@ -67,15 +68,17 @@ impl Case {
         black_box(desk);
     }
 
-    /// Both sides give the expected answer, and leave the same image and buffer.
+    /// All sides give the expected answer, and leave the same image and buffer.
     fn check(&self) {
-        let [engine, paper] = [ENGINE, PAPER].map(|calls| {
+        let [engine, lending, paper] = [ENGINE, LENT, PAPER].map(|calls| {
             let mut desk = self.desk();
             let answer = (self.turn)(&calls, &mut desk);
             assert_eq!(answer, self.expected, "{} by {}", self.name, calls.who);
             desk
         });
-        assert!(engine.image == paper.image && engine.buffer == paper.buffer, "{} differs", self.name);
+        for desk in [engine, lending] {
+            assert!(desk.image == paper.image && desk.buffer == paper.buffer, "{} differs", self.name);
+        }
     }
 
     fn time(&self, calls: &Calls, desk: &mut Desk) -> Duration {
@@ -316,7 +319,7 @@ fn wall() {
 
 fn one(wanted: &str, side: &str, count: usize) {
     let case = cases().into_iter().find(|case| case.name == wanted).expect("a case's name");
-    let calls = [ENGINE, PAPER].into_iter().find(|calls| calls.who == side).expect("engine or paper");
+    let calls = [ENGINE, LENT, PAPER].into_iter().find(|calls| calls.who == side).expect("engine, lent or paper");
     assert!(count <= case.turns, "{wanted} has {} turns", case.turns);
     let mut desk = case.desk();
     lent(|content| black_box(content.len())); // which makes it, once
