@@ -24,10 +24,11 @@ use Rattle.model.specs.Entry.{Value, keyOf}
 use Rattle.model.specs.Region.{maxData, storedAttributes, recordBit, tail, sound, clean, cleanIn, valuesOf, valuesIn, find}
 use Rattle.model.specs.Work.{idle, readyForCall, readyIn, readyForStartUp}
 use Rattle.model.specs.Request.{Request, requestKey, stampSize, timeBased, appends, withoutAppend, dataProper, stampToStore, later, properAt, rightDescriptor}
+use Rattle.model.specs.Session.{atRuntime}
 use Rattle.model.specs.Limits.{Limit, limitsFor}
 use Rattle.model.specs.Change.{nothing, remove, put, deletes, emptyAppend, equalTo, newData, laterOf, newStamp, newValue, changeOf, changeIn, step, steps, spaceOf}
 use Rattle.model.specs.Sides.{allotted}
-use Rattle.model.specs.Rules.{firstBroken, rule1, rule2In, rule2StartUp, rule3, rule4, rule8, rule11, rule12, rule13, rule17, rule22StartUp, valuesFound, termsOf, imageRules, imageRulesIn, requestRules, standingRules, resultRules, itemRules, settingRules, roomRules, setBroken, getBroken, nextBroken, startUpBroken}
+use Rattle.model.specs.Rules.{firstBroken, rule1, rule2In, rule2StartUp, rule3, rule4, rule8, rule11, rule12, rule13, rule17, rule22StartUp, valuesFound, termsOf, imageRules, imageRulesIn, requestRules, standingRules, resultRules, itemRules, settingRules, roomRules, setBroken, getRules, getBroken, getsBroken, nextBroken, startUpBroken}
 use Rattle.model.specs.Answers.{ruleNumber}
 use Rattle.model.specs.Beside.{Valid}
 use Rattle.model.proofs.Encode.{AllValid, sound-valid, sound-fits}
@@ -391,3 +392,18 @@ get-ready m s k buffer img h = (not-false (rightLength img) (unbroken _ 1 h), no
 pub next-ready : (m : Bool) (s : Session) (k : Key) (buffer img : List ℕ) → nextBroken m s k buffer img ≡ none → (rightLength img ≡ true) × (readyForCall img ≡ true)
 unfolding nextBroken imageRulesIn rule1 rule2In
 next-ready m s k buffer img h = (not-false (rightLength img) (unbroken _ 1 h), not-false (readyForCall img) (unbroken _ 2 h))
+
+-- and so does a many-get
+pub gets-ready : (ks : List Key) (img : List ℕ) → getsBroken ks img ≡ none → (rightLength img ≡ true) × (readyForCall img ≡ true)
+unfolding getsBroken imageRulesIn rule1 rule2In
+gets-ready ks img h = (not-false (rightLength img) (unbroken _ 1 h), not-false (readyForCall img) (unbroken _ 2 h))
+
+-- a get of a name in it breaks first what it breaks over the values alone
+pub get-over : (m : Bool) (s : Session) (ks : List Key) (img : List ℕ) → getsBroken ks img ≡ none → (k : Key) (buffer : List ℕ)
+    → getBroken m s k buffer img ≡ firstBroken (getRules (s .setup .modem .vendor) m (atRuntime s) k buffer (valuesOf img))
+unfolding getsBroken getBroken
+get-over m s ks img h k buffer =
+    broken-append (imageRules img) (getRules (s .setup .modem .vendor) m (atRuntime s) k buffer (valuesOf img))
+    ∙ ap
+    (λ (o : Option Rule). orElse o (firstBroken (getRules (s .setup .modem .vendor) m (atRuntime s) k buffer (valuesOf img))))
+    (none-append (imageRules img) _ h .0)

@@ -1,22 +1,22 @@
 -- Not of document 01: what contracts cite.
-use Prim.Native.Nat.{ℕ, _≤_}
+use Prim.Native.Nat.{ℕ, _+_, _*_, _≤_}
 use mathlib.Core.Path.{_≡_}
 use mathlib.Core.Bool.{Bool, true, false, not, cond, _&&_, _||_}
-use mathlib.Core.List.{List}
+use mathlib.Core.List.{List, [], _∷_}
 use lib.ListN.{length, drop}
-use lib.Dec.{leb, ltb}
+use lib.Dec.{eqb, leb, ltb}
 use Rattle.model.specs.declared.Layout.{Layout}
 use Rattle.model.specs.declared.Session.{Session}
 use Rattle.model.specs.declared.Terms.{Terms}
 use Rattle.model.specs.Layout.{authenticated, headerLength, isStamped}
-use Rattle.model.specs.Lists.{among}
-use Rattle.model.specs.Name.{Key, wellNamed, recordName}
+use Rattle.model.specs.Lists.{among, part, overlay}
+use Rattle.model.specs.Name.{Key, keyed, wellNamed, recordName}
 use Rattle.model.specs.Entry.{Value, keyOf, noStamp, readHeaderIn}
 use Rattle.model.specs.Walk.{Entry, walk}
 use Rattle.model.specs.Region.{storedAttributes, recordBit, maxData}
-use Rattle.model.specs.Session.{lockSpace, nameSpace, withLock}
+use Rattle.model.specs.Session.{lockSpace, nameSpace, placeSize, withLock}
 use Rattle.model.specs.Rules.{termsOf}
-use Rattle.model.specs.Answers.{Reply}
+use Rattle.model.specs.Answers.{Outcome, done, stopped, refused, Reply, Given, Gots}
 
 -- the entries of a region from an offset on, as a loop over them meets them
 unfoldable pub fromIn : Layout → List ℕ → ℕ → List Entry
@@ -51,3 +51,35 @@ Valid = ValidIn authenticated
 abbrev pub Gives : Reply → ℕ → ℕ → ℕ → List ℕ → Type 0
 Gives reply size attributes needed buffer =
     (size ≡ reply .size) × (attributes ≡ reply .attributes) × (needed ≡ reply .needed) × (buffer ≡ reply .buffer)
+
+-- 02 (g), at the interface. A name stands behind its GUID, in a place of 144 bytes. These bytes of a place, by their size; none, where they are not all lent or have no
+-- room in a place
+unfoldable pub askedBytes : List ℕ → ℕ → ℕ → List ℕ
+askedBytes keys k size =
+    cond (leb size placeSize && eqb (length (part (placeSize * k) size keys)) size) (part (placeSize * k) size keys) []
+
+-- the name and GUID of a place; and of every place from one on, by the list of sizes
+abbrev pub askedAt : List ℕ → ℕ → ℕ → Key
+askedAt keys k size = keyed (drop 16 (askedBytes keys k size)) (part 0 16 (askedBytes keys k size))
+
+unfoldable pub askedFrom : List ℕ → ℕ → List ℕ → List Key
+askedFrom keys k [] = []
+askedFrom keys k (size ∷ sizes) = askedAt keys k size ∷ askedFrom keys (k + 1) sizes
+
+abbrev pub asked : List ℕ → List ℕ → List Key
+asked keys sizes = askedFrom keys 0 sizes
+
+-- the rule of an answer, 0 if it is done; of each name it and three more numbers
+abbrev pub ruleTold : Outcome → ℕ
+ruleTold (done stores) = 0
+ruleTold stopped = 0
+ruleTold (refused rule) = rule
+
+unfoldable pub numbersTold : List Given → List ℕ
+numbersTold [] = []
+numbersTold (g ∷ gs) = ruleTold (g .answer) ∷ g .size ∷ g .attributes ∷ g .needed ∷ numbersTold gs
+
+-- what a many-get hands out beside its answer is what is given: its numbers at the front of those told, and the buffer as it leaves it
+pub record Handed (gots : Gots) (told told′ buffer′ : List ℕ) : Type 0 where
+  pub numbers : told′ ≡ overlay 0 (numbersTold (gots .items)) told
+  pub buffer : buffer′ ≡ gots .buffer

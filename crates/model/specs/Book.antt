@@ -22,19 +22,21 @@ use Rattle.model.specs.Region.{entries, tailAt, valuesOf}
 use Rattle.model.specs.Work.{recordSpace}
 use Rattle.model.specs.Request.{Request}
 use Rattle.model.specs.Change.{Change, nothing, remove, put, steps, changeIn}
-use Rattle.model.specs.Rules.{setBroken, getBroken, nextBroken, startUpBroken}
+use Rattle.model.specs.Rules.{setBroken, getBroken, nextBroken, startUpBroken, getsBroken}
 use Rattle.model.specs.Stores.{Store, page, erase, apply, Bytes, Uncleared, Cut, Clears, difference}
 use Rattle.model.specs.Set.{Plan, refuse, make, fitsTail, changesPlan}
 use Rattle.model.specs.StartUp.{startUpStores, startUpPlan, formatPlan}
 use Rattle.model.specs.Answers.{Outcome, done, stopped, refused, outcome, imageAfter, madeOf, pageOf, storesOf, decided}
 use Rattle.model.specs.Move.{moveBroken, imageMoved}
 
--- "sets (deletes among them), gets, next-names and start-ups": each with its side, its session and arguments, a start-up with what it is given
+-- "sets (deletes among them), gets, next-names and start-ups": each with its side, its session and arguments, a start-up with what it is given; 02 (g), "Demand 3's
+-- list takes this call in": several names at once, and the buffer
 pub data Call : Type 0 where
   set : Bool → Session → Request → Call
   get : Bool → Session → Key → List ℕ → Call
   next : Bool → Session → Key → List ℕ → Call
   startUp : Setup → Call
+  several : Bool → Session → List Key → List ℕ → Call
 
 -- "The first broken is the answer": the rule that each breaks first
 abbrev pub callBroken : Call → List ℕ → Option Rule
@@ -42,6 +44,7 @@ callBroken (set m s r) img = setBroken m s r img
 callBroken (get m s k buffer) img = getBroken m s k buffer img
 callBroken (next m s k buffer) img = nextBroken m s k buffer img
 callBroken (startUp setup) img = startUpBroken setup img
+callBroken (several m s ks buffer) img = getsBroken ks img
 
 -- a call that breaks none reads, writes changes that follow from the values, or starts up with what it is given
 pub data Kind : Type 0 where
@@ -55,8 +58,9 @@ kindOf (set m s r) = writes (λ vs. changeIn r vs ∷ [])
 kindOf (get m s k buffer) = reads
 kindOf (next m s k buffer) = reads
 kindOf (startUp setup) = startsUp setup
+kindOf (several m s ks buffer) = reads
 
--- the stores of each kind: get and next-name make none; a start-up decides nothing
+-- the stores of each kind: get, next-name and many-get make none; a start-up decides nothing
 abbrev pub doing : Kind → List ℕ → Plan
 doing reads img = make [] []
 doing (writes changes) img = changesPlan img (changes (valuesOf img))
@@ -66,7 +70,7 @@ doing (startsUp setup) img = make [] (startUpStores img)
 unfoldable pub planOf : Call → List ℕ → Plan
 planOf c img = onSome (callBroken c img) refuse (doing (kindOf c) img)
 
--- by a side, a set, a delete or an append, whole; a get; a next-name
+-- by a side, a set, a delete or an append, whole; a get; a next-name; a many-get
 abbrev pub setPlan : Bool → Session → Request → List ℕ → Plan
 setPlan modem s r img = planOf (set modem s r) img
 
@@ -76,12 +80,16 @@ getPlan modem s k buffer img = planOf (get modem s k buffer) img
 abbrev pub nextPlan : Bool → Session → Key → List ℕ → List ℕ → Plan
 nextPlan modem s k buffer img = planOf (next modem s k buffer) img
 
+abbrev pub getsPlan : Bool → Session → List Key → List ℕ → List ℕ → Plan
+getsPlan modem s ks buffer img = planOf (several modem s ks buffer) img
+
 -- arguments are bytes, a GUID is 16 of them
 abbrev pub Sized : Call → Type 0
 Sized (set m s r) = Bytes (r .name) × Bytes (r .vendor) × (length (r .vendor) ≡ 16) × Bytes (r .bytes)
 Sized (get m s k buffer) = Unit {0}
 Sized (next m s k buffer) = Unit {0}
 Sized (startUp setup) = Unit {0}
+Sized (several m s ks buffer) = Unit {0}
 
 -- the changes of each kind
 abbrev pub changesBy : Kind → List Value → List Change

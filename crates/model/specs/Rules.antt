@@ -266,16 +266,25 @@ namedBytes v = v .vendor ++ v .name
 unfoldable pub rule14 : Option Value → (Value → List ℕ) → List ℕ → Bool
 rule14 found bytes buffer = onSome found (λ v. ltb (length buffer) (length (bytes v))) false
 
--- "get and next-name 1, 2, 3, 11 and 14", with 22 after 3
+-- "get and next-name 1, 2, 3, 11 and 14", with 22 after 3: after 1 and 2, a get's over a list of values, by the modem's GUID, the side and whether the phase is runtime
+abbrev pub getRules : List ℕ → Bool → Bool → Key → List ℕ → List Value → List (Rule × Bool)
+getRules guid modem runtime k buffer vs =
+    (Name, rule3 k)
+    ∷ (Side, rule22 guid modem k)
+    ∷ (Absent, rule11Read (valueToGet runtime k vs))
+    ∷ (Buffer, rule14 (valueToGet runtime k vs) gotBytes buffer)
+    ∷ []
+
 unfoldable pub getBroken : Bool → Session → Key → List ℕ → List ℕ → Option Rule
 getBroken modem s k buffer img =
-    firstBroken
-    (imageRules img
-    ++ ((Name, rule3 k)
-    ∷ (Side, rule22 (s .setup .modem .vendor) modem k)
-    ∷ (Absent, rule11Read (valueToGet (atRuntime s) k (valuesOf img)))
-    ∷ (Buffer, rule14 (valueToGet (atRuntime s) k (valuesOf img)) gotBytes buffer)
-    ∷ []))
+    firstBroken (imageRules img ++ getRules (s .setup .modem .vendor) modem (atRuntime s) k buffer (valuesOf img))
+
+-- 02 (g): "one call for up to 64 names"; "More than 64 are refused 3, after 2": the call as a whole; each name then meets the rules of a get
+abbrev pub getSpace : ℕ
+getSpace = 64
+
+unfoldable pub getsBroken : List Key → List ℕ → Option Rule
+getsBroken ks img = firstBroken (imageRules img ++ ((Name, ltb getSpace (length ks)) ∷ []))
 
 -- what next-name shows a side in a session
 abbrev pub valueNamed : Bool → Session → Key → List ℕ → Option Value
