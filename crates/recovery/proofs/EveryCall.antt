@@ -15,9 +15,9 @@ use Rattle.model.specs.Work.{readyForCall, readyForStartUp}
 use Rattle.model.specs.Change.{Change}
 use Rattle.model.specs.Stores.{Bytes}
 use Rattle.model.specs.Set.{refuse}
-use Rattle.model.specs.Book.{Call, set, get, next, startUp, callBroken, Kind, reads, writes, startsUp, kindOf, doing, planOf, Sized}
+use Rattle.model.specs.Book.{Call, set, get, next, startUp, several, callBroken, Kind, reads, writes, startsUp, kindOf, doing, planOf, Sized}
 use Rattle.model.proofs.Changes.{EachPut, Fitting}
-use Rattle.model.proofs.Requests.{set-length, set-ready, set-fitting, get-ready, next-ready, startUp-length, startUp-ready}
+use Rattle.model.proofs.Requests.{set-length, set-ready, set-fitting, get-ready, gets-ready, next-ready, startUp-length, startUp-ready}
 use Rattle.recovery.proofs.ByteLists.{Bytewise, image-values, put-bytes}
 
 pub plan-accepted : (c : Call) (img : List ℕ) → callBroken c img ≡ none → planOf c img ≡ doing (kindOf c) img
@@ -52,3 +52,4 @@ accepted (set m s r) img sized e = record {
 accepted (get m s k buffer) img sized e = get-ready m s k buffer img e
 accepted (next m s k buffer) img sized e = next-ready m s k buffer img e
 accepted (startUp setup) img sized e = (startUp-length setup img e, startUp-ready setup img e)
+accepted (several m s ks buffer) img sized e = gets-ready ks img e

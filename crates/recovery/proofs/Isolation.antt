@@ -27,22 +27,22 @@ use Rattle.model.specs.Session.{countedPhase, inBoot, atRuntime, isYes, customM
 use Rattle.model.specs.Request.{Request, requestKey, runtimeAccess}
 use Rattle.model.specs.Change.{Change, nothing, remove, put, changeIn, step, steps}
 use Rattle.model.specs.Sides.{owns, view, sideSizes, locksOf}
-use Rattle.model.specs.Rules.{firstBroken, rule3, rule3Next, rule6, rule11Read, rule14, rule15, rule16, rule22, rule22Next, termsIf, termsOf, setBroken, seen, valueToGet, nextOf, valueToName, valueNamed, gotBytes, namedBytes, getBroken, nextBroken, lockBroken}
+use Rattle.model.specs.Rules.{firstBroken, rule3, rule3Next, rule6, rule11Read, rule14, rule15, rule16, rule22, rule22Next, termsIf, termsOf, setBroken, seen, valueToGet, nextOf, valueToName, valueNamed, gotBytes, namedBytes, getSpace, getBroken, getsBroken, nextBroken, lockBroken}
 use Rattle.model.specs.Stores.{Write, stores, reach}
 use Rattle.model.specs.Set.{Plan, refuse, make, fitsTail, putPlan, changePlan, changesPlan, tailTo, tailOn, deleteTo}
 use Rattle.model.specs.StartUp.{startUpStores, startUpPlan}
-use Rattle.model.specs.Answers.{Outcome, done, stopped, refused, ruleNumber, ended, deadOf, pageOf, outcome, imageAfter, Reply, refusal, written, getReply, nextReply, lockOutcome, lockSession}
+use Rattle.model.specs.Answers.{Outcome, done, stopped, refused, ruleNumber, ended, deadOf, pageOf, outcome, imageAfter, Reply, Gots, refusal, written, getReply, getsReply, nextReply, lockOutcome, lockSession}
 use Rattle.model.specs.Book.{Call, Sized, callBroken, Kind, writes, startsUp, kindOf, doing, planOf, changesBy, entered}
 use Rattle.model.specs.Book as book
 use Rattle.model.proofs.Tests.{and-split, or-split, key-eq}
 use Rattle.model.proofs.Failing.{ended-done}
 use Rattle.model.proofs.Values.{keep-twice}
 use Rattle.model.proofs.Requests.{unbroken, set-own}
-use Rattle.recovery.specs.Tenants.{World, Asked, sets, reads, names, callOf, Event, calls, locks, moves, Fitting, planIn, leave, answer, Handed, no-more, replied, handed, reply, toItsEnd, butStores, Told, told, History, begun, then, isOf, asked, heard, sees, finishedStartUp, NoInterference}
+use Rattle.recovery.specs.Tenants.{World, Asked, sets, reads, names, reads-each, callOf, Event, calls, locks, moves, Fitting, planIn, leave, answer, Handed, no-more, replied, each, handed, reply, toItsEnd, butStores, Told, told, History, begun, then, isOf, asked, heard, sees, finishedStartUp, NoInterference}
 use Rattle.recovery.proofs.StartingUp.{Ready, ready-of}
 use Rattle.recovery.proofs.EveryCall.{plan-accepted, plan-refused}
 use Rattle.recovery.proofs.Done.{call-done, writes-not, reads-not}
-use Rattle.recovery.proofs.Claims.{refusals-change-nothing, startUp-leaves-ready}
+use Rattle.recovery.proofs.Claims.{refusals-change-nothing, startUp-leaves-ready, each-alike}
 use Rattle.recovery.proofs.Views.{AllAbout, find-view, view-steps, view-steps-other, not-other, all-other}
 use Rattle.recovery.proofs.Shares.{Within, KeepsTo, within-of, steps-within}
 use Rattle.recovery.proofs.Owned.{item-own}
@@ -151,6 +151,7 @@ pub no-start : (m : Bool) (s : Session) (a : Asked) (u : Setup) → kindOf (call
 no-start m s (sets r) u = writes-not (λ vs. changeIn r vs ∷ []) u
 no-start m s (reads k buffer) u = reads-not u
 no-start m s (names k buffer) u = reads-not u
+no-start m s (reads-each ks buffer) u = reads-not u
 
 -- it keeps to the shares
 no-changes : (u : Setup) (m : Bool) (vs : List Value) → KeepsTo u m [] vs
@@ -160,6 +161,7 @@ asked-keeps : (m : Bool) (s : Session) (a : Asked) (img : List ℕ) → Sized (c
 asked-keeps m s (sets r) img z e = set-keeps m s r img e
 asked-keeps m s (reads k buffer) img z e = no-changes (s .setup) m (valuesOf img)
 asked-keeps m s (names k buffer) img z e = no-changes (s .setup) m (valuesOf img)
+asked-keeps m s (reads-each ks buffer) img z e = no-changes (s .setup) m (valuesOf img)
 
 -- ---- a world of a start-up
 
@@ -452,6 +454,7 @@ module _ (u : Setup) (modem : Bool) (v w : World) (a : Good u v) (b : Good u w) 
           ∙ item-own modem (v .session) r (valuesOf (v .image)) (set-own modem (v .session) r (v .image) e)
   changes-alike (reads k buffer) z e = refl
   changes-alike (names k buffer) z e = refl
+  changes-alike (reads-each ks buffer) z e = refl
 
 -- ---- gets
 
@@ -575,6 +578,27 @@ module _ (u : Setup) (modem : Bool) (v w : World) (a : Good u v) (b : Good u w) 
           next-judged modem (v .session) k buffer (v .image) (a .ready)
           ∙ ap₂ (λ (q : Setup) (o : Option Value). readRules (rule3Next k) (rule22Next (q .modem .vendor) modem k) o namedBytes buffer) (one-setup u modem v w a b l) shown
           ∙ sym (next-judged modem (w .session) k buffer (w .image) (b .ready))
+
+  -- of a ready image a many-get is refused for its number of names alone, and each of its gets is told the same
+  many-alike : (ks : List Key) (buffer : List ℕ)
+      → (getsBroken ks (v .image) ≡ getsBroken ks (w .image))
+      × (getsReply modem (v .session) ks buffer (v .image) ≡ getsReply modem (w .session) ks buffer (w .image))
+  unfolding getsBroken getsReply
+  many-alike ks buffer =
+      let many : List (Rule × Bool) = (Name, ltb getSpace (length ks)) ∷ [] in
+      let judged : getsBroken ks (v .image) ≡ getsBroken ks (w .image) =
+      image-passed (v .image) (a .ready) many ∙ sym (image-passed (w .image) (b .ready) many) in
+      let both =
+      each-alike
+      (λ k rest. getBroken modem (v .session) k rest (v .image))
+      (λ k rest. getBroken modem (w .session) k rest (w .image))
+      (λ k rest. getReply modem (v .session) k rest (v .image))
+      (λ k rest. getReply modem (w .session) k rest (w .image))
+      (λ k rest. got-alike k rest .0)
+      (λ k rest. got-alike k rest .1)
+      ks
+      buffer in
+      (judged, ap₂ (λ (o : Option Rule) (gots : Gots). onSome o (λ rule. record { items = []; buffer = buffer }) gots) judged both)
 
 -- ---- locks
 
@@ -710,11 +734,13 @@ module _ (u : Setup) (modem : Bool) (v w : World) (a : Good u v) (b : Good u w) 
   call-alike (sets r) f = set-alike u modem v w a b l r (f (v .session) .2)
   call-alike (reads k buffer) f = got-alike u modem v w a b l k buffer .0
   call-alike (names k buffer) f = named-alike u modem v w a b l k buffer .0
+  call-alike (reads-each ks buffer) f = many-alike u modem v w a b l ks buffer .0
 
   handed-alike : (c : Asked) → handed modem (v .session) c (v .image) ≡ handed modem (w .session) c (w .image)
   handed-alike (sets r) = refl
   handed-alike (reads k buffer) = ap replied (got-alike u modem v w a b l k buffer .1)
   handed-alike (names k buffer) = ap replied (named-alike u modem v w a b l k buffer .1)
+  handed-alike (reads-each ks buffer) = ap each (many-alike u modem v w a b l ks buffer .1)
 
   told-own : (c : Asked) (x y : Context) → Fitting (calls modem c) → toItsEnd (answer x (calls modem c) v) ≡ true → toItsEnd (answer y (calls modem c) w) ≡ true
       → told x (calls modem c) v ≡ told y (calls modem c) w

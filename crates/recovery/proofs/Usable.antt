@@ -24,7 +24,7 @@ use Rattle.model.specs.Sides.{sideSizes, allotted}
 use Rattle.model.specs.Rules.{puts, rule6, rule13, rule18, rule22, termsIf, termsOf, imageRulesIn, requestRules, standingRules, resultRules, itemRules, settingRules, roomRules, setBroken}
 use Rattle.model.specs.Set.{Plan, refuse}
 use Rattle.model.specs.Answers.{outcome, madeOf, pageOf, decided}
-use Rattle.model.specs.Book.{Call, set, get, next, startUp, Sized, callBroken, planOf, entered, counts, bookAfter, Run, begin, ran, cut, Begins}
+use Rattle.model.specs.Book.{Call, set, get, next, startUp, several, Sized, callBroken, planOf, entered, counts, bookAfter, Run, begin, ran, cut, Begins}
 use Rattle.model.proofs.Tests.{or-split}
 use Rattle.model.proofs.Requests.{unbroken, set-length, set-ready, set-own}
 use Rattle.recovery.specs.Claims.{SameShares, InShares, AllInShares, SharesKept}
@@ -107,6 +107,7 @@ entered-within u (set m s r) img K sized shares e holds w =
 entered-within u (get m s k buffer) img K sized shares e holds w = w
 entered-within u (next m s k buffer) img K sized shares e holds w = w
 entered-within u (startUp setup) img K sized shares e holds w = w
+entered-within u (several m s ks buffer) img K sized shares e holds w = w
 
 -- of any call, by what the book is fed: nothing of one that is refused
 module _ {b : ℕ} (u : Setup) (c : Call) (img : List ℕ) (K : List Value) (sized : Sized c) (shares : InShares u c) (holds : Holding b K img) (w : Within u (regionSize img) K) where

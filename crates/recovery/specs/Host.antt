@@ -35,7 +35,7 @@ abbrev pub StartUpPlanned : Setup → List ℕ → List ℕ → HostPlan → Typ
 StartUpPlanned setup part content p = Told (startUpPlan setup part) content p
 
 -- A call was planned over these bytes. `vs_plan_set` ensures it of its own arguments. It and `vs_plan_start_up` require nothing, so such a plan exists for every set
--- and every start-up, on any part. A get or next-name has no planning function: as a step its plan is its refusal, or operations without a store.
+-- and every start-up, on any part. A get, next-name or many-get has no planning function: as a step its plan is its refusal, or operations without a store.
 abbrev pub PlannedFor : Call → List ℕ → List ℕ → HostPlan → Type 0
 PlannedFor c part content p = Told (planOf c part) content p
 
@@ -131,8 +131,8 @@ HostKeepsSettings =
     → (w : ℕ)
     → forbidden (limitsFor setup (requestKey r)) (find (requestKey r) (valuesOf (carriedOut w content p part))) ≡ false
 
--- 02 (f), of a host: a call was planned over the part's bytes and carried out with some w; the rule told is the answer, its number of stores aside. A get or next-name, whose plan
--- has no store, is carried out by doing nothing, and hands out what its function ensures.
+-- 02 (f), of a host: a call was planned over the part's bytes and carried out with some w; the rule told is the answer, its number of stores aside. A get,
+-- next-name or many-get, whose plan has no store, is carried out by doing nothing, and hands out what its function ensures.
 abbrev pub answerTold : HostPlan → Outcome
 answerTold p = cond (eqb (p .rule) 0) (done 0) (refused (p .rule))
 

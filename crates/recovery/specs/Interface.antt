@@ -24,8 +24,8 @@ use Rattle.model.specs.Book.{Call, set, startUp, planOf, Sized, counts, bookAft
 use Rattle.recovery.specs.Claims.{forbidden}
 use Rattle.recovery.specs.Tenants.{World, Asked, callOf, Event, calls, locks, moves, Fitting, no-more, handed, Told, toItsEnd, butStores, isOf, sees}
 
--- A call of the interface has returned: its arguments, its context, the image before and after, and the answer. `engine::write::set`, `engine::read::get` and `next_name`, which
--- are lent the image shared, and `engine::start::start_up` ensure it of their own arguments, in every session that says what they are given.
+-- A call of the interface has returned: its arguments, its context, the image before and after, and the answer. `engine::write::set`, `engine::read::get` and `next_name` and
+-- `engine::many::get_many`, which are lent the image shared, and `engine::start::start_up` ensure it of their own arguments, in every session that says what they are given.
 abbrev pub Returned : Call → Context → List ℕ → List ℕ → Answer → Type 0
 Returned c x img img′ a = (answerOf a ≡ outcome x (planOf c img) img) × (img′ ≡ imageAfter x (planOf c img) img)
 
@@ -115,7 +115,7 @@ pub data Used (Ran : Call → List ℕ → List ℕ → Outcome → Type 0) (beg
       → Used Ran begin (record { session = lockSession m (w .session) k; image = w .image })
   phase-moved : {w : World} → Used Ran begin w → (p : ℕ) → Used Ran begin (record { session = movedTo (w .session) p; image = w .image })
 
--- what a side asked in it, the last first, and what it was told: answers but for their numbers of stores, and what a get and a next-name hand out
+-- what a side asked in it, the last first, and what it was told: answers but for their numbers of stores, and what a get, a next-name and a many-get hand out
 module _ {Ran : Call → List ℕ → List ℕ → Outcome → Type 0} (modem : Bool) {begin : World} where
   unfoldable pub askedIn : {w : World} → Used Ran begin w → List Event
   askedIn unused = []
@@ -139,8 +139,8 @@ Apart Ran setup begin =
     → (heardIn modem h ≡ heardIn modem g) × (sees setup modem v ≡ sees setup modem w)
 
 -- 02 (f), "nothing that one side sets or deletes alters an answer .., value, stamp or list order that the other sees", of calls to the interface: they returned, whatever their
--- n, dead bytes and w. (What a lock and a phase do to a session, and what a get and a next-name hand out, their functions ensure in the words that are used here: `lockOutcome`,
--- `lockSession`, `movedTo`, `getReply`, `nextReply`.)
+-- n, dead bytes and w. (What a lock and a phase do to a session, and what a get, a next-name and a many-get hand out, their functions ensure in the words
+-- that are used here: `lockOutcome`, `lockSession`, `movedTo`, `getReply`, `nextReply`, `getsReply`.)
 abbrev pub CallReturned : Call → List ℕ → List ℕ → Outcome → Type 0
 CallReturned c img img′ o = (x : Context) × (a : Answer) × Returned c x img img′ a × (answerOf a ≡ o)
 

@@ -22,25 +22,27 @@ use Rattle.model.specs.Rules.{puts, rule13, rule18, termsIf, termsFor}
 use Rattle.model.specs.Query.{storageFor, remainingFor, largestFor, queryOutcome, queryGives}
 use Rattle.model.specs.Set.{Plan}
 use Rattle.model.specs.StartUp.{startUpPlan}
-use Rattle.model.specs.Answers.{Outcome, done, stopped, refused, outcome, imageAfter, Reply, getReply, nextReply, lockOutcome, lockSession}
-use Rattle.model.specs.Book.{Call, set, get, next, Sized, planOf}
+use Rattle.model.specs.Answers.{Outcome, done, stopped, refused, outcome, imageAfter, Reply, Gots, getReply, getsReply, nextReply, lockOutcome, lockSession}
+use Rattle.model.specs.Book.{Call, set, get, next, several, Sized, planOf}
 
 -- a session in use, and its image
 pub record World : Type 0 where
   pub session : Session
   pub image : List ℕ
 
--- what a side asks in it of the image: a set, with deletes and appends among them; a get, with the caller's buffer; a next-name
+-- what a side asks in it of the image: a set, with deletes and appends among them; a get, with the caller's buffer; a next-name; a many-get
 pub data Asked : Type 0 where
   sets : Request → Asked
   reads : Key → List ℕ → Asked
   names : Key → List ℕ → Asked
+  reads-each : List Key → List ℕ → Asked
 
 -- it is a call of that side in that session
 abbrev pub callOf : Bool → Session → Asked → Call
 callOf m s (sets r) = set m s r
 callOf m s (reads k buffer) = get m s k buffer
 callOf m s (names k buffer) = next m s k buffer
+callOf m s (reads-each ks buffer) = several m s ks buffer
 
 -- what happens in it: a side's call; a side's lock; or the phase is moved, which is neither side's: "with the phase given"
 pub data Event : Type 0 where
@@ -74,11 +76,13 @@ answer x (moves phase) w = done 0
 pub data Handed : Type 0 where
   no-more : Handed
   replied : Reply → Handed
+  each : Gots → Handed
 
 abbrev pub handed : Bool → Session → Asked → List ℕ → Handed
 handed m s (sets r) img = no-more
 handed m s (reads k buffer) img = replied (getReply m s k buffer img)
 handed m s (names k buffer) img = replied (nextReply m s k buffer img)
+handed m s (reads-each ks buffer) img = each (getsReply m s ks buffer img)
 
 unfoldable pub reply : Event → World → Handed
 reply (calls m a) w = handed m (w .session) a (w .image)
