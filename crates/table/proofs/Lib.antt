@@ -27,3 +27,5 @@ pub mod Records
 pub mod Settings
 -- 02 (f): two sides in one region
 pub mod Tenants
+-- 02 (g): many-gets
+pub mod Many
