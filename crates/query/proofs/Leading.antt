@@ -5,7 +5,7 @@ use Prim.Native.Nat.{ℕ, zero, suc, _-_, _≤_, _<_}
 use native.Mathlib.Omega.{arith}
 use mathlib.Core.Path.{_≡_, refl, sym, ap, _∙_}
 use mathlib.Core.Logic.{_≢_}
-use mathlib.Core.Bool.{Bool, true, false, not, cond, _&&_, _||_, and-true, and-false, true≢false}
+use mathlib.Core.Bool.{Bool, true, false, not, cond, _&&_, _||_, and-true, and-false, or-true, true≢false}
 use mathlib.Core.List.{List, [], _∷_, _++_, append-nil}
 use mathlib.Core.Option.{Option, none, some}
 use lib.ListN.{length}
@@ -15,17 +15,18 @@ use Rattle.model.specs.Layout.{authenticated}
 use Rattle.model.specs.Lists.{any, keep, first, same}
 use Rattle.model.specs.Name.{Key, sameKey, emptyName}
 use Rattle.model.specs.Image.{regionHeaderSize}
-use Rattle.model.specs.Walk.{Entry, stateOf, entryKey}
+use Rattle.model.specs.Walk.{Entry, stateOf, entryKey, placed}
 use Rattle.model.specs.Region.{entries, isEntry, isValue, added, replacing}
 use Rattle.model.specs.Beside.{from}
-use Rattle.model.proofs.Tests.{or-split, key-eq}
+use Rattle.model.proofs.Tests.{and-split, true-and, or-split, key-eq}
 use Rattle.model.proofs.Walking.{entries-from}
-use Rattle.region.specs.Walk.{entryAt, turnIn}
+use Rattle.layout.specs.declared.Entry as numbers
+use Rattle.region.specs.Walk.{entryAs, entryAt, turnIn}
 use Rattle.region.specs.Met.{offsetOf, metOf}
 use Rattle.region.specs.declared.Met.{Met}
 use Rattle.region.specs.declared.Turn.{Turn}
 use Rattle.region.specs.declared.Turn.the-variants as turn
-use Rattle.region.proofs.Turns.{at-entry, at-end}
+use Rattle.region.proofs.Turns.{Turned, at-entry, at-end}
 use Rattle.region.proofs.Passing.{at-place}
 use Rattle.query.specs.Query.{visible, isSeen, isSought, isShown, isPassed, entryToGet, entryFollowing, goingOn, entryToName, standingAt}
 use Rattle.query.proofs.Seen.{seenFrom, shownFrom, name-from, going-none, passed-other}
@@ -37,6 +38,9 @@ pub record Reached (f : Entry → Bool) (r : List ℕ) (at : ℕ) (x : Entry) : 
   pub whole : from r at ≡ before ++ from r (x .at)
   pub unlike : any f before ≡ false
   pub later : at ≤ x .at
+  pub behind : List Entry
+  pub here : from r (x .at) ≡ x ∷ behind
+  pub own : f x ≡ true
 
 module _ (f : Entry → Bool) (r : List ℕ) (x : Entry) where
   reach-turn : (at : ℕ) (t : Turn) → turnIn authenticated r at ≡ t → ((k : ℕ) → length r - k < length r - at → first f (from r k) ≡ some x → Reached f r k x)
@@ -55,7 +59,15 @@ module _ (f : Entry → Bool) (r : List ℕ) (x : Entry) where
           let found : _≡_ {A = Option Entry} (some (entryAt r at e)) (some x) = sym step ∙ h in
           let same : entryAt r at e ≡ x = cc in
           let place : at ≡ x .at = sym (at-place authenticated r at e) ∙ ap (λ (y : Entry). y .at) same in
-          record { before = []; whole = ap (from r) place; unlike = refl; later = omega arith }
+          record {
+            before = [];
+            whole = ap (from r) place;
+            unlike = refl;
+            later = omega arith;
+            behind = from r k;
+            here = ap (from r) (sym place) ∙ w .walk ∙ ap (λ (y : Entry). y ∷ from r k) same;
+            own = ap f (sym same) ∙ q;
+          }
       go false q =
           let w = at-entry refl p in
           let step : first f (from r at) ≡ first f (from r k) = ap (first f) (w .walk) ∙ ap (λ (t : Bool). cond t (some (entryAt r at e)) (first f (from r k))) q in
@@ -65,6 +77,9 @@ module _ (f : Entry → Bool) (r : List ℕ) (x : Entry) where
             whole = w .walk ∙ ap (λ l. entryAt r at e ∷ l) (more .whole);
             unlike = ap (λ (t : Bool). t || any f (more .before)) q ∙ more .unlike;
             later = omega (arith, w .more, more .later);
+            behind = more .behind;
+            here = more .here;
+            own = more .own;
           }
 
   reach-from : (n at : ℕ) → length r - at ≤ n → first f (from r at) ≡ some x → Reached f r at x
@@ -211,6 +226,47 @@ led runtime k r m e = go (first (isEntry 0x3F k) (entries r)) refl (first (isEnt
           whole = sym (append-nil (entries r));
           none-there = none-sought runtime k (entries r) (entries r) (first-none (isEntry 0x3F k) (entries r) p) other;
         })
+
+-- the entry that begins there is the value of the name
+same-entry : (r : List ℕ) (x : Entry) {behind : List Entry} → from r (x .at) ≡ x ∷ behind → {n : ℕ} → n ≡ x .at → {e : numbers.Entry} {next : ℕ} → Turned authenticated r n e next
+    → entryAt r n e ≡ x
+same-entry r x {behind} h {n} p {e} {next} w =
+    let two : entryAt r n e ∷ from r next ≡ x ∷ behind = sym (w .walk) ∙ ap (from r) p ∙ h in
+    cc
+
+value-there : (k : Key) (r : List ℕ) (m : Met) → m ≡ metOf k (entries r) → {n : ℕ} → n ≡ standingAt m → n ≢ 0 → {e : numbers.Entry} {next : ℕ} → Turned authenticated r n e next
+    → (isEntry 0x3F k (entryAt r n e) || (isEntry 0x3E k (entryAt r n e) && not (any (isEntry 0x3F k) (entries r)))) ≡ true
+unfolding metOf added replacing
+value-there k r m met {n} s z {e} {next} w = go (first (isEntry 0x3F k) (entries r)) refl (first (isEntry 0x3E k) (entries r)) refl
+  where
+    go : (o : Option Entry) → first (isEntry 0x3F k) (entries r) ≡ o → (u : Option Entry) → first (isEntry 0x3E k) (entries r) ≡ u
+        → (isEntry 0x3F k (entryAt r n e) || (isEntry 0x3E k (entryAt r n e) && not (any (isEntry 0x3F k) (entries r)))) ≡ true
+    go (some x) p u q =
+        let c = reach (isEntry 0x3F k) r x (ap (first (isEntry 0x3F k)) (sym (entries-from authenticated r)) ∙ p) in
+        let there : m .added ≡ x .at = ap (λ (y : Met). y .added) met ∙ ap offsetOf p in
+        let some : eqb (m .added) 0 ≡ false = ne-eqb (m .added) 0 (λ z. omega (arith, c .later)) in
+        let place : n ≡ x .at = s ∙ ap (λ (t : Bool). cond t (m .replacing) (m .added)) some ∙ there in
+        rw (same-entry r x (c .here) place w) (rw (c .own))
+    go none p (some x) q =
+        let c = reach (isEntry 0x3E k) r x (ap (first (isEntry 0x3E k)) (sym (entries-from authenticated r)) ∙ q) in
+        let nowhere : m .added ≡ 0 = ap (λ (y : Met). y .added) met ∙ ap offsetOf p in
+        let there : m .replacing ≡ x .at = ap (λ (y : Met). y .replacing) met ∙ ap offsetOf q in
+        let place : n ≡ x .at = s ∙ ap (λ (t : Bool). cond t (m .replacing) (m .added)) (eq-eqb (m .added) 0 nowhere) ∙ there in
+        let other : any (isEntry 0x3F k) (entries r) ≡ false = first-none (isEntry 0x3F k) (entries r) p in
+        rw (same-entry r x (c .here) place w) (rw (true-and (c .own) (ap not other)) (or-true (isEntry 0x3F k x)))
+    go none p none q =
+        let nowhere : m .added ≡ 0 = ap (λ (y : Met). y .added) met ∙ ap offsetOf p in
+        let there : m .replacing ≡ 0 = ap (λ (y : Met). y .replacing) met ∙ ap offsetOf q in
+        absurd (z (s ∙ ap (λ (t : Bool). cond t (m .replacing) (m .added)) (eq-eqb (m .added) 0 nowhere) ∙ there))
+
+-- so it is sought, if it is visible
+pub sought-there : (runtime : Bool) (k : Key) (r : List ℕ) (m : Met) → m ≡ metOf k (entries r) → {n : ℕ} → n ≡ standingAt m → n ≢ 0
+    → {e : numbers.Entry} {next : ℕ} → Turned authenticated r n e next → visible runtime (e .attributes) ≡ true → isSought runtime k (entries r) (entryAt r n e) ≡ true
+unfolding isSought isSeen entryAs placed
+sought-there runtime k r m q {n} s z {e} {next} w v =
+    let y = entryAt r n e in
+    let p = and-split (sameKey (entryKey y) k) (isValue (entries r) y) (value-of runtime k (entries r) y ∙ value-there k r m q s z w) in
+    true-and (p .0) (true-and (p .1) v)
 
 -- ---- where the walks begin
 

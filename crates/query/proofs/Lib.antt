@@ -5,3 +5,5 @@ pub mod Seen
 pub mod Leading
 -- The entries found hold the values that the rules name
 pub mod Held
+-- Many names sought in one walk
+pub mod Several

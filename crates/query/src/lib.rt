@@ -17,6 +17,14 @@ use region::walk;
 use values::Found;
 use values::list;
 
+pub mod many;
+
+// A range of names, by their numbers.
+pub struct Names {
+    pub start: usize,
+    pub end: usize,
+}
+
 // Whether a value with these attributes is seen: at runtime only with runtime access.
 fn is_visible(runtime: bool, attributes: u32) -> bool
     ensures { λ r. ⌜ r ≡ visible runtime attributes ⌝ }
@@ -60,8 +68,8 @@ fn standing(met: Met) -> usize
     met.added
 }
 
-// The value to get: the one of this name and GUID, if it is seen. It is where the name was met; the walk begins there.
-pub fn to_get(region: &[u8], runtime: bool, name: &[u8], vendor: &[u8; 16], met: Met) -> Found
+// The same by a walk from there on.
+fn walk_to_get(region: &[u8], runtime: bool, name: &[u8], vendor: &[u8; 16], met: Met) -> Found
     requires { ⌜ met ≡ metOf (keyed (now name) (now vendor)) (entries (now region)) ⌝ }
     ensures { λ r. ⌜ entryIn (now (region .entry)) r ≡ entryToGet runtime (keyed (now (name .entry)) (now (vendor .entry))) (entries (now (region .entry))) ⌝ }
 {
@@ -79,6 +87,25 @@ pub fn to_get(region: &[u8], runtime: bool, name: &[u8], vendor: &[u8; 16], met:
         }
         at = next;
     }
+}
+
+// The value to get: the one of this name and GUID, if it is seen. It is where the name was met, so the name is not compared again.
+pub fn to_get(region: &[u8], runtime: bool, name: &[u8], vendor: &[u8; 16], met: Met) -> Found
+    requires { ⌜ met ≡ metOf (keyed (now name) (now vendor)) (entries (now region)) ⌝ }
+    ensures { λ r. ⌜ entryIn (now (region .entry)) r ≡ entryToGet runtime (keyed (now (name .entry)) (now (vendor .entry))) (entries (now (region .entry))) ⌝ }
+{
+    let place = standing(met);
+    if place == 0 {
+        return Found::Nothing;
+    }
+    let t = walk::turn(Layout::AUTHENTICATED, region, place);
+    let Turn::Entry(e, _) = t else {
+        return Found::Nothing;
+    };
+    if is_visible(runtime, e.attributes) {
+        return Found::At(place, e);
+    }
+    walk_to_get(region, runtime, name, vendor, met)
 }
 
 // Whether a name is the two-byte empty one, with which next-name begins.

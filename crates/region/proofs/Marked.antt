@@ -60,7 +60,7 @@ unfolding keyMark
 key-signed key z = absurd (omega arith)
 
 -- an entry of the name that bytes tell has the mark of these
-sought-mark : (key : List ℕ) (x : walk.Entry) → isSought (keyFrom key) x ≡ true → markAt x ≡ keyMark key
+pub sought-mark : (key : List ℕ) (x : walk.Entry) → isSought (keyFrom key) x ≡ true → markAt x ≡ keyMark key
 unfolding markAt markOf
 sought-mark key x h =
     let p = and-split (live x) (sameKey (entryKey x) (keyFrom key)) h in

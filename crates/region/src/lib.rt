@@ -2,7 +2,7 @@
 use layout::Entry;
 
 pub mod judge;
-mod marks;
+pub mod marks;
 mod sorted;
 pub mod walk;
 

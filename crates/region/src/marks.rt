@@ -19,7 +19,7 @@ const SIGNS: u64 = 128;
 const SEVERAL: u8 = 1;
 
 // A table in which no mark is noted: 0 at every place.
-pub(crate) fn no_marks() -> [u8; 1280]
+pub fn no_marks() -> [u8; 1280]
     ensures { λ r. ⌜ r ≡ noMarks ⌝ }
 {
     [0; 1280]
@@ -94,7 +94,7 @@ fn weighed(key: &[u8]) -> u64
 }
 
 // The mark of a GUID with the name after it.
-pub(crate) fn mark_of_key(key: &[u8]) -> Mark
+pub fn mark_of_key(key: &[u8]) -> Mark
     ensures { λ r. ⌜ (r ≡ keyMark (now (key .entry))) × (r .place < 1280) ⌝ }
 {
     let w = weighed(key);
@@ -105,7 +105,7 @@ pub(crate) fn mark_of_key(key: &[u8]) -> Mark
 }
 
 // The mark of the entry at the front of `s`: that of its GUID and name if it is live, else one at a place that no name has.
-pub(crate) fn mark_of(y: Layout, s: &[u8], e: Entry) -> Mark
+pub fn mark_of(y: Layout, s: &[u8], e: Entry) -> Mark
     ensures { λ r. ⌜ (r ≡ markIn y (now (s .entry)) e) × (r .place < 1280) ⌝ }
 {
     if judge::is_live(e.state) {
