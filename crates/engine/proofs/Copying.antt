@@ -29,7 +29,7 @@ copy-behind s t d =
     (sym (append-assoc s t (drop (length s + length t) d)))
 
 -- as a part of a slice, lent from an offset on and put back
-put-rest : (a : ℕ) (xs ys : List ℕ) → a ≤ length xs → putMid a (length xs - a) xs ys ≡ take a xs ++ ys
+pub put-rest : (a : ℕ) (xs ys : List ℕ) → a ≤ length xs → putMid a (length xs - a) xs ys ≡ take a xs ++ ys
 put-rest a xs ys h =
     ap (λ (z : List ℕ). take a xs ++ (ys ++ z)) (post-is a (length xs) xs h ∙ drop-length xs)
     ∙ ap (λ (z : List ℕ). take a xs ++ z) (append-nil ys)

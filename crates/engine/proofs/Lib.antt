@@ -3,6 +3,8 @@
 pub mod Opened
 -- What a call that reads answers, of the value found
 pub mod Reading
+-- One get after another
+pub mod Several
 -- Bytes copied to the front of a buffer
 pub mod Copying
 -- The marks of a call clear one bit each

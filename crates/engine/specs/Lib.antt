@@ -1,5 +1,7 @@
 -- What the calls answer, where the code goes by parts.
 -- The calls that read
 pub mod Read
+-- Many gets in one call
+pub mod Many
 -- A start-up
 pub mod Shares

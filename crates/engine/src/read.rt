@@ -34,7 +34,7 @@ use region::walk;
 use values::Found;
 
 // Bytes copied to the front of a buffer.
-fn deliver(buffer: &mut [u8], bytes: &[u8])
+pub(crate) fn deliver(buffer: &mut [u8], bytes: &[u8])
     requires { ⌜ length (now bytes) ≤ length (now buffer) ⌝ }
     ensures { λ _. ⌜ now (buffer .exit) ≡ overlay 0 (now (bytes .entry)) (now (buffer .entry)) ⌝ }
 {
@@ -46,7 +46,7 @@ fn deliver(buffer: &mut [u8], bytes: &[u8])
 }
 
 // Refused: nothing is written.
-fn refused(rule: Rule, needed: u32) -> Got
+pub(crate) fn refused(rule: Rule, needed: u32) -> Got
     ensures { λ r. ⌜ r ≡ refusedGot rule needed ⌝ }
 {
     Got {
@@ -58,7 +58,7 @@ fn refused(rule: Rule, needed: u32) -> Got
 }
 
 // Whether a name is the other side's: rule 22.
-fn is_foreign(view: View, name: &[u8], vendor: &[u8; 16]) -> bool
+pub(crate) fn is_foreign(view: View, name: &[u8], vendor: &[u8; 16]) -> bool
     ensures { λ r. ⌜ r ≡ rule22 (view .vendor) (view .modem) (keyed (now (name .entry)) (now (vendor .entry))) ⌝ }
 {
     let guid = view.vendor;
@@ -172,7 +172,7 @@ fn give_name(vendor: &[u8], name: &[u8], buffer: &mut [u8]) -> Got
 }
 
 // Rules 11 and 14 of a get, from a region.
-fn get_from(
+pub(crate) fn get_from(
     region: &[u8],
     runtime: bool,
     name: &[u8],
