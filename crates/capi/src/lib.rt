@@ -10,13 +10,13 @@ ghost use Rattle.model.specs.Session.{isModem, atRuntime, freshSession, movedTo
 ghost use Rattle.model.specs.Rules.{termsFor};
 ghost use Rattle.model.specs.Query.{storageFor, remainingFor, largestFor, queryOutcome, queryGives};
 ghost use Rattle.model.specs.StartUp.{startUpPlan, formatPlan};
-ghost use Rattle.model.specs.Beside.{Gives};
-ghost use Rattle.model.specs.Answers.{answerOf, sideOf, outcome, imageAfter, getReply, nextReply, lockOutcome, lockSession};
+ghost use Rattle.model.specs.Beside.{Gives, asked, Handed};
+ghost use Rattle.model.specs.Answers.{answerOf, sideOf, outcome, imageAfter, getReply, getsReply, nextReply, lockOutcome, lockSession};
 ghost use Rattle.model.specs.Move.{moveAnswer, imageMoved};
 ghost use Rattle.model.specs.Lent.{sessionOf};
 ghost use Rattle.decision.specs.Decision.{requestOf};
 ghost use Rattle.model.specs.Book as book;
-ghost use Rattle.model.specs.Book.{setPlan, getPlan, nextPlan};
+ghost use Rattle.model.specs.Book.{setPlan, getPlan, getsPlan, nextPlan};
 ghost use Rattle.recovery.specs.Host.{StartUpPlanned, PlannedFor};
 ghost use Rattle.plan.specs.Planned.{Kept};
 ghost use Rattle.plan.specs.Told.{Told};
@@ -221,6 +221,30 @@ pub extern "C" fn vs_get(
         attributes: g.attributes,
         needed: g.needed,
     }
+}
+
+#[no_mangle]
+pub extern "C" fn vs_get_many(
+    context: Context,
+    session: Session,
+    image: &[u8],
+    keys: &[u8],
+    sizes: &[u32],
+    told: &mut [u32; 256],
+    buffer: &mut [u8],
+) -> Answered
+    ensures { λ r. ⌜ (r
+        ≡ numbersOf (outcome context
+        (getsPlan (sideOf context) session (asked (now (keys .entry)) (now (sizes .entry))) (now (buffer .entry)) (now (image .entry)))
+        (now (image .entry))))
+        × Handed
+        (getsReply (sideOf context) session (asked (now (keys .entry)) (now (sizes .entry))) (now (buffer .entry)) (now (image .entry)))
+        (now (told .entry)) (now (told .exit)) (now (buffer .exit)) ⌝ }
+{
+    let guid = session.setup.modem.vendor;
+    let view = session::view(session::is_modem(context.side), session.phase, guid);
+    let answer = engine::many::get_many(context, view, image, keys, sizes, told, buffer);
+    numbers(answer)
 }
 
 #[no_mangle]
@@ -527,6 +551,29 @@ pub extern "C" fn vs_get_lent(
         attributes: told.attributes,
         needed: told.needed,
     }
+}
+
+#[no_mangle]
+pub extern "C" fn vs_get_many_lent(
+    context: Context,
+    session: &[u8; lent::SESSION],
+    image: &[u8],
+    keys: &[u8],
+    sizes: &[u32],
+    told: &mut [u32; 256],
+    buffer: &mut [u8],
+) -> Answered
+    ensures { λ r. ⌜ (r
+        ≡ numbersOf (outcome context
+        (getsPlan (sideOf context) (sessionOf (now (session .entry))) (asked (now (keys .entry)) (now (sizes .entry))) (now (buffer .entry)) (now (image .entry)))
+        (now (image .entry))))
+        × Handed
+        (getsReply (sideOf context) (sessionOf (now (session .entry))) (asked (now (keys .entry)) (now (sizes .entry))) (now (buffer .entry)) (now (image .entry)))
+        (now (told .entry)) (now (told .exit)) (now (buffer .exit)) ⌝ }
+{
+    let view = lent::view(session, session::is_modem(context.side));
+    let reply = engine::many::get_many(context, view, image, keys, sizes, told, buffer);
+    numbers(reply)
 }
 
 #[no_mangle]
