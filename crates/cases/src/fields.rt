@@ -17,6 +17,13 @@ fn wide(b: u8) -> usize
     b as usize
 }
 
+// A number of one byte.
+pub(crate) fn small(s: &[u8], at: usize) -> usize
+    ensures { λ r. ⌜ r < 256 ⌝ }
+{
+    wide(byte(s, at))
+}
+
 // A number of two bytes.
 pub(crate) fn short(s: &[u8], at: usize) -> usize
     ensures { λ r. ⌜ r < 65536 ⌝ }
@@ -68,6 +75,18 @@ pub(crate) fn addresses(s: &[u8], at: usize) -> [u32; 16] {
     let mut list = [0u32; 16];
     let mut i = 0;
     while i < 16 {
+        list[i] = long(field, 4 * i) as u32;
+        i += 1;
+    }
+    list
+}
+
+// 65 numbers of four bytes.
+pub(crate) fn sizes(s: &[u8], at: usize) -> [u32; 65] {
+    let field = slices::cut(s, at, 260);
+    let mut list = [0u32; 65];
+    let mut i = 0;
+    while i < 65 {
         list[i] = long(field, 4 * i) as u32;
         i += 1;
     }

@@ -7,6 +7,8 @@
 //   S  set         attributes u32, presence u8, verdict u8, vendor 16, name size u16, data size u32, name, data
 //   G  get         buffer size u16, vendor 16, name size u16, name
 //   N  next-name   the same
+//   Q  many-get    buffer size u16, number of names u8 (up to 65), size of all places u16, the size of each name with its GUID u32, the places (144 bytes for each
+//                  name, GUID first)
 //   L  lock        vendor 16, name size u16, name
 //   P  phase       u8
 //   B  bytes poked into the image, as nobody but a test does: offset u32, size u16, bytes
@@ -31,6 +33,7 @@ ghost use Rattle.model.specs.Name.{keyed};
 ghost use Rattle.model.specs.Rules.{termsOf};
 ghost use Rattle.io.specs.Counts.{Counts};
 use crate::fields;
+use crate::many;
 use crate::print;
 use crate::rules;
 use crate::tenants;
@@ -231,14 +234,14 @@ fn next_name(c: Context, step: &[u8], image: &[u8], s: Session, space: &mut [u8]
     print_named(named, space);
 }
 
-// A get or a next-name, with room for its buffer.
+// A get, a many-get or a next-name, with room for its buffer.
 fn read(c: Context, step: &[u8], image: &[u8], s: Session) {
     let mut space = io::large_buffer();
-    if fields::byte(step, 0) == b'G' {
-        get(c, step, image, s, &mut space);
-        return;
+    match fields::byte(step, 0) {
+        b'G' => get(c, step, image, s, &mut space),
+        b'Q' => many::get_many(c, view(c, s), step, image, &mut space),
+        _ => next_name(c, step, image, s, &mut space),
     }
-    next_name(c, step, image, s, &mut space);
 }
 
 fn lock(c: Context, step: &[u8], s: Session) -> Session {
@@ -337,6 +340,7 @@ fn call(c: Context, step: &[u8], image: &mut [u8], target: &mut [u8], s: Session
         b'S' => set(c, step, image, s),
         b'G' => read(c, step, image, s),
         b'N' => read(c, step, image, s),
+        b'Q' => read(c, step, image, s),
         b'B' => poke(step, image),
         b'D' => show(step, image),
         b'V' => varlist(image),
@@ -400,6 +404,7 @@ fn step_size(step: &[u8]) -> usize
         b'S' => 33 + fields::short(step, 27) + fields::long(step, 29),
         b'G' => 25 + fields::short(step, 23),
         b'N' => 25 + fields::short(step, 23),
+        b'Q' => 10 + 4 * fields::small(step, 7) + fields::short(step, 8),
         b'L' => 23 + fields::short(step, 21),
         b'P' => 6,
         b'B' => 11 + fields::short(step, 9),
