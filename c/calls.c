@@ -11,7 +11,7 @@
 
 #include "varstore.h"
 
-enum { COUNT = 50000, RULES = VS_WORN + 1, NAMED = 160, DATA = 2200 };
+enum { COUNT = 50000, RULES = VS_WORN + 1, NAMED = 160, DATA = 2200, ASKED = VS_NAMES + 6 };
 
 /* ---- numbers, and what is hashed */
 
@@ -70,6 +70,9 @@ static vs_answer answered(vs_answer answer)
 
 static uint8_t image[VS_LARGEST_IMAGE], other[VS_LARGEST_IMAGE], content[VS_CONTENT], name[NAMED], vendor[16], data[DATA], buffer[DATA];
 static uint8_t twin_image[VS_LARGEST_IMAGE], twin_content[VS_CONTENT], twin_buffer[DATA]; /* what the same call has with its session lent */
+static uint8_t keys[ASKED * VS_KEY];
+static uint32_t sizes[ASKED];
+static vs_item items[VS_NAMES], twin_items[VS_NAMES];
 static unsigned long differences;
 static size_t length, name_len, data_len;
 static vs_session session;
@@ -300,6 +303,35 @@ static void get(void)
     replied(vs_get(context, session, image, image_size, name, name_len, vendor, buffer, size), lent);
 }
 
+/* A key in its place, with what follows the name; its size is mostly right. The side is mostly that of the last name. */
+static void choose_key(size_t i)
+{
+    choose_name();
+    memcpy(keys + VS_KEY * i, vendor, 16);
+    memcpy(keys + VS_KEY * i + 16, name, VS_LARGEST_NAME);
+    sizes[i] = below(16) > 0 ? (uint32_t)(16 + name_len) : ONE_OF(0, 15, 16, 145, 0xFFFFFFFF);
+}
+
+static void get_many(void)
+{
+    size_t names = below(8) == 0 ? ONE_OF(0, 1, 63, 64, 65, ASKED) : below(12), keys_len, size, image_size;
+    for (size_t i = 0; i < names; i++) {
+        choose_key(i);
+    }
+    keys_len = below(8) == 0 ? below(VS_KEY * names + 1) : VS_KEY * names;
+    size = below(3) == 0 ? below(40) : DATA;
+    vs_context context = choose_context();
+    image_size = given();
+    twins();
+    memcpy(twin_items, items, sizeof items);
+    vs_answer lent = vs_get_many_lent(context, &session, twin_image, image_size, keys, keys_len, sizes, names, twin_items, twin_buffer, size);
+    vs_answer answer = vs_get_many(context, session, image, image_size, keys, keys_len, sizes, names, items, buffer, size);
+    alike(same_answer(answer, lent) && memcmp(twin_items, items, sizeof items) == 0);
+    answered(answer);
+    mix_bytes(items, sizeof items);
+    mix_bytes(buffer, sizeof buffer);
+}
+
 static void query(void)
 {
     uint32_t attributes = choose_attributes();
@@ -429,7 +461,7 @@ static void call(void)
     static const struct {
         void (*made)(void);
         uint32_t share;
-    } calls[] = {{set, 33}, {get, 16}, {query, 3}, {next_name, 12}, {plan_set, 10}, {start_up, 8}, {check, 3}, {plan_start_up, 3}, {lock, 4},
+    } calls[] = {{set, 33}, {get, 12}, {get_many, 4}, {query, 3}, {next_name, 12}, {plan_set, 10}, {start_up, 8}, {check, 3}, {plan_start_up, 3}, {lock, 4},
                  {phase, 2}, {session_new, 1}, {plan_format, 1}, {move, 2}, {format, 1}, {damage, 1}};
     uint64_t chosen = below(100);
     for (size_t i = 0; i < sizeof calls / sizeof calls[0]; i++) {

@@ -1,7 +1,7 @@
 /* A host of the variable store.
  *
  *   host         a small flash part: set, append, delete, power cuts in a compaction, a byte that dies, pages, hardware error records, settings that
- *                must make sense, and a modem in the same image
+ *                must make sense and are read in one call, and a modem in the same image
  *   host IMAGE   lists the variables of an image file
  *
  * It shows how a firmware's variable driver is built on varstore.h: start up at every power-on, keep the session, ask with an empty buffer first, and carry
@@ -13,8 +13,8 @@
 
 #include "varstore_uefi.h"
 
-#if VS_INTERFACE != 8
-#error "this host knows the operations of interface 8"
+#if VS_INTERFACE != 9
+#error "this host knows the operations of interface 9"
 #endif
 
 enum { BLOCK = VS_BLOCK, PART = BLOCK * 3, PLAIN = VS_NV | VS_BOOT_ACCESS | VS_RUNTIME_ACCESS };
@@ -591,6 +591,54 @@ static void settings(vs_session *session)
     list(session, image, PART);
 }
 
+/* ---- acquisition starts, and reads its settings in one call, which checks the image once */
+
+/* The place of one name: the GUID, then the name. Its size is that of both. */
+static uint32_t key(const uint8_t *vendor, const char *text, uint8_t place[VS_KEY])
+{
+    memcpy(place, vendor, 16);
+    return (uint32_t)(16 + utf16(text, place + 16));
+}
+
+/* The data are one after another in the buffer, and each item tells how long its own are. For a setting that is refused acquisition uses a default. */
+static void read_settings(const vs_session *session, uint8_t *data, size_t size)
+{
+    static const char *const wanted[] = {"SampleRate", "Compressed", "SerialNumber"};
+    enum { WANTED = sizeof wanted / sizeof wanted[0] };
+    static uint8_t keys[WANTED * VS_KEY];
+    static uint32_t sizes[WANTED];
+    static vs_item items[VS_NAMES];
+    for (size_t i = 0; i < WANTED; i++) {
+        sizes[i] = key(our_vendor, wanted[i], keys + VS_KEY * i);
+    }
+    vs_answer answer = vs_get_many_lent(by(VS_OURS), session, image, PART, keys, sizeof keys, sizes, WANTED, items, data, size);
+    if (told("settings", answer)) {
+        return;
+    }
+    for (size_t i = 0; i < WANTED; data += items[i++].size) {
+        printf("  %s", wanted[i]);
+        if (items[i].rule != 0) {
+            printf(": refused %u, %s", (unsigned)items[i].rule, vs_uefi_text(items[i].rule));
+        } else {
+            printf(" %02X ", (unsigned)items[i].attributes);
+        }
+        for (uint32_t at = 0; at < items[i].size; at++) {
+            printf("%02X", (unsigned)data[at]);
+        }
+        putchar('\n');
+    }
+}
+
+static void acquisition(vs_session *session)
+{
+    static uint8_t data[VS_LARGEST_DATA];
+    print_answer("start-up", power_on(session));
+    printf("acquisition reads its settings in one call\n");
+    read_settings(session, data, sizeof data);
+    printf("the same into 11 bytes, one less than they take\n");
+    read_settings(session, data, 11);
+}
+
 /* ---- a modem in the same image
  *
  * Names under its GUID are the modem's, and of the region's 4,096 bytes 1,000 are for them, 200 for hardware error records, and the rest ours. What the modem asks the
@@ -736,6 +784,7 @@ static int story(void)
     pages(&session);
     records(&session);
     settings(&session);
+    acquisition(&session);
     tenant(&session);
     printf("dead bytes found: %u, at %u and %u\n", (unsigned)known.count, (unsigned)known.dead[0], (unsigned)known.dead[1]);
     return memcmp(image, part.bytes, PART) != 0;
@@ -751,7 +800,7 @@ int main(int argc, char **argv)
                 "usage: host [IMAGE]\n"
                 "  with IMAGE: lists the variables of an image file: name, attributes, data\n"
                 "  without: a small flash part, power cuts in a compaction, a byte that dies, pages, hardware error records, settings that must\n"
-                "  make sense, and a modem in the same image\n");
+                "  make sense and are read in one call, and a modem in the same image\n");
         return 2;
     }
     return list_file(argv[1]);

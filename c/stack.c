@@ -26,6 +26,9 @@ static const vs_context no_limit = {.limit = VS_NO_LIMIT};
 static vs_setup setup; /* no custom mode, no reserve, no bytes for error records, a modem with nothing, and as many rules as there may be */
 static const uint8_t vendor[16] = {1}, zeros[2048];
 static uint8_t image[IMAGE], plain[IMAGE], buffer[2048], content[VS_CONTENT], stack[STACK];
+static uint8_t keys[VS_NAMES * VS_KEY];
+static uint32_t sizes[VS_NAMES];
+static vs_item items[VS_NAMES];
 static vs_session session, made;
 static vs_answer answer;
 static vs_listed listed;
@@ -78,6 +81,16 @@ static void lay_rules(void)
             memcpy(rule.vendor, vendor, sizeof vendor);
         }
         setup.settings[i] = rule;
+    }
+}
+
+/* As many names as one call takes; the first of them stands. */
+static void lay_keys(void)
+{
+    for (unsigned i = 0; i < VS_NAMES; i++) {
+        memcpy(keys + VS_KEY * i, vendor, sizeof vendor);
+        memcpy(keys + VS_KEY * i + sizeof vendor, named(i), 6);
+        sizes[i] = sizeof vendor + 6;
     }
 }
 
@@ -136,6 +149,7 @@ static void new_session(void) { made = CALL(vs_session_new)(setup); }
 static void phase(void) { made = CALL(vs_phase)(session, VS_RUNTIME); }
 static void lock(void) { listed = CALL(vs_lock)(session, VS_OURS, name, sizeof name, vendor); }
 static void get(void) { answer = CALL(vs_get)(no_limit, session, image, IMAGE, name, sizeof name, vendor, buffer, sizeof buffer).answer; }
+static void many(void) { answer = CALL(vs_get_many)(no_limit, session, image, IMAGE, keys, sizeof keys, sizes, VS_NAMES, items, buffer, sizeof buffer); }
 static void next_name(void) { answer = CALL(vs_next_name)(no_limit, session, image, IMAGE, zeros, 2, vendor, buffer, sizeof buffer).answer; }
 static void format(void) { answer = CALL(vs_format)(no_limit, image, IMAGE, content); }
 static void plan_format(void) { plan = CALL(vs_plan_format)(image, IMAGE, content); }
@@ -160,6 +174,7 @@ static void lock_lent(void) { answer = CALL(vs_lock_lent)(&session, VS_OURS, nam
 static void query(void) { answer = CALL(vs_query)(no_limit, session, image, IMAGE, PLAIN).answer; }
 static void query_lent(void) { answer = CALL(vs_query_lent)(no_limit, &session, image, IMAGE, PLAIN).answer; }
 static void get_lent(void) { answer = CALL(vs_get_lent)(no_limit, &session, image, IMAGE, name, sizeof name, vendor, buffer, sizeof buffer).answer; }
+static void many_lent(void) { answer = CALL(vs_get_many_lent)(no_limit, &session, image, IMAGE, keys, sizeof keys, sizes, VS_NAMES, items, buffer, sizeof buffer); }
 static void next_lent(void) { answer = CALL(vs_next_name_lent)(no_limit, &session, image, IMAGE, zeros, 2, vendor, buffer, sizeof buffer).answer; }
 static void start_up_lent(void) { answer = CALL(vs_start_up_lent)(no_limit, image, IMAGE, &session, content); }
 
@@ -227,6 +242,7 @@ static const measured calls[] = {
     {"vs_phase", phase, 0, 0, ANSWER, 0, 0, 0, 0},
     {"vs_lock", lock, 0, 0, LISTED, 0, 0, 0, 0},
     {"vs_get", get, 0, 0, ANSWER, 0, 0, 0, 0},
+    {"vs_get_many", many, 0, 0, ANSWER, 0, 0, 0, 0},
     {"vs_query", query, 0, 0, ANSWER, 0, 0, 0, 0},
     {"vs_next_name", next_name, 0, 0, ANSWER, 0, 0, 0, 0},
     {"vs_set in the tail", set, 0, 60, ANSWER, FREE, PLAIN, 1, 0},
@@ -247,6 +263,7 @@ static const measured calls[] = {
     {"vs_phase_lent", phase_lent, 0, 0, ANSWER, 0, 0, 0, READS},
     {"vs_lock_lent", lock_lent, 0, 0, ANSWER, 0, 0, 0, WRITES},
     {"vs_get_lent", get_lent, 0, 0, ANSWER, 0, 0, 0, READS},
+    {"vs_get_many_lent", many_lent, 0, 0, ANSWER, 0, 0, 0, READS},
     {"vs_query_lent", query_lent, 0, 0, ANSWER, 0, 0, 0, READS},
     {"vs_next_name_lent", next_lent, 0, 0, ANSWER, 0, 0, 0, READS},
     {"vs_set_lent in the tail", set_lent, 0, 60, ANSWER, FREE, PLAIN, 1, WRITES},
@@ -286,6 +303,7 @@ int main(void)
 {
     int wrong = 0;
     lay_rules();
+    lay_keys();
     taken(enter);
     size_t above = STACK - (size_t)(begin - stack), most_own = 0, most_copies = 0, most_total = 0;
     printf("%-34s%7s%7s%7s\n", "bytes of stack", "own", "copies", "total");
