@@ -3,7 +3,7 @@
 use std::cell::RefCell;
 
 use crate::engine;
-use crate::interface::{Answer, Checked, Context, Key, Listed, Reply, Request, Session, Setup, Started};
+use crate::interface::{Answer, Checked, Context, Key, Listed, Replies, Reply, Request, Session, Setup, Started};
 use crate::paper;
 use crate::plan::Content;
 
@@ -16,6 +16,7 @@ pub struct Calls {
     pub phase: fn(Session, u32) -> Session,
     pub lock: fn(Session, u32, Key) -> Listed,
     pub get: Read,
+    pub get_many: fn(Context, &Session, &[u8], &[Key], &mut [u8]) -> Replies,
     pub next_name: Read,
     pub set: fn(Context, &Session, &mut [u8], &Request) -> Answer,
     pub format: fn(Context, &mut [u8]) -> Answer,
@@ -37,6 +38,7 @@ pub const PAPER: Calls = Calls {
     phase: paper::phase,
     lock: paper::lock,
     get: paper::get,
+    get_many: paper::get_many,
     next_name: paper::next_name,
     set: paper::set,
     format: paper::format,
@@ -52,6 +54,7 @@ pub const ENGINE: Calls = Calls {
     phase: engine::phase,
     lock: engine::lock,
     get: engine::get,
+    get_many: engine::get_many,
     next_name: engine::next_name,
     set: |context, session, image, request| lent(|content| engine::set(context, session, image, request, content)),
     format: |context, image| lent(|content| engine::format(context, image, content)),

@@ -3,7 +3,7 @@
 
 use std::mem::{offset_of, size_of};
 
-use crate::interface::{Answer, Checked, Context, Guid, Key, Listed, Reply, Request, Rule, Session, Setting, Setup, Started, Tenant};
+use crate::interface::{Answer, Checked, Context, Guid, Key, Listed, Replies, Reply, Request, Rule, Session, Setting, Setup, Started, Tenant, NAMES};
 use crate::plan::{Content, Operation, Plan, OPERATIONS};
 
 /// The C structures that are not part of the interface as they stand.
@@ -33,6 +33,22 @@ struct RawReply {
     attributes: u32,
     needed: u32,
 }
+
+/// What a call for several names tells of one of them: the rule that refuses it, 0 if it is done, and what a get gives.
+#[derive(Clone, Copy, PartialEq, Eq, Debug)]
+#[repr(C)]
+pub struct Item {
+    pub rule: u32,
+    pub size: u32,
+    pub attributes: u32,
+    pub needed: u32,
+}
+
+/// The items of a call.
+pub type Told = [Item; NAMES];
+
+/// The bytes of a key's place, GUID and name, as next-name writes them.
+pub const KEY: usize = 144;
 
 #[repr(C)]
 struct RawRoom {
@@ -108,6 +124,7 @@ laid_out!(Setup 6956 custom 0 reserve 4 records 8 share 12 modem 16 rules 40 set
 laid_out!(Session 9336 phase 0 setup 4 count 6960 sizes 6964 locks 7028);
 laid_out!(RawAnswer 16 kind 0 rule 4 stores 8);
 laid_out!(RawReply 32 answer 0 size 16 attributes 20 needed 24);
+laid_out!(Item 16 rule 0 size 4 attributes 8 needed 12);
 laid_out!(RawRoom 32 answer 0 storage 16 remaining 20 largest 24);
 laid_out!(RawListed 9352 answer 0 session 16);
 laid_out!(RawChecked 24 answer 0 blocks 16 tail 20);
@@ -125,13 +142,15 @@ macro_rules! of_form {
 }
 
 #[rustfmt::skip]
-of_form! { 8
+of_form! { 9
     fn vs_check(image: *const u8, image_len: usize) -> RawChecked;
     fn vs_session_new(setup: Setup) -> Session;
     fn vs_phase(session: Session, phase: u32) -> Session;
     fn vs_lock(session: Session, side: u32, name: *const u8, name_len: usize, vendor: *const Guid) -> RawListed;
     fn vs_get(context: Context, session: Session, image: *const u8, image_len: usize, name: *const u8, name_len: usize,
               vendor: *const Guid, buffer: *mut u8, buffer_len: usize) -> RawReply;
+    fn vs_get_many(context: Context, session: Session, image: *const u8, image_len: usize, keys: *const u8, keys_len: usize,
+                   sizes: *const u32, sizes_len: usize, told: *mut Told, buffer: *mut u8, buffer_len: usize) -> RawAnswer;
     fn vs_next_name(context: Context, session: Session, image: *const u8, image_len: usize, name: *const u8, name_len: usize,
                     vendor: *const Guid, buffer: *mut u8, buffer_len: usize) -> RawReply;
     fn vs_set(context: Context, session: Session, image: *mut u8, image_len: usize, name: *const u8, name_len: usize,
@@ -152,6 +171,8 @@ of_form! { 8
     fn vs_lock_lent(session: *mut Session, side: u32, name: *const u8, name_len: usize, vendor: *const Guid) -> RawAnswer;
     fn vs_get_lent(context: Context, session: *const Session, image: *const u8, image_len: usize, name: *const u8, name_len: usize,
                    vendor: *const Guid, buffer: *mut u8, buffer_len: usize) -> RawReply;
+    fn vs_get_many_lent(context: Context, session: *const Session, image: *const u8, image_len: usize, keys: *const u8, keys_len: usize,
+                        sizes: *const u32, sizes_len: usize, told: *mut Told, buffer: *mut u8, buffer_len: usize) -> RawAnswer;
     fn vs_next_name_lent(context: Context, session: *const Session, image: *const u8, image_len: usize, name: *const u8, name_len: usize,
                          vendor: *const Guid, buffer: *mut u8, buffer_len: usize) -> RawReply;
     fn vs_set_lent(context: Context, session: *const Session, image: *mut u8, image_len: usize, name: *const u8, name_len: usize,
@@ -165,6 +186,13 @@ of_form! { 8
 impl RawReply {
     fn reply(self) -> Reply {
         Reply { answer: self.answer.answer(), size: self.size, attributes: self.attributes, needed: self.needed }
+    }
+}
+
+impl Item {
+    fn reply(self) -> Reply {
+        let answer = RawAnswer { kind: if self.rule == 0 { 0 } else { 2 }, rule: self.rule, stores: 0 };
+        Reply { answer: answer.answer(), size: self.size, attributes: self.attributes, needed: self.needed }
     }
 }
 
@@ -220,6 +248,36 @@ pub fn get(context: Context, session: &Session, image: &[u8], key: Key, buffer: 
     let (name, size) = (key.name.as_ptr(), key.name.len());
     let (front, length) = (buffer.as_mut_ptr(), buffer.len());
     unsafe { vs_get(context, *session, image.as_ptr(), image.len(), name, size, key.vendor, front, length) }.reply()
+}
+
+/// Keys in their places, and the size of each. Of a name over 128 bytes what fits goes over, and its full size.
+pub fn placed(keys: &[Key]) -> (Vec<u8>, Vec<u32>) {
+    let mut places = vec![0; KEY * keys.len()];
+    for (place, key) in places.chunks_exact_mut(KEY).zip(keys) {
+        place.iter_mut().zip(key.vendor.iter().chain(key.name)).for_each(|(place, byte)| *place = *byte);
+    }
+    (places, keys.iter().map(|key| (key.vendor.len() + key.name.len()) as u32).collect())
+}
+
+/// What a call on placed keys tells of them.
+fn replies(keys: &[Key], call: impl FnOnce(&[u8], &[u32], &mut Told) -> Answer) -> Replies {
+    let (places, sizes) = placed(keys);
+    let mut told = [Item { rule: u32::MAX, size: u32::MAX, attributes: u32::MAX, needed: u32::MAX }; NAMES];
+    let answer = call(&places, &sizes, &mut told);
+    let count = if answer == Answer::Done(0) { keys.len() } else { 0 };
+    Replies { answer, items: told[..count].iter().map(|item| item.reply()).collect() }
+}
+
+/// The call for several names as C makes it: what is in the places need be no keys, and `told` keeps what the call does not write.
+pub fn get_placed(context: Context, session: &Session, image: &[u8], keys: &[u8], sizes: &[u32], told: &mut Told, buffer: &mut [u8]) -> Answer {
+    let (places, length) = (keys.as_ptr(), keys.len());
+    let (numbers, count) = (sizes.as_ptr(), sizes.len());
+    let (front, room) = (buffer.as_mut_ptr(), buffer.len());
+    unsafe { vs_get_many(context, *session, image.as_ptr(), image.len(), places, length, numbers, count, told, front, room) }.answer()
+}
+
+pub fn get_many(context: Context, session: &Session, image: &[u8], keys: &[Key], buffer: &mut [u8]) -> Replies {
+    replies(keys, |places, sizes, told| get_placed(context, session, image, places, sizes, told, buffer))
 }
 
 pub fn next_name(context: Context, session: &Session, image: &[u8], key: Key, buffer: &mut [u8]) -> Reply {
@@ -301,6 +359,17 @@ pub mod lent {
         let (name, size) = (key.name.as_ptr(), key.name.len());
         let (front, length) = (buffer.as_mut_ptr(), buffer.len());
         unsafe { vs_get_lent(context, session, image.as_ptr(), image.len(), name, size, key.vendor, front, length) }.reply()
+    }
+
+    pub fn get_placed(context: Context, session: &Session, image: &[u8], keys: &[u8], sizes: &[u32], told: &mut Told, buffer: &mut [u8]) -> Answer {
+        let (places, length) = (keys.as_ptr(), keys.len());
+        let (numbers, count) = (sizes.as_ptr(), sizes.len());
+        let (front, room) = (buffer.as_mut_ptr(), buffer.len());
+        unsafe { vs_get_many_lent(context, session, image.as_ptr(), image.len(), places, length, numbers, count, told, front, room) }.answer()
+    }
+
+    pub fn get_many(context: Context, session: &Session, image: &[u8], keys: &[Key], buffer: &mut [u8]) -> Replies {
+        replies(keys, |places, sizes, told| get_placed(context, session, image, places, sizes, told, buffer))
     }
 
     pub fn next_name(context: Context, session: &Session, image: &[u8], key: Key, buffer: &mut [u8]) -> Reply {

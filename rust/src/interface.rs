@@ -132,6 +132,9 @@ pub const RUNTIME: u32 = 2;
 pub const PLACES: usize = 16;
 pub const PLACE: usize = 144;
 
+/// 02 (g): the most names of one call.
+pub const NAMES: usize = 64;
+
 /// Places for 02 (e)'s rules, and for the numbers of one.
 pub const SETTINGS: usize = 32;
 pub const NUMBERS: usize = 8;
@@ -328,6 +331,13 @@ pub struct Reply {
     pub size: u32,
     pub attributes: u32,
     pub needed: u32,
+}
+
+/// What 02 (g)'s call for several names gives beside the buffer's front: of each name what a get gives. Where the whole call is refused there are no items.
+#[derive(Clone, PartialEq, Eq, Debug)]
+pub struct Replies {
+    pub answer: Answer,
+    pub items: Vec<Reply>,
 }
 
 /// What a lock gives: the session as it came where the answer is a refusal.

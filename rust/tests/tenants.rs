@@ -14,7 +14,7 @@ use common::stored::Call;
 use common::tenants::is_modems;
 use common::{A, B, NEW, OLD, RATE, RECORD, RECORDS, VENDOR};
 use varstore::calls::{Calls, Read, BOTH, PAPER};
-use varstore::interface::{Answer, Context, Guid, Key, Request, Rule, Session, Setup, Tenant, AFTER_END_OF_DXE, MODEM, OURS, PLACE, RUNTIME};
+use varstore::interface::{Answer, Context, Guid, Key, Reply, Request, Rule, Session, Setup, Tenant, AFTER_END_OF_DXE, MODEM, OURS, PLACE, RUNTIME};
 use varstore::paper::entry::{self, Contents};
 use varstore::paper::layout::Authenticated;
 use varstore::paper::region;
@@ -603,6 +603,7 @@ fn a_station_without_a_modem() {
 enum Act {
     Set(Asked),
     Get(u32, Name),
+    Many(u32, Vec<Name>),
     Next(u32, Name),
     Lock(u32, Name),
     Phase(u32),
@@ -613,7 +614,7 @@ impl Act {
     fn is_modems(&self) -> Option<bool> {
         match self {
             Act::Set(asked) => Some(asked.side == MODEM),
-            Act::Get(side, _) | Act::Next(side, _) | Act::Lock(side, _) => Some(*side == MODEM),
+            Act::Get(side, _) | Act::Next(side, _) | Act::Lock(side, _) | Act::Many(side, _) => Some(*side == MODEM),
             Act::Phase(_) => None,
         }
     }
@@ -624,6 +625,8 @@ impl Act {
 struct Told {
     refused: Option<Rule>,
     reply: [u32; 3],
+    /// Of several names at once.
+    items: Vec<Reply>,
     buffer: Vec<u8>,
 }
 
@@ -642,15 +645,21 @@ impl World {
             Answer::Refused(rule) => Some(rule),
             Answer::Stopped => panic!("nothing stops it"),
         };
-        let plain = |answer| Told { refused: bare(answer), reply: [0; 3], buffer: vec![] };
+        let plain = |answer| Told { refused: bare(answer), reply: [0; 3], items: vec![], buffer: vec![] };
         let read = |call: Read, side, name: &Name| {
             let mut buffer = vec![0xA5; 2048];
             let reply = call(Context::NO_LIMIT.by(side), &self.session, &self.image, name.key(), &mut buffer);
-            Told { refused: bare(reply.answer), reply: [reply.size, reply.attributes, reply.needed], buffer }
+            Told { refused: bare(reply.answer), reply: [reply.size, reply.attributes, reply.needed], items: vec![], buffer }
+        };
+        let several = |side, names: &[Name]| {
+            let (mut buffer, keys) = (vec![0xA5; 1000], names.iter().map(Name::key).collect::<Vec<_>>());
+            let replies = (self.calls.get_many)(Context::NO_LIMIT.by(side), &self.session, &self.image, &keys, &mut buffer);
+            Told { refused: bare(replies.answer), reply: [0; 3], items: replies.items, buffer }
         };
         match act {
             Act::Set(asked) => plain((self.calls.set)(Context::NO_LIMIT.by(asked.side), &self.session, &mut self.image, &asked.request())),
             Act::Get(side, name) => read(self.calls.get, *side, name),
+            Act::Many(side, names) => several(*side, names),
             Act::Next(side, name) => read(self.calls.next_name, *side, name),
             Act::Lock(side, name) => {
                 let listed = (self.calls.lock)(self.session, *side, name.key());
@@ -694,7 +703,8 @@ fn some_act(r: &mut Random, setup: &Setup, values: &[Value], locks: usize) -> Ac
     let side = generate::side(r, setup, name.key());
     match r.below(16) {
         _ if r.once_in(locks) => Act::Lock(side, name),
-        0..=1 => Act::Get(side, name),
+        0 => Act::Get(side, name),
+        1 => Act::Many(side, (0..r.below(12)).map(|_| some_name(r, values)).collect()),
         2..=4 => Act::Next(side, name),
         5 if r.once_in(4) => Act::Phase(r.pick(&[AFTER_END_OF_DXE, RUNTIME])),
         _ => {

@@ -7,6 +7,7 @@
 //!     set, startup and format also dead (02 (h): addresses joined by `,`, which may be more than 16; `-` none) and w (02 (i))
 //!     session and startup also hw (02 (a): H) and rules (02 (e): joined by `;`, which may be more than 32; `-` none)
 //!     session and startup also share, modem, share1 and reserve1 (02 (f): our share, the modem's GUID, share and reserve); set, get, next and lock also side
+//!     many names buflen fill n, and side (02 (g): names as name/guid joined by `;`, which may be more than 64; `-` none)
 //!     move src to (02 (d): from the image in slot src into the current one; to is `new` or `plain`)
 //!
 //! A session or startup without shares is that of a station without a modem: our share is what 28 and H leave of L, the rest 0.
@@ -14,6 +15,8 @@
 //! A line that a request of document 02 has changed says `why`: the sentence, with `_` for a space; also where only the image is another than it was.
 //!
 //! One rule is name/guid/smallest/largest/readonly/offset/width/field, its field `between:LOW:HIGH`, or `list` and `:number` for each, which may be more than eight.
+//!
+//! `many` expects `items`: for each name `done/SIZE/ATTRS` or `refused/RULE`, joined by `;`, and `-` where there are none.
 //!
 //! `rle` is tokens joined by `,`, hexadecimal bytes or `hh*count`; `-` is the empty string. `varlist`'s text has `_` for a space and `|` for a line end.
 
@@ -39,9 +42,9 @@ struct Line<'a> {
 
 /// What a line may give; every field that is not an argument is checked.
 const ARGUMENTS: &str =
-    "why op len rle off slot phase custom reserve count sizes locks name guid attrs data presence verdict dead w hw rules modem share share1 reserve1 side n buflen fill to src";
+    "why op len rle off slot phase custom reserve count sizes locks name guid attrs data presence verdict dead w hw rules modem share share1 reserve1 side n buflen fill to src names";
 const EXPECTED: &str =
-    "answer rule stores list deciding made size attrs_out buf_sha256 text sha256 crc32 s_phase s_custom s_reserve s_hw s_count s_sizes s_locks s_modem s_share s_share1 s_reserve1";
+    "answer rule stores list deciding made size attrs_out buf_sha256 items text sha256 crc32 s_phase s_custom s_reserve s_hw s_count s_sizes s_locks s_modem s_share s_share1 s_reserve1";
 
 impl<'a> Line<'a> {
     fn new(place: String, text: &'a str) -> Line<'a> {
@@ -75,6 +78,19 @@ impl<'a> Line<'a> {
         let text = self.fields.get("rules").filter(|&&text| text != "-");
         let rule = |text| rule(text).unwrap_or_else(|| panic!("{}: no rule: {text}", self.place));
         text.map_or(vec![], |text| text.split(';').map(rule).collect())
+    }
+
+    /// The names that a call asks for at once.
+    fn names(&self) -> Vec<Name> {
+        let name = |text: &str| {
+            let (name, vendor) = text.split_once('/')?;
+            Some(Name { name: unpacked(name)?, vendor: unpacked(vendor)?.try_into().ok()? })
+        };
+        let named = |text| name(text).unwrap_or_else(|| panic!("{}: no name: {text}", self.place));
+        match self.text("names") {
+            "-" => vec![],
+            text => text.split(';').map(named).collect(),
+        }
     }
 
     fn guid(&self, key: &str) -> Guid {
@@ -176,6 +192,7 @@ impl Player {
             "set" => self.set(line),
             "get" => self.read(line, self.calls.get),
             "next" => self.read(line, self.calls.next_name),
+            "many" => self.many(line),
             "startup" => self.start_up(line),
             "format" => self.store(line, &Call::Format),
             "lock" => self.lock(line),
@@ -234,6 +251,16 @@ impl Player {
         expect_answer(line, reply.answer);
         line.expect("size", &reply.size.to_string());
         line.expect("attrs_out", &reply.attributes.to_string());
+        line.expect("buf_sha256", &sha256(&buffer));
+    }
+
+    fn many(&mut self, line: &Line) {
+        let names = line.names();
+        let keys: Vec<Key> = names.iter().map(Name::key).collect();
+        let mut buffer = vec![line.number("fill") as u8; line.number("buflen") as usize];
+        let replies = (self.calls.get_many)(line.context(), &self.session, &self.image, &keys, &mut buffer);
+        expect_answer(line, replies.answer);
+        line.expect("items", &items(&replies.items));
         line.expect("buf_sha256", &sha256(&buffer));
     }
 
@@ -307,6 +334,17 @@ fn expect_answer(line: &Line, answer: Answer) {
     line.expect("answer", kind);
     line.expect("rule", &rule.to_string());
     line.expect("stores", &stores.to_string());
+}
+
+fn items(replies: &[Reply]) -> String {
+    let item = |reply: &Reply| match reply.answer {
+        Answer::Refused(rule) => format!("refused/{}", rule.number()),
+        _ => format!("done/{}/{}", reply.size, reply.attributes),
+    };
+    match replies {
+        [] => "-".into(),
+        _ => replies.iter().map(item).collect::<Vec<_>>().join(";"),
+    }
 }
 
 /// A list's length, the index of its deciding store, and what has come of it.
@@ -404,6 +442,12 @@ fn settings_that_must_make_sense() {
 #[test]
 fn a_second_tenant() {
     run_file("f.txt", 481, 0);
+}
+
+/// 02 (g): up to 64 names in one call.
+#[test]
+fn sixty_four_settings_in_one_call() {
+    run_file("g.txt", 269, 0);
 }
 
 #[test]

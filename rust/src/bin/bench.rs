@@ -1,5 +1,6 @@
 //! Benchmarks of the engine against the paper's implementation, the same work on both sides: every call with its own check of the image, on an image
-//! copied back and a buffer cleared before each turn, which is not measured.
+//! copied back and a buffer cleared before each turn, which is not measured. For 02 (g)'s call the other side is not the paper's but the program of `once`, which checks
+//! once and walks for every name: the keys are laid in their places beforehand, on both sides.
 //!
 //!     bench                              wall time, the best of many alternating turns
 //!     bench names                        each case, its number of turns, and whether it is one of a growing row, for tools/bench
@@ -11,7 +12,9 @@ use std::hint::black_box;
 use std::time::{Duration, Instant};
 
 use varstore::calls::{lent, Calls, ENGINE, LENT, PAPER};
-use varstore::interface::{Answer, Context, Guid, Key, Request, Rule, Session, Setup, Tenant, MODEM, OURS};
+use varstore::engine::{self, Item, Told};
+use varstore::interface::{Answer, Context, Guid, Key, Request, Rule, Session, Setup, Tenant, MODEM, NAMES, OURS};
+use varstore::once;
 use varstore::paper::entry::{self, Contents, GONE, STATE};
 use varstore::paper::layout::Authenticated;
 use varstore::paper::region;
@@ -23,17 +26,23 @@ const NONE: Variable = (Vec::new(), VENDOR);
 /// How many values a region of seven blocks has in the rows that grow.
 const COUNTS: [usize; 4] = [25, 50, 100, 200];
 const BEGIN: Key = Key { name: &[0, 0], vendor: &VENDOR };
+/// The buffer of a turn: what 64 values of 50 bytes take, and more.
+const BUFFER: usize = 4096;
+const UNTOLD: Item = Item { rule: 0, size: 0, attributes: 0, needed: 0 };
 
 /// A name with its GUID.
 type Variable = (Vec<u8>, Guid);
 
-/// What a turn works on: the variable is the one that it gets or sets.
+/// What a turn works on: the variable is the one that it gets or sets; the keys are those of a call for 64 names, in their places.
 struct Desk {
     context: Context,
     session: Session,
     variable: Variable,
+    keys: Vec<u8>,
+    sizes: Vec<u32>,
     image: Vec<u8>,
-    buffer: [u8; 2048],
+    told: Told,
+    buffer: [u8; BUFFER],
 }
 
 struct Case {
@@ -53,22 +62,27 @@ struct Case {
 
 impl Case {
     fn desk(&self) -> Desk {
+        let (keys, sizes) = sixty_four();
         Desk {
             context: Context::NO_LIMIT.paged(self.width).by(self.side),
             session: (PAPER.session_new)(&self.setup),
             variable: self.variable.clone(),
+            keys,
+            sizes,
             image: self.image.clone(),
-            buffer: [0; 2048],
+            told: [UNTOLD; NAMES],
+            buffer: [0; BUFFER],
         }
     }
 
     fn prepare(&self, desk: &mut Desk) {
         desk.image.copy_from_slice(&self.image);
+        desk.told.fill(UNTOLD);
         desk.buffer.fill(0);
         black_box(desk);
     }
 
-    /// All sides give the expected answer, and leave the same image and buffer.
+    /// All sides give the expected answer, and leave the same image and buffer, and the same items.
     fn check(&self) {
         let [engine, lending, paper] = [ENGINE, LENT, PAPER].map(|calls| {
             let mut desk = self.desk();
@@ -77,7 +91,7 @@ impl Case {
             desk
         });
         for desk in [engine, lending] {
-            assert!(desk.image == paper.image && desk.buffer == paper.buffer, "{} differs", self.name);
+            assert!(desk.image == paper.image && desk.buffer == paper.buffer && desk.told == paper.told, "{} differs", self.name);
         }
     }
 
@@ -111,6 +125,12 @@ fn name(text: &str) -> Vec<u8> {
 /// Names of one front that differ late, as the settings of a device do.
 fn numbered(index: usize) -> Variable {
     (name(&format!("SET{index:04}")), VENDOR)
+}
+
+/// Of two hundred numbered names 64, from the first on at equal distances, in the places of one call.
+fn sixty_four() -> (Vec<u8>, Vec<u32>) {
+    let variables: Vec<Variable> = (0..NAMES).map(|index| numbered(index * 200 / NAMES)).collect();
+    engine::placed(&variables.iter().map(|(name, vendor)| Key { name, vendor }).collect::<Vec<_>>())
 }
 
 /// The same, every second one the modem's.
@@ -192,6 +212,32 @@ fn crowded(count: usize) -> Vec<u8> {
 fn get(calls: &Calls, desk: &mut Desk) -> Answer {
     let key = Key { name: &desk.variable.0, vendor: &desk.variable.1 };
     (calls.get)(desk.context, &desk.session, &desk.image, key, &mut desk.buffer).answer
+}
+
+/// A call for 64 names, by value or lent; the program that walks for every name has its session lent always.
+fn many(calls: &Calls, desk: &mut Desk) -> Answer {
+    let call = if calls.who == ENGINE.who { engine::get_placed } else { once::get_placed };
+    call(desk.context, &desk.session, &desk.image, &desk.keys, &desk.sizes, &mut desk.told, &mut desk.buffer)
+}
+
+fn many_lent(calls: &Calls, desk: &mut Desk) -> Answer {
+    let call = if calls.who == ENGINE.who { engine::lent::get_placed } else { once::get_placed };
+    call(desk.context, &desk.session, &desk.image, &desk.keys, &desk.sizes, &mut desk.told, &mut desk.buffer)
+}
+
+/// The same names, each by a get of its own.
+fn one_by_one(calls: &Calls, desk: &mut Desk) -> Answer {
+    let Desk { context, session, image, keys, sizes, buffer, .. } = desk;
+    let mut used = 0;
+    for (place, size) in keys.chunks_exact(engine::KEY).zip(sizes) {
+        let (vendor, name) = place[..*size as usize].split_first_chunk().expect("a GUID");
+        used += (calls.get)(*context, session, image, Key { name, vendor }, &mut buffer[used..]).size as usize;
+    }
+    if used == NAMES * 50 {
+        Answer::Done(0)
+    } else {
+        Answer::Stopped
+    }
 }
 
 fn check(calls: &Calls, desk: &mut Desk) -> Answer {
@@ -286,6 +332,9 @@ fn cases() -> Vec<Case> {
     let mut cases = vec![
         case("get the last of 200 values", numbered(199), region_of(7, 200), 7, 20, get, done(0)),
         case("get the last of 421 smallest", last, smallest.clone(), 7, 5, get, done(0)),
+        case("64 names in one call, 200", NONE, region_of(7, 200), 7, 20, many, done(0)),
+        case("64 names in one lent call, 200", NONE, region_of(7, 200), 7, 20, many_lent, done(0)),
+        case("64 gets one by one, 200", NONE, region_of(7, 200), 7, 1, one_by_one, done(0)),
         case("next-name over 200, 201 calls", NONE, region_of(7, 200), 7, 2, names, end),
         case("set in the tail, 200 values", numbered(0), region_of(7, 200), 7, 20, replace, done(129)),
         case("compact seven blocks, 204", numbered(0), crowded(204), 7, 5, replace, done(57361)),

@@ -10,7 +10,7 @@ use super::session::{is_runtime, session_new};
 use super::stores::{clearing, compaction, deletion, formatting, in_tail, resumption, Stores, Wanting};
 use super::tenants::{exceeded, Side};
 use super::work;
-use crate::interface::{Answer, Checked, Context, Key, Reply, Request, Rule, Session, Setup, Started, DEAD};
+use crate::interface::{Answer, Checked, Context, Key, Replies, Reply, Request, Rule, Session, Setup, Started, DEAD, NAMES};
 
 /// Whether a call may use the image: rules 1 and 2.
 pub fn check(image: &[u8]) -> Checked {
@@ -27,10 +27,34 @@ fn is_seen(session: &Session, value: &Entry) -> bool {
 
 /// The value's data into the front of the buffer. Rules 1, 2, 3, 22, 11 and 14. It makes no stores, so no n stops it and none fails.
 pub fn get(context: Context, session: &Session, image: &[u8], key: Key, buffer: &mut [u8]) -> Reply {
+    match ready::<Authenticated>(image) {
+        Ok(ready) => got(context, session, ready.parts.region, key, buffer),
+        Err(rule) => refusal(rule, 0),
+    }
+}
+
+/// 02 (g): "one call for up to 64 names that checks once and gives for each what a get would, the data one after another in one buffer". Rules 1, 2 and 3: "More than 64
+/// are refused 3, after 2"; of each name 3, 22, 11 and 14. "Each get has what the ones before it left of the buffer; a refused one takes none".
+pub fn get_many(context: Context, session: &Session, image: &[u8], keys: &[Key], buffer: &mut [u8]) -> Replies {
+    let checked = ready::<Authenticated>(image).and_then(|ready| broken(Rule::Name, keys.len() > NAMES).map(|()| ready));
+    let region = match checked {
+        Ok(ready) => ready.parts.region,
+        Err(rule) => return Replies { answer: Answer::Refused(rule), items: vec![] },
+    };
+    let mut used = 0;
+    let item = |key: &Key| {
+        let reply = got(context, session, region, *key, &mut buffer[used..]);
+        used += reply.size as usize;
+        reply
+    };
+    Replies { answer: Answer::Done(0), items: keys.iter().map(item).collect() }
+}
+
+/// A get on the region of an image that was checked.
+fn got(context: Context, session: &Session, region: &[u8], key: Key, buffer: &mut [u8]) -> Reply {
     let found = || {
-        let ready = ready::<Authenticated>(image)?;
         of_the_name(&session.setup, Side::of(context.side), key)?;
-        find(ready.parts.region, key).value().filter(|value| is_seen(session, value)).ok_or(Rule::Absent)
+        find(region, key).value().filter(|value| is_seen(session, value)).ok_or(Rule::Absent)
     };
     match found() {
         Ok(value) => reply(buffer, [value.data(), &[]], value.attributes()),

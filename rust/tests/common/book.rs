@@ -3,7 +3,7 @@
 use super::generate::Name;
 use super::tenants::is_modems;
 use varstore::calls::Calls;
-use varstore::interface::{Answer, Context, Key, Request, Session, Setup, MODEM, RUNTIME};
+use varstore::interface::{Answer, Context, Key, Request, Session, Setup, MODEM, NAMES, RUNTIME};
 use varstore::paper::image::Parts;
 use varstore::paper::layout::{Authenticated, Layout};
 use varstore::paper::region;
@@ -99,7 +99,7 @@ impl Book {
         seen.next().map(|value| &value.name)
     }
 
-    /// Panics unless an implementation's next-name and get list these values, in this order and no others.
+    /// Panics unless an implementation's next-name and get list these values, in this order and no others, and calls for up to 64 names give the same data.
     pub fn check_listed(&self, calls: &Calls, image: &[u8]) {
         let session = (calls.session_new)(&Setup::PLAIN);
         let mut last = Name { name: vec![0, 0], vendor: [0; 16] };
@@ -118,7 +118,19 @@ impl Book {
         }
         let reply = (calls.next_name)(Context::NO_LIMIT, &session, image, last.key(), &mut [0; 144]);
         assert_eq!(reply.answer, Answer::Refused(varstore::interface::Rule::Absent), "next-name after the book's last, {last:X?}");
+        self.values.chunks(NAMES).for_each(|values| check_got(values, calls, &session, image));
     }
+}
+
+/// Panics unless one call gives all of these values.
+fn check_got(values: &[Value], calls: &Calls, session: &Session, image: &[u8]) {
+    let data: Vec<u8> = values.iter().flat_map(|value| &value.data).copied().collect();
+    let keys: Vec<Key> = values.iter().map(|value| value.name.key()).collect();
+    let mut buffer = vec![0x5A; data.len()];
+    let replies = (calls.get_many)(Context::NO_LIMIT, session, image, &keys, &mut buffer);
+    let told: Vec<_> = replies.items.iter().map(|item| (item.answer, item.size as usize, item.attributes)).collect();
+    let wanted: Vec<_> = values.iter().map(|value| (Answer::Done(0), value.data.len(), value.attributes)).collect();
+    assert!(replies.answer == Answer::Done(0) && told == wanted && buffer == data, "several names at once: {told:?}");
 }
 
 /// What is compared of a stamp: year down to second.
