@@ -3,17 +3,17 @@
 use Prim.Native.Nat.{ℕ, _+_, _≤_}
 use native.Mathlib.Omega.{arith}
 use mathlib.Core.Path.{_≡_, refl}
-use mathlib.Core.Bool.{Bool, true, false, not, cond, _&&_, true≢false}
+use mathlib.Core.Bool.{Bool, true, false, not, cond, _&&_, true≢false, false≢true}
 use mathlib.Core.List.{List, [], _∷_}
 use lib.Dec.{ltb}
 use borrow.Author.Tests.{ltb-false}
 use Rattle.model.specs.declared.Terms.{Terms}
 use Rattle.model.specs.Layout.{authenticated}
-use Rattle.model.specs.Lists.{any, keep, isSome}
+use Rattle.model.specs.Lists.{all, any, keep, isSome}
 use Rattle.model.specs.Name.{Key, sameKey}
 use Rattle.model.specs.Entry.{Value, keyOf, entrySize}
 use Rattle.model.specs.Region.{find}
-use Rattle.model.specs.Change.{Change, nothing, remove, put, step, steps, without, entrySizes, entrySizesIn, spaceOf, spaceIn, isErrorRecord}
+use Rattle.model.specs.Change.{Change, nothing, remove, put, isNothing, step, steps, without, entrySizes, entrySizesIn, spaceOf, spaceIn, isErrorRecord}
 use Rattle.model.specs.Sides.{sideSizes}
 use Rattle.model.specs.Rules.{puts, rule13}
 use Rattle.model.specs.Beside.{Valid}
@@ -33,7 +33,7 @@ pub record Fitting (cs : List Change) (vs : List Value) (size : ℕ) : Type 0 wh
 
 -- ---- one change
 
-step-valid : (c : Change) (vs : List Value) → ((v : Value) → c ≡ put v → Valid v) → AllValid authenticated vs → AllValid authenticated (step c vs)
+pub step-valid : (c : Change) (vs : List Value) → ((v : Value) → c ≡ put v → Valid v) → AllValid authenticated vs → AllValid authenticated (step c vs)
 unfolding step without
 step-valid nothing vs f h = h
 step-valid (remove k) vs f h = keep-valid authenticated (λ v. not (sameKey (keyOf v) k)) vs h
@@ -81,6 +81,14 @@ steps-less (c ∷ cs) vs h =
     let l = steps-less cs (step c vs) (p .1) in
     let m = step-less c vs (p .0) in
     omega arith
+
+-- changes of which none changes anything
+pub steps-nothing : (cs : List Change) (vs : List Value) → all isNothing cs ≡ true → steps cs vs ≡ vs
+unfolding steps step
+steps-nothing [] vs h = refl
+steps-nothing (nothing ∷ cs) vs h = steps-nothing cs vs h
+steps-nothing (remove k ∷ cs) vs h = absurd (false≢true h)
+steps-nothing (put v ∷ cs) vs h = absurd (false≢true h)
 
 -- where there is room for changes, all values fit after them: "a delete, or a set that stores nothing" takes no more
 pub room-after : (t : Terms) (size : ℕ) (cs : List Change) (vs : List Value) → rule13 t size cs vs ≡ false → spaceOf vs ≤ size → spaceOf (steps cs vs) ≤ size

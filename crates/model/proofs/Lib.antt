@@ -37,3 +37,11 @@ pub mod Moving
 pub mod Looking
 -- The space of the values of a class after a change
 pub mod Space
+-- Items of a profile over the values as a call finds them
+pub mod Alone
+-- What changes of different names leave, as a compaction writes it
+pub mod Folding
+-- The items that a profile's file asks for
+pub mod Files
+-- A profile that breaks no rule
+pub mod Profiles

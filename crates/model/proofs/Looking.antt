@@ -109,6 +109,16 @@ change-own : (r : Request) (old : Option Value) → Own (requestKey r) (changeOf
 unfolding newValue
 change-own r old = change-cases (Own (requestKey r)) r old refl tt refl
 
+-- so it is about no other
+own-other : (j k : Key) (c : Change) → Own j c → sameKey j k ≡ false → Other k c
+own-other j k nothing o h = tt
+own-other j k (remove i) o h = rw o h
+own-other j k (put v) o h = rw o h
+
+pub other-change : (k : Key) (r : Request) (vs : List Value) → sameKey (requestKey r) k ≡ false → Other k (changeIn r vs)
+unfolding changeIn
+other-change k r vs h = own-other (requestKey r) k (changeOf r (find (requestKey r) vs)) (change-own r (find (requestKey r) vs)) h
+
 -- a name that was taken out is not there, and one that comes last is
 find-out : (k : Key) (vs : List Value) → find k (without k vs) ≡ none
 unfolding find without

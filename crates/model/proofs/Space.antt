@@ -65,7 +65,7 @@ module _ (p : Value → Bool) where
       let o = or-split (f v) (any f vs) h in
       rw (o .0) (ap (λ (l : List Value). v ∷ l) (keep-whole f vs (o .1)))
 
-  without-sizes : (k : Key) (vs : List Value) → Distinct vs → sizes p (without k vs) + sizeOf p (find k vs) ≡ sizes p vs
+  pub without-sizes : (k : Key) (vs : List Value) → Distinct vs → sizes p (without k vs) + sizeOf p (find k vs) ≡ sizes p vs
   unfolding without find entrySizesIn
   without-sizes k [] d = refl
   without-sizes k (v ∷ vs) d = go (sameKey (keyOf v) k) refl (without-sizes k vs (d .1))

@@ -2,20 +2,24 @@
 use Prim.Native.Nat.{ℕ, _+_, _*_, _≤_}
 use mathlib.Core.Path.{_≡_}
 use mathlib.Core.Bool.{Bool, true, false, not, cond, _&&_, _||_}
-use mathlib.Core.List.{List, [], _∷_}
+use mathlib.Core.List.{List, [], _∷_, _++_}
 use lib.ListN.{length, drop}
 use lib.Dec.{eqb, leb, ltb}
 use Rattle.model.specs.declared.Layout.{Layout}
 use Rattle.model.specs.declared.Session.{Session}
 use Rattle.model.specs.declared.Terms.{Terms}
+use Rattle.model.specs.declared.Rule.{Rule}
 use Rattle.model.specs.Layout.{authenticated, headerLength, isStamped}
-use Rattle.model.specs.Lists.{among, part, overlay}
-use Rattle.model.specs.Name.{Key, keyed, wellNamed, recordName}
+use Rattle.model.specs.Lists.{any, keep, among, part, overlay}
+use Rattle.model.specs.Name.{Key, sameKey, keyed, wellNamed, recordName}
 use Rattle.model.specs.Entry.{Value, keyOf, noStamp, readHeaderIn}
 use Rattle.model.specs.Walk.{Entry, walk}
-use Rattle.model.specs.Region.{storedAttributes, recordBit, maxData}
+use Rattle.model.specs.Region.{storedAttributes, recordBit, maxData, find}
 use Rattle.model.specs.Session.{lockSpace, nameSpace, placeSize, withLock}
-use Rattle.model.specs.Rules.{termsOf}
+use Rattle.model.specs.Request.{Request, requestKey}
+use Rattle.model.specs.Limits.{Limit}
+use Rattle.model.specs.Change.{Change, nothing, remove, put, changeIn}
+use Rattle.model.specs.Rules.{termsOf, itemRules, settingRules}
 use Rattle.model.specs.Answers.{Outcome, done, stopped, refused, Reply, Given, Gots}
 
 -- the entries of a region from an offset on, as a loop over them meets them
@@ -32,6 +36,39 @@ oneMoreLock s k = cond (ltb (s .count) lockSpace && leb (length (k .name)) nameS
 -- what a session says to a side's set of a name: these terms, and this table of rules for settings
 abbrev pub Says : Bool → Session → Key → Terms → List ℕ → Type 0
 Says modem s k t table = (termsOf modem s k ≡ t) × (s .setup .limits ≡ table)
+
+-- 02 (l), for the code: every item judged over the values as the call finds them, by what is said of its name and the rules for it; and its change over these
+unfoldable pub itemsAlone : (Key → Terms) → (Key → List Limit) → List Request → List Value → List (Rule × Bool)
+itemsAlone told limits [] vs = []
+itemsAlone told limits (r ∷ rs) vs =
+    itemRules (told (requestKey r)) r vs
+    ++ settingRules (limits (requestKey r)) r (find (requestKey r) vs)
+    ++ itemsAlone told limits rs vs
+
+unfoldable pub changesAlone : List Request → List Value → List Change
+changesAlone [] vs = []
+changesAlone (r ∷ rs) vs = changeIn r vs ∷ changesAlone rs vs
+
+-- what holds of every item
+abbrev pub EachItem : (Request → Type 0) → List Request → Type 0
+EachItem P [] = Unit {0}
+EachItem P (r ∷ rs) = P r × EachItem P rs
+
+-- of changes, the names that they change and the values that they put; and the values of no such name, in their order
+abbrev pub changedKeys : List Change → List Key
+changedKeys [] = []
+changedKeys (nothing ∷ cs) = changedKeys cs
+changedKeys (remove k ∷ cs) = k ∷ changedKeys cs
+changedKeys (put v ∷ cs) = keyOf v ∷ changedKeys cs
+
+abbrev pub putValues : List Change → List Value
+putValues [] = []
+putValues (nothing ∷ cs) = putValues cs
+putValues (remove k ∷ cs) = putValues cs
+putValues (put v ∷ cs) = v ∷ putValues cs
+
+unfoldable pub withoutAll : List Key → List Value → List Value
+withoutAll ks vs = keep (λ v. not (any (sameKey (keyOf v)) ks)) vs
 
 -- what a value must be for its entry to be sound, and to be read back, in a form
 pub record ValidIn (y : Layout) (v : Value) : Type 0 where

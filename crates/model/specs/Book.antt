@@ -21,8 +21,9 @@ use Rattle.model.specs.Entry.{Value}
 use Rattle.model.specs.Region.{entries, tailAt, valuesOf}
 use Rattle.model.specs.Work.{recordSpace}
 use Rattle.model.specs.Request.{Request}
-use Rattle.model.specs.Change.{Change, nothing, remove, put, steps, changeIn}
-use Rattle.model.specs.Rules.{setBroken, getBroken, nextBroken, startUpBroken, getsBroken}
+use Rattle.model.specs.Profile.{itemsIn}
+use Rattle.model.specs.Change.{Change, nothing, remove, put, steps, changeIn, changesIn}
+use Rattle.model.specs.Rules.{setBroken, getBroken, nextBroken, startUpBroken, getsBroken, profileBroken}
 use Rattle.model.specs.Stores.{Store, page, erase, apply, Bytes, Uncleared, Cut, Clears, difference}
 use Rattle.model.specs.Set.{Plan, refuse, make, fitsTail, changesPlan}
 use Rattle.model.specs.StartUp.{startUpStores, startUpPlan, formatPlan}
@@ -30,13 +31,14 @@ use Rattle.model.specs.Answers.{Outcome, done, stopped, refused, outcome
 use Rattle.model.specs.Move.{moveBroken, imageMoved}
 
 -- "sets (deletes among them), gets, next-names and start-ups": each with its side, its session and arguments, a start-up with what it is given; 02 (g), "Demand 3's
--- list takes this call in": several names at once, and the buffer
+-- list takes this call in": several names at once, and the buffer; 02 (l), "Demand 3's list takes profiles in": the file
 pub data Call : Type 0 where
   set : Bool → Session → Request → Call
   get : Bool → Session → Key → List ℕ → Call
   next : Bool → Session → Key → List ℕ → Call
   startUp : Setup → Call
   several : Bool → Session → List Key → List ℕ → Call
+  profile : Bool → Session → List ℕ → Call
 
 -- "The first broken is the answer": the rule that each breaks first
 abbrev pub callBroken : Call → List ℕ → Option Rule
@@ -45,32 +47,34 @@ callBroken (get m s k buffer) img = getBroken m s k buffer img
 callBroken (next m s k buffer) img = nextBroken m s k buffer img
 callBroken (startUp setup) img = startUpBroken setup img
 callBroken (several m s ks buffer) img = getsBroken ks img
+callBroken (profile m s file) img = profileBroken m s file img
 
--- a call that breaks none reads, writes changes that follow from the values, or starts up with what it is given
+-- a call that breaks none reads; writes changes that follow from the values, a single one of them folded in too or not; or starts up with what it is given
 pub data Kind : Type 0 where
   reads : Kind
-  writes : (List Value → List Change) → Kind
+  writes : Bool → (List Value → List Change) → Kind
   startsUp : Setup → Kind
 
--- "Of these calls only a set" changes the values: it writes one change
+-- "Of these calls only a set" changes the values: it writes one change; 02 (l): "the book in 01 takes their items as sets, in file order"
 abbrev pub kindOf : Call → Kind
-kindOf (set m s r) = writes (λ vs. changeIn r vs ∷ [])
+kindOf (set m s r) = writes false (λ vs. changeIn r vs ∷ [])
 kindOf (get m s k buffer) = reads
 kindOf (next m s k buffer) = reads
 kindOf (startUp setup) = startsUp setup
 kindOf (several m s ks buffer) = reads
+kindOf (profile m s file) = writes true (changesIn (itemsIn file))
 
 -- the stores of each kind: get, next-name and many-get make none; a start-up decides nothing
 abbrev pub doing : Kind → List ℕ → Plan
 doing reads img = make [] []
-doing (writes changes) img = changesPlan img (changes (valuesOf img))
+doing (writes fold changes) img = changesPlan fold img (changes (valuesOf img))
 doing (startsUp setup) img = make [] (startUpStores img)
 
 -- what each call is to do to an image
 unfoldable pub planOf : Call → List ℕ → Plan
 planOf c img = onSome (callBroken c img) refuse (doing (kindOf c) img)
 
--- by a side, a set, a delete or an append, whole; a get; a next-name; a many-get
+-- by a side, a set, a delete or an append, whole; a get; a next-name; a many-get; a profile
 abbrev pub setPlan : Bool → Session → Request → List ℕ → Plan
 setPlan modem s r img = planOf (set modem s r) img
 
@@ -83,6 +87,9 @@ nextPlan modem s k buffer img = planOf (next modem s k buffer) img
 abbrev pub getsPlan : Bool → Session → List Key → List ℕ → List ℕ → Plan
 getsPlan modem s ks buffer img = planOf (several modem s ks buffer) img
 
+abbrev pub profilePlan : Bool → Session → List ℕ → List ℕ → Plan
+profilePlan modem s file img = planOf (profile modem s file) img
+
 -- arguments are bytes, a GUID is 16 of them
 abbrev pub Sized : Call → Type 0
 Sized (set m s r) = Bytes (r .name) × Bytes (r .vendor) × (length (r .vendor) ≡ 16) × Bytes (r .bytes)
@@ -90,11 +97,12 @@ Sized (get m s k buffer) = Unit {0}
 Sized (next m s k buffer) = Unit {0}
 Sized (startUp setup) = Unit {0}
 Sized (several m s ks buffer) = Unit {0}
+Sized (profile m s file) = Bytes file
 
 -- the changes of each kind
 abbrev pub changesBy : Kind → List Value → List Change
 changesBy reads vs = []
-changesBy (writes changes) vs = changes vs
+changesBy (writes fold changes) vs = changes vs
 changesBy (startsUp setup) vs = []
 
 -- the book: "only a set that is done, or had that store complete, changes it"
@@ -160,7 +168,7 @@ pub data Begins (img : List ℕ) : Type 0 where
 -- the claim about one call of a run: a start-up that is done leaves the values of the book
 abbrev pub Agrees : Kind → Context → List ℕ → List Value → Type 0
 Agrees reads x img book = Unit {0}
-Agrees (writes changes) x img book = Unit {0}
+Agrees (writes fold changes) x img book = Unit {0}
 Agrees (startsUp setup) x img book =
     (stores : ℕ) → outcome x (startUpPlan setup img) img ≡ done stores → valuesOf (imageAfter x (startUpPlan setup img) img) ≡ book
 
@@ -213,10 +221,17 @@ inPlace img nothing = true
 inPlace img (remove k) = true
 inPlace img (put v) = fitsTail (region img) v
 
+-- a call that folds in what it changes, however little
+abbrev pub folds : Kind → Bool
+folds reads = false
+folds (writes fold changes) = fold
+folds (startsUp setup) = false
+
 -- of a call that makes one change, in place
 abbrev pub StatesClearOneBit : ℕ → Call → List ℕ → Type 0
 StatesClearOneBit w c img =
     (change : Change)
+    → folds (kindOf c) ≡ false
     → changesBy (kindOf c) (valuesOf img) ≡ change ∷ []
     → inPlace img change ≡ true
     → ClearsOne (isState img) (storesOf w (planOf c img)) img

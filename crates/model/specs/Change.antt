@@ -1,6 +1,6 @@
 -- 01, "What a set does", and 02 (b): the change that a call makes of the list of values, for the book, for rules 13 and 18 and for a compaction alike.
 use Prim.Native.Nat.{ℕ, _+_}
-use mathlib.Core.Bool.{Bool, false, not, cond, _&&_, _||_}
+use mathlib.Core.Bool.{Bool, true, false, not, cond, _&&_, _||_}
 use mathlib.Core.List.{List, [], _∷_, _++_}
 use mathlib.Core.Option.{Option, none, some}
 use lib.ListN.{length}
@@ -18,6 +18,11 @@ pub data Change : Type 0 where
   nothing : Change
   remove : Key → Change
   put : Value → Change
+
+abbrev pub isNothing : Change → Bool
+isNothing nothing = true
+isNothing (remove k) = false
+isNothing (put v) = false
 
 -- "Attributes 0, or empty data proper without append, delete.": by attributes and the size of the data proper
 unfoldable pub deletes : ℕ → ℕ → Bool
@@ -92,6 +97,11 @@ steps (c ∷ cs) vs = steps cs (step c vs)
 -- the change of a set over a list of values
 unfoldable pub changeIn : Request → List Value → Change
 changeIn r vs = changeOf r (find (requestKey r) vs)
+
+-- 02 (l), items "as sets, in file order", each over the values as those before it leave them
+unfoldable pub changesIn : List Request → List Value → List Change
+changesIn [] vs = []
+changesIn (r ∷ rs) vs = changeIn r vs ∷ changesIn rs (step (changeIn r vs) vs)
 
 -- the space that values take: "28 plus the rounded entry sizes of all values"
 unfoldable pub entrySizesIn : Layout → List Value → ℕ

@@ -11,7 +11,7 @@ use Rattle.model.specs.declared.Session.{Session}
 use Rattle.model.specs.declared.Terms.{Terms}
 use Rattle.model.specs.declared.View.{View}
 use Rattle.model.specs.declared.Rule.{Rule}
-use Rattle.model.specs.declared.Rule.the-variants.{Length, Unready, Name, Attributes, KeyAttributes, Locked, Standing, Descriptor, Verdict, Stamp, Absent, DataSize, Room, Buffer, LockPhase, LockSpace, RecordName, RecordSpace, Setting, Side}
+use Rattle.model.specs.declared.Rule.the-variants.{Length, Unready, Name, Attributes, KeyAttributes, Locked, Standing, Descriptor, Verdict, Stamp, Absent, DataSize, Room, Buffer, LockPhase, LockSpace, RecordName, RecordSpace, Setting, Side, File, Twice}
 use Rattle.model.specs.Layout.{authenticated}
 use Rattle.model.specs.Lists.{same, keep, any, among, isEmpty, isSome, onSome, head}
 use Rattle.model.specs.Image.{rightLength, regionSize, spare}
@@ -21,8 +21,9 @@ use Rattle.model.specs.Region.{maxData, storedAttributes, recordBit, ent
 use Rattle.model.specs.Work.{readyIn, readyForStartUp, pending}
 use Rattle.model.specs.Session.{isYes, inBoot, atRuntime, customMode, shareOf, reserved, countedLocks, lockSpace, sideLocks, locked}
 use Rattle.model.specs.Request.{Request, requestKey, runtimeAccess, timeBased, appends, withoutAppend, isKeyName, userMode, wantedVerdicts, rightDescriptor, stampToStore, later}
+use Rattle.model.specs.Profile.{profileOf, itemsIn, sharesName}
 use Rattle.model.specs.Limits.{Limit, limitsFor, meets}
-use Rattle.model.specs.Change.{Change, nothing, remove, put, changeOf, changeIn, steps, leaves, spaceOf, isErrorRecord, recordSizes}
+use Rattle.model.specs.Change.{Change, nothing, remove, put, changeOf, changeIn, changesIn, step, steps, leaves, spaceOf, isErrorRecord, recordSizes}
 use Rattle.model.specs.Sides.{owns, view, sideSizes, allotted, locksOf}
 
 -- "The first broken is the answer": of rules in checking order, each with whether it is broken
@@ -152,6 +153,14 @@ rule15 s = not (inBoot s)
 unfoldable pub rule16 : Bool → Session → Key → Bool
 rule16 modem s k = (leb sideLocks (locksOf modem s) || leb lockSpace (countedLocks s)) && not (locked s k)
 
+-- 25. 02 (l): "when the file is not of this form or leaves bytes over, after 2"
+unfoldable pub rule25 : List ℕ → Bool
+rule25 file = not (isSome (profileOf file))
+
+-- 26. 02 (l): "when two items share name and GUID, after 25"
+unfoldable pub rule26 : List Request → Bool
+rule26 rs = sharesName rs
+
 -- what a session says to a side's set: whether the phase is runtime, whether the call names the other side's name (22), whether rule 6 bars it, custom mode, the side's
 -- bytes kept back and its share, H, and how many rules for settings are in use; which side it is, and the modem's GUID
 abbrev pub termsIf : Bool → Session → Bool → Bool → Terms
@@ -234,6 +243,31 @@ setBroken modem s r img =
     ++ itemRules (termsOf modem s (requestKey r)) r (valuesOf img)
     ++ settingRules (limitsFor (s .setup) (requestKey r)) r (find (requestKey r) (valuesOf img))
     ++ roomRules (termsOf modem s (requestKey r)) (regionSize img) (changeIn r (valuesOf img) ∷ []) (valuesOf img))
+
+-- 02 (l), "Each item is checked in turn as if those before it stood": by all rules of a set but room, those for its name among them, before the next item
+abbrev pub limitsOn : Session → Request → List Limit
+limitsOn s r = limitsFor (s .setup) (requestKey r)
+
+unfoldable pub itemsRules : Bool → Session → List Request → List Value → List (Rule × Bool)
+itemsRules modem s [] vs = []
+itemsRules modem s (r ∷ rs) vs =
+    itemRules (termsOf modem s (requestKey r)) r vs
+    ++ settingRules (limitsOn s r) r (find (requestKey r) vs)
+    ++ itemsRules modem s rs (step (changeIn r vs) vs)
+
+-- a profile of a side meets 1, 2, 25, 26 and its items' rules, 22 among them
+unfoldable pub profileRules : Bool → Session → List ℕ → List ℕ → List (Rule × Bool)
+profileRules modem s file img =
+    imageRules img
+    ++ ((File, rule25 file) ∷ (Twice, rule26 (itemsIn file)) ∷ [])
+    ++ itemsRules modem s (itemsIn file) (valuesOf img)
+
+-- and "room is judged after the last, if one stores a value": 13 over the values after all items. An item with 0x03 or 0x07 puts no error record, so none breaks 18
+unfoldable pub profileBroken : Bool → Session → List ℕ → List ℕ → Option Rule
+profileBroken modem s file img =
+    firstBroken
+    (profileRules modem s file img
+    ++ ((Room, rule13 (termsFor modem s) (regionSize img) (changesIn (itemsIn file) (valuesOf img)) (valuesOf img)) ∷ []))
 
 -- "at runtime, values without RT are absent to get and next-name"
 unfoldable pub seen : Bool → List Value → List Value

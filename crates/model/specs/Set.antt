@@ -5,14 +5,14 @@ use mathlib.Core.List.{List, [], _∷_, _++_}
 use lib.ListN.{length}
 use lib.Dec.{leb}
 use Rattle.model.specs.declared.Rule.{Rule}
-use Rattle.model.specs.Lists.{onSome}
+use Rattle.model.specs.Lists.{all, onSome}
 use Rattle.model.specs.Image.{region}
 use Rattle.model.specs.Name.{Key}
 use Rattle.model.specs.Layout.{stateAt}
 use Rattle.model.specs.Entry.{headerSize, Value, keyOf, entrySize, headerFront, headerRest}
 use Rattle.model.specs.Walk.{Entry, stateOf}
 use Rattle.model.specs.Region.{entries, tailAt, valuesOf, added, replacing, standing}
-use Rattle.model.specs.Change.{Change, nothing, remove, put, step, steps}
+use Rattle.model.specs.Change.{Change, nothing, remove, put, isNothing, step, steps}
 use Rattle.model.specs.Stores.{Write, header, run, mark}
 use Rattle.model.specs.Compact.{compactTo, compactOn}
 
@@ -74,8 +74,12 @@ changePlan img nothing = make [] []
 changePlan img (remove k) = make (deleteTo k (entries (region img))) []
 changePlan img (put v) = putPlan img v
 
--- of changes one after another: one is made so; of several the region is compacted with all of them folded in
-abbrev pub changesPlan : List ℕ → List Change → Plan
-changesPlan img [] = make [] []
-changesPlan img (c ∷ []) = changePlan img c
-changesPlan img (c ∷ d ∷ cs) = compactPlan img (steps (c ∷ d ∷ cs) (valuesOf img))
+-- 02 (l), "The whole profile is one compaction, or no stores if nothing differs": changes one after another, all of them folded in
+unfoldable pub foldedPlan : List ℕ → List Change → Plan
+foldedPlan img cs = cond (all isNothing cs) (make [] []) (compactPlan img (steps cs (valuesOf img)))
+
+-- of changes one after another: several are folded in so, and a single one where it must be; else it is made as above
+abbrev pub changesPlan : Bool → List ℕ → List Change → Plan
+changesPlan fold img [] = make [] []
+changesPlan fold img (c ∷ []) = cond fold (foldedPlan img (c ∷ [])) (changePlan img c)
+changesPlan fold img (c ∷ d ∷ cs) = foldedPlan img (c ∷ d ∷ cs)
