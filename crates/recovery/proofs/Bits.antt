@@ -24,7 +24,7 @@ use Rattle.model.specs.Stores.{stores, Bytes}
 use Rattle.model.specs.Set.{Plan, refuse, make, changesPlan}
 use Rattle.model.specs.StartUp.{startUpStores, formatStores, formatPlan}
 use Rattle.model.specs.Answers.{storesOf}
-use Rattle.model.specs.Book.{Call, callBroken, Kind, reads, writes, startsUp, kindOf, doing, planOf, Sized, changesBy, ClearsOne, isRecord, isState, inPlace, NoBitRises, MarksClearOneBit}
+use Rattle.model.specs.Book.{Call, callBroken, Kind, reads, writes, startsUp, kindOf, doing, planOf, Sized, changesBy, ClearsOne, isRecord, isState, inPlace, folds, NoBitRises, MarksClearOneBit}
 use Rattle.model.proofs.Parts.{parts-size, parts-region}
 use Rattle.model.proofs.Changes.{Fitting}
 use Rattle.recovery.proofs.EveryCall.{Lets, Accepted, accepted}
@@ -60,25 +60,25 @@ unless-refused marks w img (some rule) p h = tt
 -- ---- changes
 
 module _ (marks : ℕ → Bool) (w : ℕ) (img : List ℕ) (bytes : Bytes img) (tailed : Ready img → Tailed marks img) where
-  writes-along : (changes : List Value → List Change) → Lets changes img → (onlyInPlace img (changes (valuesOf img)) ≡ false → Bare marks (regionSize img))
-      → Along marks (storesOf w (changesPlan img (changes (valuesOf img)))) img
-  writes-along changes l bare =
+  writes-along : (fold : Bool) (changes : List Value → List Change) → Lets changes img → (onlyInPlace fold img (changes (valuesOf img)) ≡ false → Bare marks (regionSize img))
+      → Along marks (storesOf w (changesPlan fold img (changes (valuesOf img)))) img
+  writes-along fold changes l bare =
       let i = ready-of img (l .long) (l .ready) in
       let p = i .parts in
       let cs = changes (valuesOf img) in
-      let bared : onlyInPlace (i .r ++ (i .w ++ i .s)) cs ≡ false → Bare marks (block * i .b) = λ h.
-      subst (Bare marks) (ap regionSize (i .whole) ∙ parts-size p) (bare (ap (λ (x : List ℕ). onlyInPlace x cs) (i .whole) ∙ h)) in
-      subst (λ (x : List ℕ). Along marks (storesOf w (changesPlan x cs)) x) (sym (i .whole))
+      let bared : onlyInPlace fold (i .r ++ (i .w ++ i .s)) cs ≡ false → Bare marks (block * i .b) = λ h.
+      subst (Bare marks) (ap regionSize (i .whole) ∙ parts-size p) (bare (ap (λ (x : List ℕ). onlyInPlace fold x cs) (i .whole) ∙ h)) in
+      subst (λ (x : List ℕ). Along marks (storesOf w (changesPlan fold x cs)) x) (sym (i .whole))
       (changes-along marks w p (i .cleaned) (i .free) (i .rested) (bytes-left (i .r) (i .w ++ i .s) (subst Bytes (i .whole) bytes))
-      (subst (Tailed marks) (i .whole) (tailed i)) cs (subst (λ (x : List ℕ). Fitting cs (valuesOf x) (regionSize x)) (i .whole) (l .fitting)) (l .bytewise bytes) bared)
+      (subst (Tailed marks) (i .whole) (tailed i)) fold cs (subst (λ (x : List ℕ). Fitting cs (valuesOf x) (regionSize x)) (i .whole) (l .fitting)) (l .bytewise bytes) bared)
 
 -- ---- every call, with the marks of records
 
 kind-along : (w : ℕ) (img : List ℕ) → Bytes img → (k : Kind) → Accepted k img → Along (isRecord img) (storesOf w (doing k img)) img
 unfolding storesOf stores
 kind-along w img bytes reads a = tt
-kind-along w img bytes (writes changes) a =
-    writes-along (isRecord img) w img bytes (λ i j h l n. records-bare img .below j l) changes a (λ h. records-bare img)
+kind-along w img bytes (writes fold changes) a =
+    writes-along (isRecord img) w img bytes (λ i j h l n. records-bare img .below j l) fold changes a (λ h. records-bare img)
 kind-along w img bytes (startsUp setup) a = startUp-along (isRecord img) img (a .0) (a .1) bytes (records-bare img) w
 
 -- of a start-up's stores, whatever it is given
@@ -113,14 +113,14 @@ no-bit-rises w img bytes = (
 
 -- with the marks of states, of one change in place
 states-along : (w : ℕ) (img : List ℕ) → Bytes img → (o : Option Rule) (k : Kind) → (o ≡ none → Accepted k img)
-    → (c : Change) → changesBy k (valuesOf img) ≡ c ∷ [] → inPlace img c ≡ true → ClearsOne (isState img) (storesOf w (onSome o refuse (doing k img))) img
-states-along w img bytes o reads a c one h = absurd (true≢false (ap isEmpty one))
-states-along w img bytes o (writes changes) a c one h =
-    let placed : onlyInPlace img (changes (valuesOf img)) ≡ true = ap (onlyInPlace img) one ∙ h in
-    along-one (isState img) (storesOf w (onSome o refuse (changesPlan img (changes (valuesOf img))))) img
-    (unless-refused (isState img) w img o (changesPlan img (changes (valuesOf img)))
-    (λ e. writes-along (isState img) w img bytes (states-tailed img) changes (a e) (λ n. absurd (true≢false (sym placed ∙ n)))))
-states-along w img bytes o (startsUp setup) a c one h = absurd (true≢false (ap isEmpty one))
+    → (c : Change) → folds k ≡ false → changesBy k (valuesOf img) ≡ c ∷ [] → inPlace img c ≡ true → ClearsOne (isState img) (storesOf w (onSome o refuse (doing k img))) img
+states-along w img bytes o reads a c single one h = absurd (true≢false (ap isEmpty one))
+states-along w img bytes o (writes fold changes) a c single one h =
+    let placed : onlyInPlace fold img (changes (valuesOf img)) ≡ true = ap (onlyInPlace fold img) one ∙ rw single h in
+    along-one (isState img) (storesOf w (onSome o refuse (changesPlan fold img (changes (valuesOf img))))) img
+    (unless-refused (isState img) w img o (changesPlan fold img (changes (valuesOf img)))
+    (λ e. writes-along (isState img) w img bytes (states-tailed img) fold changes (a e) (λ n. absurd (true≢false (sym placed ∙ n)))))
+states-along w img bytes o (startsUp setup) a c single one h = absurd (true≢false (ap isEmpty one))
 
 pub marks-clear-one-bit : MarksClearOneBit
 unfolding planOf

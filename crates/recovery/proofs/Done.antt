@@ -1,12 +1,12 @@
 -- A call that is done broke no rule and made all its stores, so it leaves the image ready, with the values that it enters; a set does so whatever image it began on,
--- since no set is done on an image that is not ready.
+-- since no set is done on an image that is not ready, and so does a profile.
 -- Assumes nothing.
 use Prim.Native.Nat.{ℕ, _*_}
 use native.Mathlib.Omega.{arith}
 use mathlib.Core.Path.{_≡_, refl, sym, ap, _∙_, subst}
 use mathlib.Core.Logic.{_≢_}
 use mathlib.Core.Bool.{Bool, false, not, _||_}
-use mathlib.Core.List.{List, [], _∷_}
+use mathlib.Core.List.{List, [], _∷_, _++_}
 use mathlib.Core.Option.{Option, none}
 use lib.ListN.{length}
 use Rattle.model.specs.declared.Setup.{Setup}
@@ -18,21 +18,26 @@ use Rattle.model.specs.Lists.{onSome}
 use Rattle.model.specs.Region.{valuesOf, find}
 use Rattle.model.specs.Session.{isYes}
 use Rattle.model.specs.Request.{Request, requestKey}
+use Rattle.model.specs.Profile.{itemsIn, sharesName}
 use Rattle.model.specs.Limits.{Limit, limitsFor, meets}
-use Rattle.model.specs.Change.{Change, changeIn, steps, leaves}
-use Rattle.model.specs.Rules.{rule21, imageRulesIn, requestRules, standingRules, resultRules, itemRules, settingRules, setBroken}
+use Rattle.model.specs.Change.{Change, changeIn, changesIn, steps, leaves}
+use Rattle.model.specs.Rules.{rule21, imageRulesIn, requestRules, standingRules, resultRules, itemRules, settingRules, setBroken, profileBroken}
 use Rattle.model.specs.Stores.{Store, stores, applyAll}
 use Rattle.model.specs.Set.{Plan}
 use Rattle.model.specs.Answers.{done, outcome, imageAfter, pageOf, storesOf}
-use Rattle.model.specs.Book.{Call, set, callBroken, Kind, reads, writes, startsUp, kindOf, doing, planOf, setPlan, Sized, entered}
+use Rattle.model.specs.Book.{Call, set, profile, callBroken, Kind, reads, writes, startsUp, kindOf, doing, planOf, setPlan, profilePlan, Sized, entered}
+use Rattle.model.specs.Beside.{EachItem, changedKeys, putValues, withoutAll}
 use Rattle.model.proofs.Stores.{stores-append, applyAll-append}
 use Rattle.model.proofs.Tests.{or-split}
 use Rattle.model.proofs.Looking.{find-changed}
 use Rattle.model.proofs.Requests.{set-length, set-ready, unbroken}
-use Rattle.recovery.specs.Claims.{SetDone, CallDone, forbidden, SetsKeepSettings}
+use Rattle.model.proofs.Alone.{changes-alone}
+use Rattle.model.proofs.Folding.{items-folded}
+use Rattle.model.proofs.Profiles.{profile-length, profile-ready, profile-apart, profile-items, items-tried}
+use Rattle.recovery.specs.Claims.{SetDone, CallDone, ChangedStandLast, forbidden, SetsKeepSettings, ProfilesKeepSettings}
 use Rattle.recovery.proofs.EveryCall.{Accepted, accepted}
 use Rattle.recovery.proofs.StartingUp.{Ready, ready-of, ready-is, ready-holds}
-use Rattle.recovery.proofs.Theorem.{CallKept, call-kept, set-kept, done-accepted, all-made}
+use Rattle.recovery.proofs.Theorem.{CallKept, call-kept, set-kept, profile-kept, done-accepted, all-made}
 
 pub call-accepted : (c : Call) (img : List ℕ) (x : Context) (count : ℕ) → outcome x (planOf c img) img ≡ done count → callBroken c img ≡ none
 unfolding planOf
@@ -76,15 +81,15 @@ set-done m s r img x count long h =
     (ready .0, ready .1, ap (λ (n : ℕ). block * n) (left .sized), left .held)
 
 -- any call but a start-up
-pub writes-not : (changes : List Value → List Change) (u : Setup) → writes changes ≢ startsUp u
-writes-not changes u e = let z : _≡_ {A = ℕ} 0 1 = cc in omega arith
+pub writes-not : (fold : Bool) (changes : List Value → List Change) (u : Setup) → writes fold changes ≢ startsUp u
+writes-not fold changes u e = let z : _≡_ {A = ℕ} 0 1 = cc in omega arith
 
 pub reads-not : (u : Setup) → reads ≢ startsUp u
 reads-not u e = let z : _≡_ {A = ℕ} 0 1 = cc in omega arith
 
 kind-ready : (k : Kind) (img : List ℕ) → ((u : Setup) → k ≢ startsUp u) → Accepted k img → Ready img
 kind-ready reads img n a = ready-of img (a .0) (a .1)
-kind-ready (writes changes) img n a = ready-of img (a .long) (a .ready)
+kind-ready (writes fold changes) img n a = ready-of img (a .long) (a .ready)
 kind-ready (startsUp setup) img n a = absurd (n setup refl)
 
 call-leaves : (c : Call) (img : List ℕ) → Sized c → ((u : Setup) → kindOf c ≢ startsUp u) → callBroken c img ≡ none → (w : ℕ)
@@ -100,6 +105,27 @@ call-done c img x count sized n h =
     subst (LeftReady (blocks img) c (valuesOf img)) (sym (all-made x count (planOf c img) img h)) (call-leaves c img sized n (call-accepted c img x count h) (pageOf x)) in
     let ready = ready-is (imageAfter x (planOf c img) img) (left .ready) in
     (ready .0, ready .1, ap (λ (n : ℕ). block * n) (left .sized), left .held)
+
+-- ---- profiles
+
+-- the values after one that breaks no rule, all its stores made, with every w
+profile-left : (m : Bool) (s : Session) (file img : List ℕ) → profileBroken m s file img ≡ none → (w : ℕ)
+    → valuesOf (applyAll (storesOf w (profilePlan m s file img)) img) ≡ steps (changesIn (itemsIn file) (valuesOf img)) (valuesOf img)
+unfolding entered
+profile-left m s file img e w =
+    let holds = ready-holds img (ready-of img (profile-length m s file img e) (profile-ready m s file img e)) in
+    kept-all (profile m s file) img (valuesOf img) (profile-kept m s file img (valuesOf img) e holds) w .held
+
+changed-last : (rs : List Request) (vs : List Value) → sharesName rs ≡ false
+    → steps (changesIn rs vs) vs ≡ withoutAll (changedKeys (changesIn rs vs)) vs ++ putValues (changesIn rs vs)
+changed-last rs vs h = rw (changes-alone rs vs h) (items-folded rs vs h)
+
+pub changed-stand-last : ChangedStandLast
+changed-stand-last m s file img x count h =
+    let e = call-accepted (profile m s file) img x count h in
+    ap valuesOf (all-made x count (profilePlan m s file img) img h)
+    ∙ profile-left m s file img e (pageOf x)
+    ∙ changed-last (itemsIn file) (valuesOf img) (profile-apart m s file img e)
 
 -- ---- rules for settings: 21 was tried on the very value that stands
 
@@ -132,3 +158,17 @@ sets-keep-settings m s r img x count long h =
     (λ (left : List ℕ). forbidden (limitsFor (s .setup) (requestKey r)) (find (requestKey r) (valuesOf left)))
     (all-made x count (setPlan m s r img) img h)
     ∙ settings-kept m s r img long (call-accepted (set m s r) img x count h) (pageOf x)
+
+-- a profile likewise, under the name of each of its items
+pub profile-settings : (m : Bool) (s : Session) (file img : List ℕ) → profileBroken m s file img ≡ none → (w : ℕ)
+    → EachItem
+    (λ r. forbidden (limitsFor (s .setup) (requestKey r)) (find (requestKey r) (valuesOf (applyAll (storesOf w (profilePlan m s file img)) img))) ≡ false)
+    (itemsIn file)
+profile-settings m s file img e w =
+    rw (profile-left m s file img e w)
+    (items-tried m s (λ r o. forbidden (limitsFor (s .setup) (requestKey r)) o ≡ false) (λ r c old h. none-forbids (limitsFor (s .setup) (requestKey r)) c old h)
+    (itemsIn file) (valuesOf img) (profile-apart m s file img e) (profile-items m s file img e))
+
+pub profiles-keep-settings : ProfilesKeepSettings
+profiles-keep-settings m s file img x count h =
+    rw (all-made x count (profilePlan m s file img) img h) (profile-settings m s file img (call-accepted (profile m s file) img x count h) (pageOf x))

@@ -12,13 +12,16 @@ use Rattle.model.specs.Image.{rightLength, regionSize}
 use Rattle.model.specs.Entry.{Value}
 use Rattle.model.specs.Region.{valuesOf}
 use Rattle.model.specs.Work.{readyForCall, readyForStartUp}
+use Rattle.model.specs.Profile.{itemsIn}
 use Rattle.model.specs.Change.{Change}
 use Rattle.model.specs.Stores.{Bytes}
 use Rattle.model.specs.Set.{refuse}
-use Rattle.model.specs.Book.{Call, set, get, next, startUp, several, callBroken, Kind, reads, writes, startsUp, kindOf, doing, planOf, Sized}
+use Rattle.model.specs.Book.{Call, set, get, next, startUp, several, profile, callBroken, Kind, reads, writes, startsUp, kindOf, doing, planOf, Sized}
 use Rattle.model.proofs.Changes.{EachPut, Fitting}
 use Rattle.model.proofs.Requests.{set-length, set-ready, set-fitting, get-ready, gets-ready, next-ready, startUp-length, startUp-ready}
-use Rattle.recovery.proofs.ByteLists.{Bytewise, image-values, put-bytes}
+use Rattle.model.proofs.Files.{file-read}
+use Rattle.model.proofs.Profiles.{profile-length, profile-ready, profile-fitting}
+use Rattle.recovery.proofs.ByteLists.{Bytewise, bytes-take, bytes-drop, image-values, put-bytes, items-bytes}
 
 pub plan-accepted : (c : Call) (img : List ℕ) → callBroken c img ≡ none → planOf c img ≡ doing (kindOf c) img
 unfolding planOf
@@ -38,7 +41,7 @@ pub record Lets (changes : List Value → List Change) (img : List ℕ) : Type 0
 -- and of a call, by its kind
 abbrev pub Accepted : Kind → List ℕ → Type 0
 Accepted reads img = (rightLength img ≡ true) × (readyForCall img ≡ true)
-Accepted (writes changes) img = Lets changes img
+Accepted (writes fold changes) img = Lets changes img
 Accepted (startsUp setup) img = (rightLength img ≡ true) × (readyForStartUp img ≡ true)
 
 -- this is what each call has of its own
@@ -53,3 +56,10 @@ accepted (get m s k buffer) img sized e = get-ready m s k buffer img e
 accepted (next m s k buffer) img sized e = next-ready m s k buffer img e
 accepted (startUp setup) img sized e = (startUp-length setup img e, startUp-ready setup img e)
 accepted (several m s ks buffer) img sized e = gets-ready ks img e
+accepted (profile m s file) img sized e =
+    record {
+      long = profile-length m s file img e;
+      ready = profile-ready m s file img e;
+      fitting = profile-fitting m s file img e;
+      bytewise = λ bytes. items-bytes (itemsIn file) (valuesOf img) (file-read Bytes bytes-take bytes-drop file sized) (image-values img bytes);
+    }

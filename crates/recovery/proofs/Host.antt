@@ -25,18 +25,20 @@ use Rattle.model.specs.Stores.{Store, Write, stores, applyAll, after, Cut}
 use Rattle.model.specs.Set.{Plan, refuse, make}
 use Rattle.model.specs.StartUp.{startUpPlan, startUpStores}
 use Rattle.model.specs.Answers.{ruleNumber, storesOf, decided}
-use Rattle.model.specs.Book.{Call, set, callBroken, planOf, setPlan, Sized, entered, bookAfter}
+use Rattle.model.specs.Book.{Call, set, profile, callBroken, planOf, setPlan, profilePlan, Sized, entered, bookAfter}
 use Rattle.model.specs.Limits.{Limit}
+use Rattle.model.specs.Profile.{itemsIn}
 use Rattle.model.proofs.Stores.{after-all, stores-append}
 use Rattle.plan.specs.declared.HostOp.{HostOp}
 use Rattle.plan.specs.declared.HostPlan.{HostPlan}
 use Rattle.plan.specs.Planned.{upTo}
 use Rattle.plan.specs.Told.{storesOfNumbers, expandNumbers, noOperations, refusalOf, Told}
 use Rattle.recovery.specs.Claims.{forbidden}
-use Rattle.recovery.specs.Host.{carriedOut, decidingDone, Hosting, none-yet, carried-out, power-failed, HostBegun, by-start-up, by-move, HostKeepsTheBook, HostKeepsSettings}
+use Rattle.recovery.specs.Host.{carriedOut, decidingDone, Hosting, none-yet, carried-out, power-failed, HostBegun, by-start-up, by-move, HostKeepsTheBook, HostKeepsSettings, HostKeepsProfileSettings}
+use Rattle.model.proofs.Files.{each-item}
 use Rattle.recovery.proofs.Invariant.{Holding, holding-blocks}
 use Rattle.recovery.proofs.EveryCall.{plan-refused}
-use Rattle.recovery.proofs.Done.{settings-kept}
+use Rattle.recovery.proofs.Done.{settings-kept, profile-settings}
 use Rattle.recovery.proofs.Interface.{move-begins, session-limits}
 use Rattle.recovery.proofs.StartingUp.{Ready, ready-holds}
 use Rattle.recovery.proofs.Theorem.{call-kept, book-cond, call-cut, startUp-plan, startUp-refused, startUp-leaves, startUp-holds, holding-judged, begins-ready}
@@ -100,6 +102,8 @@ no-rule-zero rule.TimeBased = refl
 no-rule-zero rule.Setting = refl
 no-rule-zero rule.Side = refl
 no-rule-zero rule.Worn = refl
+no-rule-zero rule.File = refl
+no-rule-zero rule.Twice = refl
 
 -- rule 0 is told of a plan that is accepted only
 pub told-accepted : (plan : Plan) (content : List ℕ) (p : HostPlan) → Told plan content p → p .rule ≡ 0 → (r : Rule) → plan ≡ refuse r → ⊥
@@ -242,3 +246,11 @@ host-keeps-settings setup m s r part content p i long planned zero w =
     (sym (session-limits i k))
     (ap (λ (ss : List Store). applyAll ss part) (told-stores w (setPlan m s r part) content p planned))
     ∙ settings-kept m s r part long accepted w
+
+pub host-keeps-profile-settings : HostKeepsProfileSettings
+host-keeps-profile-settings setup m s file part content p i planned zero w =
+    let accepted = told-unbroken (profile m s file) part content p planned zero in
+    rw (told-stores w (profilePlan m s file part) content p planned)
+    (each-item (itemsIn file)
+    (λ r h. ap (λ (ls : List Limit). forbidden ls (find (requestKey r) (valuesOf (applyAll (storesOf w (profilePlan m s file part)) part)))) (sym (session-limits i (requestKey r))) ∙ h)
+    (profile-settings m s file part accepted w))

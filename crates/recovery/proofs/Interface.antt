@@ -22,6 +22,7 @@ use Rattle.model.specs.Entry.{Value}
 use Rattle.model.specs.Region.{valuesOf, find}
 use Rattle.model.specs.Session.{locked, countedPhase, withPhase, movedTo, withLock, lockedSession, kept, freshSession}
 use Rattle.model.specs.Request.{requestKey}
+use Rattle.model.specs.Profile.{itemsIn}
 use Rattle.model.specs.Limits.{Limit, limitsFor}
 use Rattle.model.specs.Rules.{lockBroken}
 use Rattle.model.specs.Stores.{stores, after, applyAll}
@@ -29,11 +30,12 @@ use Rattle.model.specs.Set.{refuse, make}
 use Rattle.model.specs.StartUp.{startUpPlan}
 use Rattle.model.specs.Answers.{Outcome, done, refused, ruleNumber, answerOf, imageAfter, madeOf, pageOf, storesOf, decided, lockSession}
 use Rattle.model.specs.Move.{moveBroken, moveAnswer}
-use Rattle.model.specs.Book.{Call, startUp, callBroken, Kind, reads, kindOf, doing, planOf, counts, bookAfter, Run, begin, ran, cut, Begins, started, moved-in}
-use Rattle.recovery.specs.Interface.{MoveReturned, Begun, by-start-up, by-move, Calls, none-yet, returned, power-failed, InterfaceKeepsTheBook, InSession, fresh, moved, lock-asked, InterfaceKeepsSettings}
+use Rattle.model.specs.Book.{Call, startUp, callBroken, Kind, reads, kindOf, doing, planOf, profilePlan, counts, bookAfter, Run, begin, ran, cut, Begins, started, moved-in}
+use Rattle.recovery.specs.Interface.{MoveReturned, Begun, by-start-up, by-move, Calls, none-yet, returned, power-failed, InterfaceKeepsTheBook, InSession, fresh, moved, lock-asked, InterfaceKeepsSettings, InterfaceKeepsProfileSettings}
+use Rattle.model.proofs.Files.{each-item}
 use Rattle.recovery.specs.Claims.{forbidden}
 use Rattle.recovery.proofs.Theorem.{demand3}
-use Rattle.recovery.proofs.Done.{sets-keep-settings}
+use Rattle.recovery.proofs.Done.{sets-keep-settings, profiles-keep-settings}
 
 -- a call that reads leaves the image: what a function that is lent it shared ensures
 none-made : (x : Context) (o : Option Rule) (img : List ℕ) → imageAfter x (onSome o refuse (make [] [])) img ≡ img
@@ -128,3 +130,10 @@ interface-keeps-settings setup m s r x img img′ stores i long made =
     let left : forbidden (limitsFor (s .setup) k) (find k (valuesOf img′)) ≡ false =
     ap (λ (y : List ℕ). forbidden (limitsFor (s .setup) k) (find k (valuesOf y))) (made .1) ∙ sets-keep-settings m s r img x stores long (sym (made .0)) in
     ap (λ (ls : List Limit). forbidden ls (find k (valuesOf img′))) (sym (session-limits i k)) ∙ left
+
+pub interface-keeps-profile-settings : InterfaceKeepsProfileSettings
+interface-keeps-profile-settings setup m s file x img img′ stores i made =
+    rw (made .1)
+    (each-item (itemsIn file)
+    (λ r h. ap (λ (ls : List Limit). forbidden ls (find (requestKey r) (valuesOf (imageAfter x (profilePlan m s file img) img)))) (sym (session-limits i (requestKey r))) ∙ h)
+    (profiles-keep-settings m s file img x stores (sym (made .0))))

@@ -17,7 +17,7 @@ use Rattle.model.specs.declared.Terms.{Terms}
 use Rattle.model.specs.declared.Context.{Context}
 use Rattle.model.specs.declared.Rule.{Rule}
 use Rattle.model.specs.declared.Rule.the-variants.{Name, Side, Absent, Buffer, LockPhase, LockSpace}
-use Rattle.model.specs.Lists.{keep, onSome}
+use Rattle.model.specs.Lists.{all, keep, onSome}
 use Rattle.model.specs.Name.{Key, sameKey, zeroEnded, wellNamed}
 use Rattle.model.specs.Image.{regionSize, region}
 use Rattle.model.specs.Entry.{Value, keyOf}
@@ -25,11 +25,12 @@ use Rattle.model.specs.Region.{valuesOf, entries, tailAt, find}
 use Rattle.model.specs.Compact.{compactTo, compactOn}
 use Rattle.model.specs.Session.{countedPhase, inBoot, atRuntime, isYes, customMode, countedReserve, shareOf, reserveOf, reserved, countedLocks, locked, lockAt, withLock, lockedSession, withPhase, movedTo, kept, freshSession}
 use Rattle.model.specs.Request.{Request, requestKey, runtimeAccess}
-use Rattle.model.specs.Change.{Change, nothing, remove, put, changeIn, step, steps}
+use Rattle.model.specs.Profile.{itemsIn}
+use Rattle.model.specs.Change.{Change, nothing, remove, put, isNothing, changeIn, changesIn, step, steps}
 use Rattle.model.specs.Sides.{owns, view, sideSizes, locksOf}
-use Rattle.model.specs.Rules.{firstBroken, rule3, rule3Next, rule6, rule11Read, rule14, rule15, rule16, rule22, rule22Next, termsIf, termsOf, setBroken, seen, valueToGet, nextOf, valueToName, valueNamed, gotBytes, namedBytes, getSpace, getBroken, getsBroken, nextBroken, lockBroken}
+use Rattle.model.specs.Rules.{firstBroken, rule3, rule3Next, rule6, rule11Read, rule14, rule15, rule16, rule22, rule22Next, termsIf, termsOf, setBroken, profileBroken, seen, valueToGet, nextOf, valueToName, valueNamed, gotBytes, namedBytes, getSpace, getBroken, getsBroken, nextBroken, lockBroken}
 use Rattle.model.specs.Stores.{Write, stores, reach}
-use Rattle.model.specs.Set.{Plan, refuse, make, fitsTail, putPlan, changePlan, changesPlan, tailTo, tailOn, deleteTo}
+use Rattle.model.specs.Set.{Plan, refuse, make, fitsTail, putPlan, changePlan, foldedPlan, changesPlan, tailTo, tailOn, deleteTo}
 use Rattle.model.specs.StartUp.{startUpStores, startUpPlan}
 use Rattle.model.specs.Answers.{Outcome, done, stopped, refused, ruleNumber, ended, deadOf, pageOf, outcome, imageAfter, Reply, Gots, refusal, written, getReply, getsReply, nextReply, lockOutcome, lockSession}
 use Rattle.model.specs.Book.{Call, Sized, callBroken, Kind, writes, startsUp, kindOf, doing, planOf, changesBy, entered}
@@ -38,7 +39,8 @@ use Rattle.model.proofs.Tests.{and-split, or-split, key-eq}
 use Rattle.model.proofs.Failing.{ended-done}
 use Rattle.model.proofs.Values.{keep-twice}
 use Rattle.model.proofs.Requests.{unbroken, set-own}
-use Rattle.recovery.specs.Tenants.{World, Asked, sets, reads, names, reads-each, callOf, Event, calls, locks, moves, Fitting, planIn, leave, answer, Handed, no-more, replied, each, handed, reply, toItsEnd, butStores, Told, told, History, begun, then, isOf, asked, heard, sees, finishedStartUp, NoInterference}
+use Rattle.model.proofs.Profiles.{profile-items}
+use Rattle.recovery.specs.Tenants.{World, Asked, sets, reads, names, reads-each, profiles, callOf, Event, calls, locks, moves, Fitting, planIn, leave, answer, Handed, no-more, replied, each, handed, reply, toItsEnd, butStores, Told, told, History, begun, then, isOf, asked, heard, sees, finishedStartUp, NoInterference}
 use Rattle.recovery.proofs.StartingUp.{Ready, ready-of}
 use Rattle.recovery.proofs.EveryCall.{plan-accepted, plan-refused}
 use Rattle.recovery.proofs.Done.{call-done, writes-not, reads-not}
@@ -46,8 +48,8 @@ use Rattle.recovery.proofs.Claims.{refusals-change-nothing, startUp-lea
 use Rattle.recovery.proofs.Views.{AllAbout, find-view, view-steps, view-steps-other, not-other, all-other}
 use Rattle.recovery.proofs.Shares.{Within, KeepsTo, within-of, steps-within}
 use Rattle.recovery.proofs.Owned.{item-own}
-use Rattle.recovery.proofs.Usable.{set-keeps}
-use Rattle.recovery.proofs.Judging.{Says, image-passed, set-pair, change-same}
+use Rattle.recovery.proofs.Usable.{set-keeps, profile-keeps}
+use Rattle.recovery.proofs.Judging.{Says, image-passed, set-pair, profile-pair, change-same, items-changes}
 use Rattle.recovery.proofs.Locking.{Listed, lock-more, locks-more, more-listed, fresh-listed, fresh-none}
 
 -- ---- answers of calls that run to their end
@@ -92,14 +94,18 @@ change-makes img (put v) =
     cond-makes (fitsTail (region img) v) (made (tailTo (tailAt (region img)) v (entries (region img))) (tailOn v (entries (region img))))
     (made (compactTo img after) (compactOn img after))
 
-changes-makes : (img : List ℕ) (cs : List Change) → Makes (changesPlan img cs)
-changes-makes img [] = made [] []
-changes-makes img (c ∷ []) = change-makes img c
-changes-makes img (c ∷ d ∷ cs) = let after = steps (c ∷ d ∷ cs) (valuesOf img) in made (compactTo img after) (compactOn img after)
+folded-makes : (img : List ℕ) (cs : List Change) → Makes (foldedPlan img cs)
+unfolding foldedPlan
+folded-makes img cs = let after = steps cs (valuesOf img) in cond-makes (all isNothing cs) (made [] []) (made (compactTo img after) (compactOn img after))
+
+changes-makes : (fold : Bool) (img : List ℕ) (cs : List Change) → Makes (changesPlan fold img cs)
+changes-makes fold img [] = made [] []
+changes-makes fold img (c ∷ []) = cond-makes fold (folded-makes img (c ∷ [])) (change-makes img c)
+changes-makes fold img (c ∷ d ∷ cs) = folded-makes img (c ∷ d ∷ cs)
 
 kind-makes : (k : Kind) (img : List ℕ) → Makes (doing k img)
 kind-makes book.reads img = made [] []
-kind-makes (writes changes) img = changes-makes img (changes (valuesOf img))
+kind-makes (writes fold changes) img = changes-makes fold img (changes (valuesOf img))
 kind-makes (startsUp setup) img = made [] (startUpStores img)
 
 record Finishes (x : Context) (p : Plan) (img : List ℕ) : Type 0 where
@@ -148,10 +154,11 @@ unfolding entered
 entered-asked m s a vs = refl
 
 pub no-start : (m : Bool) (s : Session) (a : Asked) (u : Setup) → kindOf (callOf m s a) ≢ startsUp u
-no-start m s (sets r) u = writes-not (λ vs. changeIn r vs ∷ []) u
+no-start m s (sets r) u = writes-not false (λ vs. changeIn r vs ∷ []) u
 no-start m s (reads k buffer) u = reads-not u
 no-start m s (names k buffer) u = reads-not u
 no-start m s (reads-each ks buffer) u = reads-not u
+no-start m s (profiles file) u = writes-not true (changesIn (itemsIn file)) u
 
 -- it keeps to the shares
 no-changes : (u : Setup) (m : Bool) (vs : List Value) → KeepsTo u m [] vs
@@ -162,6 +169,7 @@ asked-keeps m s (sets r) img z e = set-keeps m s r img e
 asked-keeps m s (reads k buffer) img z e = no-changes (s .setup) m (valuesOf img)
 asked-keeps m s (names k buffer) img z e = no-changes (s .setup) m (valuesOf img)
 asked-keeps m s (reads-each ks buffer) img z e = no-changes (s .setup) m (valuesOf img)
+asked-keeps m s (profiles file) img z e = profile-keeps m s file img e
 
 -- ---- a world of a start-up
 
@@ -439,9 +447,12 @@ module _ (u : Setup) (modem : Bool) (v w : World) (a : Good u v) (b : Good u w) 
   say : Says u modem (v .session) (w .session)
   say = record { here = a .given; there = b .given; terms = terms-alike; room = room-alike }
 
-  -- a set breaks the same rule in both
+  -- a set, and a profile, break the same rule in both
   set-alike : (r : Request) → length (r .vendor) ≡ 16 → setBroken modem (v .session) r (v .image) ≡ setBroken modem (w .session) r (w .image)
   set-alike r long = set-pair u modem (v .session) (w .session) say (v .image) (w .image) (a .ready) (b .ready) (a .within) (b .within) (l .seen) r long
+
+  profile-alike : (file : List ℕ) → profileBroken modem (v .session) file (v .image) ≡ profileBroken modem (w .session) file (w .image)
+  profile-alike file = profile-pair u modem (v .session) (w .session) say (v .image) (w .image) (a .ready) (b .ready) (a .within) (b .within) (l .seen) file
 
   -- and a call makes the same changes, where it is accepted
   changes-alike : (c : Asked) → Sized (callOf modem (v .session) c) → callBroken (callOf modem (v .session) c) (v .image) ≡ none
@@ -455,6 +466,8 @@ module _ (u : Setup) (modem : Bool) (v w : World) (a : Good u v) (b : Good u w) 
   changes-alike (reads k buffer) z e = refl
   changes-alike (names k buffer) z e = refl
   changes-alike (reads-each ks buffer) z e = refl
+  changes-alike (profiles file) z e =
+      items-changes u modem (v .session) (w .session) say (itemsIn file) (valuesOf (v .image)) (valuesOf (w .image)) (l .seen) (profile-items modem (v .session) file (v .image) e)
 
 -- ---- gets
 
@@ -735,12 +748,14 @@ module _ (u : Setup) (modem : Bool) (v w : World) (a : Good u v) (b : Good u w) 
   call-alike (reads k buffer) f = got-alike u modem v w a b l k buffer .0
   call-alike (names k buffer) f = named-alike u modem v w a b l k buffer .0
   call-alike (reads-each ks buffer) f = many-alike u modem v w a b l ks buffer .0
+  call-alike (profiles file) f = profile-alike u modem v w a b l file
 
   handed-alike : (c : Asked) → handed modem (v .session) c (v .image) ≡ handed modem (w .session) c (w .image)
   handed-alike (sets r) = refl
   handed-alike (reads k buffer) = ap replied (got-alike u modem v w a b l k buffer .1)
   handed-alike (names k buffer) = ap replied (named-alike u modem v w a b l k buffer .1)
   handed-alike (reads-each ks buffer) = ap each (many-alike u modem v w a b l ks buffer .1)
+  handed-alike (profiles file) = refl
 
   told-own : (c : Asked) (x y : Context) → Fitting (calls modem c) → toItsEnd (answer x (calls modem c) v) ≡ true → toItsEnd (answer y (calls modem c) w) ≡ true
       → told x (calls modem c) v ≡ told y (calls modem c) w

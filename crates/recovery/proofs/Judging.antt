@@ -16,7 +16,7 @@ use Rattle.model.specs.declared.Setup.{Setup}
 use Rattle.model.specs.declared.Session.{Session}
 use Rattle.model.specs.declared.Terms.{Terms}
 use Rattle.model.specs.declared.Rule.{Rule}
-use Rattle.model.specs.declared.Rule.the-variants.{Name, Side, Room, RecordSpace}
+use Rattle.model.specs.declared.Rule.the-variants.{Name, Side, Room, RecordSpace, File, Twice}
 use Rattle.model.specs.Lists.{all, keep, any, isSome, orElse}
 use Rattle.model.specs.Name.{Key, sameKey, recordName}
 use Rattle.model.specs.Image.{regionSize, region}
@@ -24,10 +24,11 @@ use Rattle.model.specs.Entry.{Value, keyOf}
 use Rattle.model.specs.Region.{valuesOf, valuesIn, values, entries, find}
 use Rattle.model.specs.Session.{shareOf, reserved}
 use Rattle.model.specs.Request.{Request, requestKey, isKeyName, keyPK, userMode}
+use Rattle.model.specs.Profile.{itemsIn}
 use Rattle.model.specs.Limits.{limitsFor}
-use Rattle.model.specs.Change.{Change, nothing, remove, put, changeIn, without, step, steps, entrySizes, entrySizesIn, spaceOf, isErrorRecord, recordSizes, otherSizes}
+use Rattle.model.specs.Change.{Change, nothing, remove, put, changeIn, changesIn, without, step, steps, entrySizes, entrySizesIn, spaceOf, isErrorRecord, recordSizes, otherSizes}
 use Rattle.model.specs.Sides.{owns, view, sideSizes}
-use Rattle.model.specs.Rules.{firstBroken, rule1, rule2In, rule3, rule6, rule13, rule18, rule22, puts, termsIf, termsOf, imageRulesIn, requestRules, itemRules, settingRules, roomRules, setBroken}
+use Rattle.model.specs.Rules.{firstBroken, rule1, rule2In, rule3, rule6, rule13, rule18, rule22, rule25, rule26, puts, termsIf, termsFor, termsOf, imageRulesIn, requestRules, itemRules, settingRules, roomRules, setBroken, itemsRules, profileRules, profileBroken}
 use Rattle.model.specs.Beside.{Valid}
 use Rattle.model.proofs.Tests.{and-split}
 use Rattle.model.proofs.Parts.{parts-region}
@@ -36,11 +37,13 @@ use Rattle.model.proofs.Encode.{AllValid, sound-valid}
 use Rattle.model.proofs.Changes.{EachPut}
 use Rattle.model.proofs.Looking.{items-alike}
 use Rattle.model.proofs.Requests.{broken-append, image-valid, item-valid}
+use Rattle.model.proofs.Files.{file-form, file-vendors}
+use Rattle.model.proofs.Profiles.{first-own, others-kept, items-valid}
 use Rattle.recovery.proofs.Compaction.{clean-sound}
 use Rattle.recovery.proofs.StartingUp.{Ready, ready-is}
-use Rattle.recovery.proofs.Views.{AllAbout, find-view, view-steps, record-ours, ours-only, ours-own, key-ours, pk-ours}
+use Rattle.recovery.proofs.Views.{About, AllAbout, find-view, view-step, view-steps, record-ours, ours-only, ours-own, key-ours, pk-ours}
 use Rattle.recovery.proofs.Shares.{Within, within-fits, steps-within}
-use Rattle.recovery.proofs.Owned.{change-about, item-own}
+use Rattle.recovery.proofs.Owned.{change-about, item-own, items-about, items-unrecorded}
 use Rattle.recovery.proofs.Usable.{few-kept}
 
 -- ---- error records are ours
@@ -209,6 +212,10 @@ none-first : (a b : Option Rule) → orElse a b ≡ none → a ≡ none
 none-first none b h = refl
 none-first (some rule) b h = let z : _≡_ {A = ℕ} 0 1 = cc in absurd (omega arith)
 
+none-second : (a b : Option Rule) → orElse a b ≡ none → b ≡ none
+none-second none b h = h
+none-second (some rule) b h = let z : _≡_ {A = ℕ} 0 1 = cc in absurd (omega arith)
+
 -- ---- two lists of which a side sees the same
 
 module _ (g : List ℕ) (m : Bool) (vs ws : List Value) (same : view g m vs ≡ view g m ws) where
@@ -225,6 +232,9 @@ module _ (g : List ℕ) (m : Bool) (vs ws : List Value) (same : view g m vs ≡ 
   pub change-same : (r : Request) → owns g m (requestKey r) ≡ true → changeIn r vs ≡ changeIn r ws
   unfolding changeIn
   change-same r o = rw (looked (requestKey r) o)
+
+  view-after : (c : Change) → About g m c true → view g m (step c vs) ≡ view g m (step c ws)
+  view-after c o = view-step g m c vs o ∙ ap (step c) same ∙ sym (view-step g m c ws o)
 
   items-same : (t : Terms) (r : Request) → owns g m (requestKey r) ≡ true → itemRules t r vs ≡ itemRules t r ws
   items-same t r o = items-alike t r vs ws (looked (requestKey r) o) (key-modes (requestKey r) o)
@@ -275,6 +285,39 @@ module _ (u : Setup) (m : Bool) (s q : Session) (say : Says u m s q) where
   setting-pair r vs ws same o =
       ap (λ (z : Setup). firstBroken (settingRules (limitsFor z (requestKey r)) r (find (requestKey r) vs))) (say .here ∙ sym (say .there))
       ∙ ap (λ (x : Option Value). firstBroken (settingRules (limitsFor (q .setup) (requestKey r)) r x)) (looked G m vs ws same (requestKey r) o)
+
+  -- the items of a profile, each over what those before it leave
+  items-pair : (rs : List Request) (vs ws : List Value) → view G m vs ≡ view G m ws → firstBroken (itemsRules m s rs vs) ≡ firstBroken (itemsRules m q rs ws)
+  unfolding itemsRules
+  items-pair [] vs ws same = refl
+  items-pair (r ∷ rs) vs ws same =
+      let k = requestKey r in
+      let mine = itemRules (termsOf m s k) r vs in
+      let its = itemRules (termsOf m q k) r ws in
+      let named = settingRules (limitsFor (s .setup) k) r (find k vs) in
+      let names = settingRules (limitsFor (q .setup) k) r (find k ws) in
+      let others = itemsRules m s rs (step (changeIn r vs) vs) in
+      let others′ = itemsRules m q rs (step (changeIn r ws) ws) in
+      three-parts mine named others
+      ∙ or-else (orElse (firstBroken mine) (firstBroken named)) (orElse (firstBroken its) (firstBroken names)) (firstBroken others) (firstBroken others′)
+      (or-else (firstBroken mine) (firstBroken its) (firstBroken named) (firstBroken names) (item-pair r vs ws same) (λ e. setting-pair r vs ws same (kept-own r vs e)))
+      (λ e.
+      (let o = kept-own r vs (none-first (firstBroken mine) (firstBroken named) e) in
+      ap (λ (c : Change). firstBroken (itemsRules m s rs (step c vs))) (change-same G m vs ws same r o)
+      ∙ items-pair rs (step (changeIn r ws) vs) (step (changeIn r ws) ws) (view-after G m vs ws same (changeIn r ws) (change-about G m true r ws o))))
+      ∙ sym (three-parts its names others′)
+
+  pub items-changes : (rs : List Request) (vs ws : List Value) → view G m vs ≡ view G m ws → firstBroken (itemsRules m s rs vs) ≡ none → changesIn rs vs ≡ changesIn rs ws
+  unfolding changesIn
+  items-changes [] vs ws same h = refl
+  items-changes (r ∷ rs) vs ws same h =
+      let o = kept-own r vs (first-own m s r rs vs h) in
+      let c = change-same G m vs ws same r o in
+      let others : firstBroken (itemsRules m s rs (step (changeIn r ws) vs)) ≡ none =
+      ap (λ (d : Change). firstBroken (itemsRules m s rs (step d vs))) (sym c) ∙ others-kept m s r rs vs h in
+      let after = view-after G m vs ws same (changeIn r ws) (change-about G m true r ws o) in
+      ap (λ (d : Change). d ∷ changesIn rs (step d vs)) c
+      ∙ ap (λ (cs : List Change). changeIn r ws ∷ cs) (items-changes rs (step (changeIn r ws) vs) (step (changeIn r ws) ws) after others)
 
   -- ---- calls on two ready images that keep to the shares
   module _ (img jmg : List ℕ) (i : Ready img) (j : Ready jmg) (w : Within (s .setup) (regionSize img) (valuesOf img)) (y : Within (q .setup) (regionSize jmg) (valuesOf jmg))
@@ -359,3 +402,35 @@ module _ (u : Setup) (m : Bool) (s q : Session) (say : Says u m s q) where
         (λ e. set-room r long (none-first (firstBroken mine) (firstBroken named) e))
         ∙ sym (three-parts its names rooms)
         ∙ sym (parts-passed jmg j its names rooms)
+
+    -- ---- a profile, which puts no error record
+    profile-room : (file : List ℕ) → firstBroken (itemsRules m s (itemsIn file) hs) ≡ none
+        → rule13 (termsFor m s) (regionSize img) (changesIn (itemsIn file) hs) hs ≡ rule13 (termsFor m q) (regionSize jmg) (changesIn (itemsIn file) js) js
+    unfolding termsFor rule18
+    profile-room file kept =
+        let rs = itemsIn file in
+        let cs = changesIn rs hs in
+        let ready = ready-is img i in
+        let valid = items-valid m s rs hs kept (file-vendors file) (image-valid img (ready .0) (ready .1)) in
+        let own : AllAbout G m cs true = subst (λ (z : Setup). AllAbout (z .modem .vendor) m cs true) (say .here) (items-about m s rs hs kept) in
+        let few : rule18 (termsIf m s false false) cs hs ≡ false =
+        ap (λ (b : Bool). b && ltb (s .setup .records) (recordSizes (steps cs hs))) (items-unrecorded rs hs (file-form file)) in
+        room-pair false false cs valid own few
+        ∙ ap (λ (ds : List Change). rule13 (termsIf m q false false) (regionSize jmg) ds js) (items-changes rs hs js same kept)
+
+    pub profile-pair : (file : List ℕ) → profileBroken m s file img ≡ profileBroken m q file jmg
+    unfolding profileBroken profileRules
+    profile-pair file =
+        let rs = itemsIn file in
+        let form : List (Rule × Bool) = (File, rule25 file) ∷ (Twice, rule26 rs) ∷ [] in
+        let mine = itemsRules m s rs hs in
+        let its = itemsRules m q rs js in
+        let room : List (Rule × Bool) = (Room, rule13 (termsFor m s) (regionSize img) (changesIn rs hs) hs) ∷ [] in
+        let rooms : List (Rule × Bool) = (Room, rule13 (termsFor m q) (regionSize jmg) (changesIn rs js) js) ∷ [] in
+        parts-passed img i form mine room
+        ∙ three-parts form mine room
+        ∙ or-else (orElse (firstBroken form) (firstBroken mine)) (orElse (firstBroken form) (firstBroken its)) (firstBroken room) (firstBroken rooms)
+        (or-else (firstBroken form) (firstBroken form) (firstBroken mine) (firstBroken its) refl (λ e. items-pair rs hs js same))
+        (λ e. ap (λ (b : Bool). firstBroken ((Room, b) ∷ [])) (profile-room file (none-second (firstBroken form) (firstBroken mine) e)))
+        ∙ sym (three-parts form its rooms)
+        ∙ sym (parts-passed jmg j form its rooms)

@@ -17,7 +17,7 @@ pub mod Sets
 pub mod EveryCall
 -- Runs: the invariant with the book, and Demand 3
 pub mod Theorem
--- A call that is done, and what a set leaves
+-- A call that is done, and what a set and a profile leave
 pub mod Done
 -- What a side sees, and what its values take of its share
 pub mod Views
@@ -26,11 +26,11 @@ pub mod Shares
 pub mod Owned
 -- The claims beside Demand 3
 pub mod Claims
--- Sets keep to the shares, so a start-up that is given them is not refused
+-- Sets and profiles keep to the shares, so a start-up that is given them is not refused
 pub mod Usable
 -- The lock list of a session of a start-up
 pub mod Locking
--- A side's set is judged by what the side sees
+-- A side's set or profile is judged by what the side sees
 pub mod Judging
 -- Nothing that one side asks alters what the other is told or sees
 pub mod Isolation
@@ -60,7 +60,7 @@ pub mod Interface
 pub mod Uses
 -- A host that carries out plans by itself: what it was told is what the definitions plan
 pub mod Host
--- Its sets keep to shares under which they are planned
+-- Its sets and profiles keep to shares under which they are planned
 pub mod HostShares
 -- And its calls of two sides are a history
 pub mod HostUses

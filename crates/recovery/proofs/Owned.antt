@@ -1,25 +1,30 @@
--- What a side's call changes is of its own names, where 22 lets it pass; an error record that it puts has a record's name, where 17 does.
+-- What a side's call changes is of its own names, where 22 lets it pass; an error record that it puts has a record's name, where 17 does, and no item of a profile puts one.
 -- Assumes nothing.
 use Prim.Native.Nat.{ℕ}
 use native.Mathlib.Omega.{arith}
 use mathlib.Core.Path.{_≡_, refl, sym, ap, _∙_}
 use mathlib.Core.Bool.{Bool, true, false, not, cond, _&&_, false≢true}
-use mathlib.Core.List.{List}
+use mathlib.Core.List.{List, [], _∷_}
 use mathlib.Core.Option.{none}
 use lib.Dec.{eqb}
 use borrow.Author.Tests.{eqb-true, not-false}
 use Rattle.model.specs.declared.Session.{Session}
 use Rattle.model.specs.declared.Terms.{Terms}
+use Rattle.model.specs.Lists.{any}
 use Rattle.model.specs.Name.{recordName}
 use Rattle.model.specs.Entry.{Value}
 use Rattle.model.specs.Region.{recordBit, find}
 use Rattle.model.specs.Request.{Request, requestKey}
-use Rattle.model.specs.Change.{Change, put, newValue, changeIn, isErrorRecord}
+use Rattle.model.specs.Change.{Change, nothing, remove, put, newValue, changeIn, changesIn, step, isErrorRecord}
 use Rattle.model.specs.Sides.{owns}
-use Rattle.model.specs.Rules.{firstBroken, rule17, rule22, termsOf, requestRules, itemRules}
+use Rattle.model.specs.Rules.{firstBroken, puts, rule17, rule22, termsOf, requestRules, itemRules, itemsRules}
+use Rattle.model.specs.Beside.{EachItem}
+use Rattle.model.proofs.Alone.{InForm, form-plain}
+use Rattle.model.proofs.Changes.{EachPut}
 use Rattle.model.proofs.Looking.{change-cases}
 use Rattle.model.proofs.Requests.{unbroken, record-append}
-use Rattle.recovery.proofs.Views.{About}
+use Rattle.model.proofs.Profiles.{first-own, others-kept}
+use Rattle.recovery.proofs.Views.{About, AllAbout}
 
 -- a set's change is about the name that it names
 pub change-about : (g : List ℕ) (m x : Bool) (r : Request) (vs : List Value) → owns g m (requestKey r) ≡ x → About g m (changeIn r vs) x
@@ -49,3 +54,39 @@ item-recorded t r vs kept =
     go z e false h f k = absurd (false≢true h)
     go true e true h f k = absurd (false≢true (ap recordBit (sym (eqb-true (r .attributes) 0 e)) ∙ f))
     go false e true h f k = not-false (recordName (requestKey r)) k
+
+-- ---- the items of a profile
+
+pub items-about : (m : Bool) (s : Session) (rs : List Request) (vs : List Value) → firstBroken (itemsRules m s rs vs) ≡ none
+    → AllAbout (s .setup .modem .vendor) m (changesIn rs vs) true
+unfolding changesIn
+items-about m s [] vs h = tt
+items-about m s (r ∷ rs) vs h = (
+  change-about (s .setup .modem .vendor) m true r vs (item-own m s r vs (first-own m s r rs vs h)),
+  items-about m s rs (step (changeIn r vs) vs) (others-kept m s r rs vs h),
+)
+
+-- their attributes are no record's
+item-plain : (r : Request) (vs : List Value) → InForm r → (v : Value) → changeIn r vs ≡ put v → isErrorRecord v ≡ false
+unfolding changeIn newValue
+item-plain r vs h =
+    change-cases (λ (c : Change). (v : Value) → c ≡ put v → isErrorRecord v ≡ false) r (find (requestKey r) vs)
+    (λ v c. absurd (let z : _≡_ {A = ℕ} 0 1 = cc in omega (arith, z)))
+    (λ v c. absurd (let z : _≡_ {A = ℕ} 0 1 = cc in omega (arith, z)))
+    (λ v c.
+    let put-is : newValue r (find (requestKey r) vs) ≡ v = cc in
+    ap isErrorRecord (sym put-is) ∙ record-append (r .attributes) ∙ form-plain (r .attributes) h)
+
+items-plain : (rs : List Request) (vs : List Value) → EachItem InForm rs → EachPut (λ v. isErrorRecord v ≡ false) (changesIn rs vs)
+unfolding changesIn
+items-plain [] vs h = tt
+items-plain (r ∷ rs) vs h = (item-plain r vs (h .0), items-plain rs (step (changeIn r vs) vs) (h .1))
+
+none-recorded : (cs : List Change) → EachPut (λ v. isErrorRecord v ≡ false) cs → any (puts isErrorRecord) cs ≡ false
+none-recorded [] h = refl
+none-recorded (nothing ∷ cs) h = none-recorded cs (h .1)
+none-recorded (remove k ∷ cs) h = none-recorded cs (h .1)
+none-recorded (put v ∷ cs) h = rw (h .0 v refl) (none-recorded cs (h .1))
+
+pub items-unrecorded : (rs : List Request) (vs : List Value) → EachItem InForm rs → any (puts isErrorRecord) (changesIn rs vs) ≡ false
+items-unrecorded rs vs h = none-recorded (changesIn rs vs) (items-plain rs vs h)

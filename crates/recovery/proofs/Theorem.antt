@@ -19,7 +19,7 @@ use Rattle.model.specs.declared.Context.{Context}
 use Rattle.model.specs.Region.{valuesIn}
 use Rattle.model.specs.declared.Rule.{Rule}
 use Rattle.model.specs.declared.Rule.the-variants.{Side}
-use Rattle.model.specs.Lists.{allFF, onSome, isSome, isEmpty}
+use Rattle.model.specs.Lists.{all, allFF, onSome, isSome, isEmpty}
 use Rattle.model.specs.Name.{Key}
 use Rattle.model.specs.Image.{block, blocks, rightLength, regionSize, region, work}
 use Rattle.model.specs.Entry.{Value, keyOf}
@@ -27,15 +27,16 @@ use Rattle.model.specs.Walk.{Entry, stateOf, entryValue}
 use Rattle.model.specs.Region.{entries, tailAt, tail, values, valuesOf, sound, clean, find, added, standing}
 use Rattle.model.specs.Work.{wellFormed, endsInFC, idle, pending, readyForStartUp, readyIn}
 use Rattle.model.specs.Request.{Request}
-use Rattle.model.specs.Change.{Change, nothing, remove, put, changeIn, step, steps, without}
+use Rattle.model.specs.Profile.{itemsIn}
+use Rattle.model.specs.Change.{Change, nothing, remove, put, isNothing, changeIn, changesIn, step, steps, without}
 use Rattle.model.specs.Sides.{allotted}
-use Rattle.model.specs.Rules.{setBroken, startUpBroken}
+use Rattle.model.specs.Rules.{setBroken, profileBroken, startUpBroken}
 use Rattle.model.specs.Stores.{Store, Write, write, clear, stores, run, mark, applyAll, after, reach, Cut}
 use Rattle.model.specs.Compact.{encode, allUsed, nextRecord, compactTo, compactOn, fillSpare}
-use Rattle.model.specs.Set.{Plan, refuse, make, markState, leftover, entryStores, deleteTo, tailTo, tailOn, fitsTail, putPlan, compactPlan, changePlan, changesPlan}
+use Rattle.model.specs.Set.{Plan, refuse, make, markState, leftover, entryStores, deleteTo, tailTo, tailOn, fitsTail, putPlan, compactPlan, changePlan, foldedPlan, changesPlan}
 use Rattle.model.specs.StartUp.{startUpStores, startUpPlan}
 use Rattle.model.specs.Answers.{ruleNumber, done, stopped, refused, outcome, ended, deadOf, pageOf, madeOf, imageAfter, storesOf, decided}
-use Rattle.model.specs.Book.{Call, set, callBroken, Kind, reads, writes, startsUp, kindOf, doing, planOf, Sized, changesBy, entered, counts, bookAfter, Run, begin, ran, cut, StartedUp, MovedInto, Begins, started, moved-in, Agrees, AgreesAll, Demand3}
+use Rattle.model.specs.Book.{Call, set, profile, callBroken, Kind, reads, writes, startsUp, kindOf, doing, planOf, Sized, changesBy, entered, counts, bookAfter, Run, begin, ran, cut, StartedUp, MovedInto, Begins, started, moved-in, Agrees, AgreesAll, Demand3}
 use Rattle.model.proofs.Tests.{or-left, or-right, true-and}
 use Rattle.model.proofs.Stores.{after-all, stores-append}
 use Rattle.model.proofs.Chunks.{Chunked, region-chunked}
@@ -43,8 +44,9 @@ use Rattle.model.proofs.Values.{find-standing}
 use Rattle.recovery.proofs.Cuts.{Safe, cut-at, Goes, goes-nowhere}
 use Rattle.recovery.proofs.EveryCall.{plan-accepted, plan-refused, Accepted, accepted}
 use Rattle.model.proofs.Parts.{Parts, parts-region, parts-work, parts-spare, parts-size, parts-right}
-use Rattle.model.proofs.Changes.{Fitting, steps-valid, steps-distinct}
+use Rattle.model.proofs.Changes.{Fitting, steps-valid, steps-distinct, steps-nothing}
 use Rattle.model.proofs.Encode.{sound-valid, sound-distinct}
+use Rattle.model.proofs.Profiles.{profile-length, profile-ready, profile-fitting}
 use Rattle.model.proofs.Requests.{set-length, set-ready, set-fitting, startUp-length, startUp-ready, startUp-judged}
 use Rattle.recovery.proofs.Invariant.{Holding, in-spare, in-region, holding-blocks}
 use Rattle.recovery.proofs.Compaction.{clean-sound}
@@ -93,8 +95,11 @@ module _ {b : ℕ} {r w s : List ℕ} (p : Parts b r w s) (rested : idle w ≡ t
   abbrev By : Plan → List Change → Type 0
   By plan cs = PlanKept b plan joined-image its-list (steps cs its-list)
 
-  nothing-plan : PlanKept b (make [] []) joined-image its-list its-list
-  nothing-plan = record { to = []; on = []; plan = refl; kept = nothing-kept p rested free cleaned; decides = λ e. refl }
+  -- changes of which none changes anything
+  nothing-plan : (cs : List Change) → all isNothing cs ≡ true → By (make [] []) cs
+  nothing-plan cs e =
+      subst (PlanKept b (make [] []) joined-image its-list) (sym (steps-nothing cs its-list e))
+      (record { to = []; on = []; plan = refl; kept = nothing-kept p rested free cleaned; decides = λ h. refl })
 
   -- a delete of a value that stands has a store
   delete-some : (k : Key) → isSome (find k its-list) ≡ true → isEmpty (deleteTo k (entries r)) ≡ false
@@ -176,14 +181,26 @@ module _ {b : ℕ} {r w s : List ℕ} (p : Parts b r w s) (rested : idle w ≡ t
       }
       go false h = planned-as (put-compact v h) (compact-plan (put v ∷ []) f)
 
-  changes-plan : (cs : List Change) → Fitting cs its-list (block * b) → By (changesPlan joined-image cs) cs
-  unfolding changePlan steps step
-  changes-plan [] f = nothing-plan
-  changes-plan (nothing ∷ []) f = nothing-plan
-  changes-plan (remove k ∷ []) f = remove-plan k (f .there k refl)
-  changes-plan (put v ∷ []) f = put-plan v f
-  changes-plan (c ∷ d ∷ cs) f =
-      planned-as (ap (λ (vs : List Value). compactPlan joined-image (steps (c ∷ d ∷ cs) vs)) its-values) (compact-plan (c ∷ d ∷ cs) f)
+  -- a single change that is not folded in
+  single-plan : (c : Change) → Fitting (c ∷ []) its-list (block * b) → By (changePlan joined-image c) (c ∷ [])
+  unfolding changePlan
+  single-plan nothing f = nothing-plan (nothing ∷ []) refl
+  single-plan (remove k) f = remove-plan k (f .there k refl)
+  single-plan (put v) f = put-plan v f
+
+  folded-plan : (cs : List Change) → Fitting cs its-list (block * b) → By (foldedPlan joined-image cs) cs
+  unfolding foldedPlan
+  folded-plan cs f = go (all isNothing cs) refl
+    where
+      go : (t : Bool) → all isNothing cs ≡ t → By (cond t (make [] []) (compactPlan joined-image (steps cs (valuesOf joined-image)))) cs
+      go true e = nothing-plan cs e
+      go false e = planned-as (ap (λ (vs : List Value). compactPlan joined-image (steps cs vs)) its-values) (compact-plan cs f)
+
+  changes-plan : (fold : Bool) (cs : List Change) → Fitting cs its-list (block * b) → By (changesPlan fold joined-image cs) cs
+  changes-plan fold [] f = nothing-plan [] refl
+  changes-plan true (c ∷ []) f = folded-plan (c ∷ []) f
+  changes-plan false (c ∷ []) f = single-plan c f
+  changes-plan fold (c ∷ d ∷ cs) f = folded-plan (c ∷ d ∷ cs) f
 
 -- ---- the values of a ready image that holds K
 
@@ -207,9 +224,9 @@ kept-as {b} {b₁} {K} {K₁} {K′} {K₁′} {to} {on} {img} {img₁} s e f g 
 -- ---- every kind of call, where no rule is broken
 
 -- changes of a ready image
-writes-kept : (changes : List Value → List Change) (img : List ℕ) (K : List Value) → (i : Ready img) → Fitting (changes (valuesOf img)) (valuesOf img) (regionSize img)
-    → {b : ℕ} → Holding b K img → KindKept (writes changes) img K
-writes-kept changes img K i f holds =
+writes-kept : (fold : Bool) (changes : List Value → List Change) (img : List ℕ) (K : List Value) → (i : Ready img)
+    → Fitting (changes (valuesOf img)) (valuesOf img) (regionSize img) → {b : ℕ} → Holding b K img → KindKept (writes fold changes) img K
+writes-kept fold changes img K i f holds =
     let p = i .parts in
     let held = ready-values img K i holds in
     -- the values and the region's size by parts
@@ -219,11 +236,11 @@ writes-kept changes img K i f holds =
     let asked : cs ≡ changes K = ap changes held in
     let fits : Fitting cs (values (entries (i .r))) (block * i .b) =
     subst (Fitting cs (values (entries (i .r)))) (ap regionSize (i .whole) ∙ parts-size p) (subst (λ (vs : List Value). Fitting cs vs (regionSize img)) same f) in
-    let k = changes-plan p (i .rested) (i .free) (i .cleaned) cs fits in
+    let k = changes-plan p (i .rested) (i .free) (i .cleaned) fold cs fits in
     record {
       to = k .to;
       on = k .on;
-      plan = ap (λ (x : List ℕ). changesPlan x cs) (i .whole) ∙ k .plan;
+      plan = ap (λ (x : List ℕ). changesPlan fold x cs) (i .whole) ∙ k .plan;
       kept = kept-as (sym (ready-blocks img i)) here (ap (steps cs) here ∙ ap (λ (x : List Change). steps x K) asked) (sym (i .whole)) (k .kept);
       decides = λ h. ap (λ (x : List Change). steps x K) (sym asked) ∙ ap (steps cs) (sym here) ∙ k .decides h ∙ here;
     }
@@ -244,7 +261,7 @@ unfolding steps
 kind-kept reads img K a holds =
     let ready = ready-of img (a .0) (a .1) in
     leaving-kept img K [] img (goes-nowhere (Holding (blocks img) K) img) ready refl (ready-values img K ready holds)
-kind-kept (writes changes) img K a holds = writes-kept changes img K (ready-of img (a .long) (a .ready)) (a .fitting) holds
+kind-kept (writes fold changes) img K a holds = writes-kept fold changes img K (ready-of img (a .long) (a .ready)) (a .fitting) holds
 kind-kept (startsUp setup) img K a holds =
     let up = startUp-holding (blocks img) K img holds in
     leaving-kept img K (startUpStores img) (up .end) (up .goes) (up .ready) (up .sized) (up .held)
@@ -261,7 +278,13 @@ call-kept c img K sized e holds = from-kind c img K e (kind-kept (kindOf c) img 
 pub set-kept : (m : Bool) (s : Session) (r : Request) (img : List ℕ) (K : List Value) → setBroken m s r img ≡ none → length (r .vendor) ≡ 16 → {b : ℕ} → Holding b K img → CallKept (set m s r) img K
 set-kept m s r img K e long holds =
     let ready = ready-of img (set-length m s r img e) (set-ready m s r img e) in
-    from-kind (set m s r) img K e (writes-kept (λ vs. changeIn r vs ∷ []) img K ready (set-fitting m s r img e long) holds)
+    from-kind (set m s r) img K e (writes-kept false (λ vs. changeIn r vs ∷ []) img K ready (set-fitting m s r img e long) holds)
+
+-- of a profile likewise
+pub profile-kept : (m : Bool) (s : Session) (file img : List ℕ) (K : List Value) → profileBroken m s file img ≡ none → {b : ℕ} → Holding b K img → CallKept (profile m s file) img K
+profile-kept m s file img K e holds =
+    let ready = ready-of img (profile-length m s file img e) (profile-ready m s file img e) in
+    from-kind (profile m s file) img K e (writes-kept true (changesIn (itemsIn file)) img K ready (profile-fitting m s file img e) holds)
 
 -- in a run a start-up finds the book, and is refused where the book does not keep to its shares, and there only
 holding-right : {b : ℕ} (K : List Value) (img : List ℕ) → Holding b K img → (rightLength img ≡ true) × (readyForStartUp img ≡ true)
@@ -491,7 +514,7 @@ startUp-values K img holds u x count h = ap valuesOf (finished u x count img h .
 
 agrees : {b : ℕ} (K : List Value) (img : List ℕ) → Holding b K img → (k : Kind) (x : Context) → Agrees k x img K
 agrees K img holds reads x = tt
-agrees K img holds (writes changes) x = tt
+agrees K img holds (writes fold changes) x = tt
 agrees K img holds (startsUp setup) x = λ count h. startUp-values K img holds setup x count h
 
 agrees-all : (start : List ℕ) → Begins start → {img : List ℕ} {book : List Value} → (r : Run start img book) → AgreesAll r

@@ -8,7 +8,7 @@ use lib.ListN.{length}
 use lib.Dec.{leb}
 use Rattle.model.specs.declared.Context.{Context}
 use Rattle.model.specs.declared.Rule.{Rule}
-use Rattle.model.specs.Lists.{allFF, onSome}
+use Rattle.model.specs.Lists.{all, allFF, onSome}
 use Rattle.model.specs.Image.{block, blocks, regionSize, regionHeader, region, work, spare}
 use Rattle.model.specs.Name.{Key}
 use Rattle.model.specs.Layout.{authenticated, stateAt}
@@ -16,18 +16,18 @@ use Rattle.model.specs.Entry.{headerSize, Value, keyOf, headerFront, headerRest
 use Rattle.model.specs.Walk.{Entry, stateOf}
 use Rattle.model.specs.Region.{entries, tailAt, tail, valuesOf, added, replacing, standing}
 use Rattle.model.specs.Work.{usedRecords, pending, idle}
-use Rattle.model.specs.Change.{Change, nothing, remove, put, step, steps}
+use Rattle.model.specs.Change.{Change, nothing, remove, put, isNothing, step, steps}
 use Rattle.model.specs.Rules.{formatBroken}
 use Rattle.model.specs.Stores.{Store, byte, erase, Write, header, clear, stores, storesOne, todaysOne, bytewise, applyAll, after, run, mark, erases}
 use Rattle.model.specs.Compact.{encode, allUsed, nextRecord, fillSpare, finish, compactTo, compactOn}
-use Rattle.model.specs.Set.{Plan, refuse, make, markState, leftover, entryStores, tailTo, tailOn, deleteTo, fitsTail, putPlan, changePlan, changesPlan}
+use Rattle.model.specs.Set.{Plan, refuse, make, markState, leftover, entryStores, tailTo, tailOn, deleteTo, fitsTail, putPlan, compactPlan, changePlan, foldedPlan, changesPlan}
 use Rattle.model.specs.StartUp.{resume, tidySpare, tidyWork, tidyTail, andThen, startUpStores, formatStores, formatPlan}
 use Rattle.model.specs.Answers.{done, stopped, storesOf, pageOf, outcome}
 use Rattle.model.specs.Book.{Call, callBroken, Kind, reads, writes, startsUp, kindOf, doing, planOf}
 use Rattle.model.proofs.Stores.{stores-append, stores-one, stores-run, stores-mark, pages-bytewise, one-today, stores-todays, left-today}
 use Rattle.model.proofs.Failing.{outcome-none, image-none}
 use Rattle.model.proofs.Encode.{length-front}
-use Rattle.recovery.specs.Today.{TodaysStores, erasesToday, stateMark, leftoverToday, entryToday, tailToday, deleteToday, finishToday, compactToday, changeToday, resumeToday, spareToday, workToday, restToday, thenToday, startUpToday, formatToday, changesToday, doingToday, callToday, TodaysSequence, answerToday, TodaysAnswers}
+use Rattle.recovery.specs.Today.{TodaysStores, erasesToday, stateMark, leftoverToday, entryToday, tailToday, deleteToday, finishToday, compactToday, changeToday, resumeToday, spareToday, workToday, restToday, thenToday, startUpToday, formatToday, foldedToday, changesToday, doingToday, callToday, TodaysSequence, answerToday, TodaysAnswers}
 
 -- ---- any writes
 
@@ -174,16 +174,23 @@ is-format : (img : List ℕ) → Is (formatStores img) (formatToday img)
 unfolding formatStores formatToday
 is-format img = is-append (is-erases 0 (2 * blocks img + 1)) (is-run 0 (regionHeader (regionSize img)))
 
-changes-today : (img : List ℕ) (cs : List Change) → storesOf 1 (changesPlan img cs) ≡ changesToday img cs
+folded-today : (img : List ℕ) (cs : List Change) → storesOf 1 (foldedPlan img cs) ≡ foldedToday img cs
+unfolding foldedPlan foldedToday storesOf stores
+folded-today img cs =
+    plan-cond (all isNothing cs) (make [] []) (compactPlan img (steps cs (valuesOf img))) [] (compactToday img (steps cs (valuesOf img))) refl
+    (is-compact img (steps cs (valuesOf img)) .is)
+
+changes-today : (fold : Bool) (img : List ℕ) (cs : List Change) → storesOf 1 (changesPlan fold img cs) ≡ changesToday fold img cs
 unfolding storesOf stores
-changes-today img [] = refl
-changes-today img (c ∷ []) = change-today img c
-changes-today img (c ∷ d ∷ cs) = is-compact img (steps (c ∷ d ∷ cs) (valuesOf img)) .is
+changes-today fold img [] = refl
+changes-today true img (c ∷ []) = folded-today img (c ∷ [])
+changes-today false img (c ∷ []) = change-today img c
+changes-today fold img (c ∷ d ∷ cs) = folded-today img (c ∷ d ∷ cs)
 
 doing-today : (k : Kind) (img : List ℕ) → storesOf 1 (doing k img) ≡ doingToday k img
 unfolding storesOf stores
 doing-today reads img = refl
-doing-today (writes changes) img = changes-today img (changes (valuesOf img))
+doing-today (writes fold changes) img = changes-today fold img (changes (valuesOf img))
 doing-today (startsUp setup) img = is-startUp img .is
 
 call-today : (c : Call) (img : List ℕ) → storesOf 1 (planOf c img) ≡ callToday c img

@@ -3,7 +3,7 @@
 use Prim.Native.Nat.{ℕ, _+_, _*_, _≤_}
 use native.Mathlib.Omega.{arith}
 use mathlib.Core.Path.{_≡_, refl, sym, ap, _∙_, subst}
-use mathlib.Core.Bool.{Bool, true, false, not, cond, _&&_, _||_}
+use mathlib.Core.Bool.{Bool, true, false, not, cond, _&&_, _||_, true≢false}
 use mathlib.Core.List.{List, [], _∷_}
 use mathlib.Core.Option.{Option, none, some}
 use lib.Dec.{ltb}
@@ -19,21 +19,24 @@ use Rattle.model.specs.Region.{valuesOf}
 use Rattle.model.specs.Work.{readyForCall}
 use Rattle.model.specs.Session.{shareOf, reserved}
 use Rattle.model.specs.Request.{Request, requestKey}
-use Rattle.model.specs.Change.{Change, changeIn, steps, spaceOf, isErrorRecord, recordSizes}
+use Rattle.model.specs.Profile.{itemsIn}
+use Rattle.model.specs.Change.{Change, changeIn, changesIn, steps, spaceOf, isErrorRecord, recordSizes}
 use Rattle.model.specs.Sides.{sideSizes, allotted}
-use Rattle.model.specs.Rules.{puts, rule6, rule13, rule18, rule22, termsIf, termsOf, imageRulesIn, requestRules, standingRules, resultRules, itemRules, settingRules, roomRules, setBroken}
+use Rattle.model.specs.Rules.{puts, rule6, rule13, rule18, rule22, termsIf, termsFor, termsOf, imageRulesIn, requestRules, standingRules, resultRules, itemRules, settingRules, roomRules, setBroken, profileBroken}
 use Rattle.model.specs.Set.{Plan, refuse}
 use Rattle.model.specs.Answers.{outcome, madeOf, pageOf, decided}
-use Rattle.model.specs.Book.{Call, set, get, next, startUp, several, Sized, callBroken, planOf, entered, counts, bookAfter, Run, begin, ran, cut, Begins}
+use Rattle.model.specs.Book.{Call, set, get, next, startUp, several, profile, Sized, callBroken, planOf, entered, counts, bookAfter, Run, begin, ran, cut, Begins}
 use Rattle.model.proofs.Tests.{or-split}
 use Rattle.model.proofs.Requests.{unbroken, set-length, set-ready, set-own}
+use Rattle.model.proofs.Files.{file-form}
+use Rattle.model.proofs.Profiles.{profile-length, profile-ready, profile-items, profile-room}
 use Rattle.recovery.specs.Claims.{SameShares, InShares, AllInShares, SharesKept}
 use Rattle.recovery.proofs.Invariant.{Holding, holding-blocks}
 use Rattle.recovery.proofs.EveryCall.{plan-refused}
 use Rattle.recovery.proofs.StartingUp.{ready-of}
 use Rattle.recovery.proofs.Theorem.{ready-values, run-holds, book-cond}
 use Rattle.recovery.proofs.Shares.{Within, KeepsTo, within-of, within-is, steps-within}
-use Rattle.recovery.proofs.Owned.{change-about, item-own}
+use Rattle.recovery.proofs.Owned.{change-about, item-own, items-about, items-unrecorded}
 use Rattle.recovery.proofs.Claims.{startUp-never-refused}
 
 -- ---- a call that breaks no rule keeps to the shares of its session
@@ -65,6 +68,18 @@ set-keeps m s r img e =
       own = (change-about (s .setup .modem .vendor) m true r (valuesOf img) (item-own m s r (valuesOf img) (set-own m s r img e)), tt);
       few = few-kept m s foreign barred cs (valuesOf img) f;
       room = room-kept m s foreign barred cs (valuesOf img) (regionSize img) h;
+    }
+
+-- no item of a profile puts an error record
+pub profile-keeps : (m : Bool) (s : Session) (file img : List ℕ) → profileBroken m s file img ≡ none
+    → KeepsTo (s .setup) m (changesIn (itemsIn file) (valuesOf img)) (valuesOf img)
+unfolding termsFor
+profile-keeps m s file img e =
+    let cs = changesIn (itemsIn file) (valuesOf img) in
+    record {
+      own = items-about m s (itemsIn file) (valuesOf img) (profile-items m s file img e);
+      few = λ h. absurd (true≢false (sym h ∙ items-unrecorded (itemsIn file) (valuesOf img) (file-form file)));
+      room = room-kept m s false false cs (valuesOf img) (regionSize img) (profile-room m s file img e);
     }
 
 -- ---- the book of a run keeps to the shares
@@ -108,6 +123,8 @@ entered-within u (get m s k buffer) img K sized shares e holds w = w
 entered-within u (next m s k buffer) img K sized shares e holds w = w
 entered-within u (startUp setup) img K sized shares e holds w = w
 entered-within u (several m s ks buffer) img K sized shares e holds w = w
+entered-within u (profile m s file) img K sized shares e holds w =
+    changed-within u s m (changesIn (itemsIn file)) img K shares (profile-length m s file img e) (profile-ready m s file img e) (profile-keeps m s file img e) holds w
 
 -- of any call, by what the book is fed: nothing of one that is refused
 module _ {b : ℕ} (u : Setup) (c : Call) (img : List ℕ) (K : List Value) (sized : Sized c) (shares : InShares u c) (holds : Holding b K img) (w : Within u (regionSize img) K) where

@@ -16,25 +16,28 @@ use lib.Dec.{eqb, leb}
 use borrow.Author.Tests.{eqb-true, leb-false, le-leb, lt-ltb}
 use Rattle.model.specs.declared.Session.{Session}
 use Rattle.model.specs.Layout.{authenticated}
-use Rattle.model.specs.Lists.{allFF}
+use Rattle.model.specs.Lists.{all, allFF}
 use Rattle.model.specs.Image.{block, blocks, rightLength, regionSize, region, work, spare}
 use Rattle.model.specs.Entry.{Value}
 use Rattle.model.specs.Region.{entries, values, valuesOf, valuesIn, sound, clean, tail}
 use Rattle.model.specs.Work.{recordSpace, usedRecords, idle, pending}
 use Rattle.model.specs.Request.{Request}
-use Rattle.model.specs.Change.{put, changeIn, step, spaceOf}
-use Rattle.model.specs.Rules.{setBroken}
+use Rattle.model.specs.Profile.{itemsIn}
+use Rattle.model.specs.Change.{Change, put, isNothing, changeIn, changesIn, step, steps, spaceOf}
+use Rattle.model.specs.Rules.{setBroken, profileBroken}
 use Rattle.model.specs.Stores.{Store, page, erase, Write, write, header, clear, pages, stores, storesOne, apply, applyAll, leftBy, leftByOne, run, mark, erases, Every, widthOf}
 use Rattle.model.specs.Compact.{encode, allUsed, nextRecord, fillSpare, finish, compactTo, compactOn}
-use Rattle.model.specs.Set.{changePlan, putPlan, fitsTail}
+use Rattle.model.specs.Set.{make, changePlan, putPlan, fitsTail, compactPlan, foldedPlan, changesPlan}
 use Rattle.model.specs.Answers.{storesOf}
 use Rattle.model.specs.StartUp.{resume, tidySpare, tidyWork, tidyTail, andThen, startUpStores}
-use Rattle.model.specs.Book.{setPlan, planOf, isRecord}
+use Rattle.model.specs.Book.{setPlan, profilePlan, planOf, isRecord}
 use Rattle.model.proofs.Parts.{Parts, right-parts, parts-blocks, parts-size, parts-region, parts-work, parts-spare}
 use Rattle.model.proofs.Chunks.{region-chunked}
 use Rattle.model.proofs.Encode.{AllValid, encode-length, sound-valid, sound-fits, put-valid}
 use Rattle.model.proofs.WorkBlock.{work-last}
+use Rattle.model.proofs.Changes.{Fitting, steps-valid}
 use Rattle.model.proofs.Requests.{set-length, set-ready, put-is-valid, put-fits}
+use Rattle.model.proofs.Profiles.{profile-length, profile-ready, profile-fitting}
 use Rattle.model.proofs.Stores.{applyAll-append, stores-append, stores-mark, pages-sets, one-left, every-map}
 use Rattle.recovery.proofs.Cuts.{every-append}
 use Rattle.recovery.proofs.Compaction.{mul-add-one, clean-sound}
@@ -156,9 +159,26 @@ tidy-whole n img l h = go (allFF (tail (region img)))
         let v = values-valid img (i .parts) (i .whole) (ap sound (sym (ap region (i .whole) ∙ parts-region (i .parts))) ∙ h) in
         compaction-whole n img (valuesOf img) (v .0) (v .1)
 
+-- changes folded in
+folded-whole : (n : ℕ) (img : List ℕ) (cs : List Change) → AllValid authenticated (valuesOf img) → Fitting cs (valuesOf img) (regionSize img)
+    → Every (WholeOrRecord (widthOf n) img) (storesOf (widthOf n) (foldedPlan img cs))
+unfolding foldedPlan storesOf stores
+folded-whole n img cs valid f = go (all isNothing cs)
+  where
+    go : (t : Bool) → Every (WholeOrRecord (widthOf n) img) (storesOf (widthOf n) (cond t (make [] []) (compactPlan img (steps cs (valuesOf img)))))
+    go true = tt
+    go false = compaction-whole n img (steps cs (valuesOf img)) (steps-valid cs (valuesOf img) (f .valid) valid) (f .room)
+
+changes-whole : (n : ℕ) (img : List ℕ) (cs : List Change) → AllValid authenticated (valuesOf img) → Fitting cs (valuesOf img) (regionSize img)
+    → Every (WholeOrRecord (widthOf n) img) (storesOf (widthOf n) (changesPlan true img cs))
+unfolding storesOf stores
+changes-whole n img [] valid f = tt
+changes-whole n img (c ∷ []) valid f = folded-whole n img (c ∷ []) valid f
+changes-whole n img (c ∷ d ∷ cs) valid f = folded-whole n img (c ∷ d ∷ cs) valid f
+
 pub whole-pages-stored : WholePagesStored
 unfolding planOf changePlan putPlan storesOf
-whole-pages-stored n img = (of-set, tidy-whole n img, resume-whole n img)
+whole-pages-stored n img = (of-set, tidy-whole n img, resume-whole n img, of-profile)
   where
     of-set : (m : Bool) (s : Session) (r : Request) (v : Value) → length (r .vendor) ≡ 16 → setBroken m s r img ≡ none → changeIn r (valuesOf img) ≡ put v
         → fitsTail (region img) v ≡ false → Every (WholeOrRecord (widthOf n) img) (storesOf (widthOf n) (setPlan m s r img))
@@ -168,6 +188,13 @@ whole-pages-stored n img = (of-set, tidy-whole n img, resume-whole n img)
         rw (accepted, asked, short)
         (compaction-whole n img (step (put v) (valuesOf img)) (put-valid authenticated v (valuesOf img) (put-is-valid m s r img accepted v asked long) valid)
         (put-fits m s r img accepted v asked))
+
+    of-profile : (m : Bool) (s : Session) (file : List ℕ) → profileBroken m s file img ≡ none
+        → Every (WholeOrRecord (widthOf n) img) (storesOf (widthOf n) (profilePlan m s file img))
+    of-profile m s file accepted =
+        let i = ready-of img (profile-length m s file img accepted) (profile-ready m s file img accepted) in
+        let valid = values-valid img (i .parts) (i .whole) (clean-sound (i .r) (i .cleaned)) .0 in
+        rw accepted (changes-whole n img (changesIn (itemsIn file) (valuesOf img)) valid (profile-fitting m s file img accepted))
 
 -- ---- what writes leave
 

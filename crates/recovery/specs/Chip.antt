@@ -13,12 +13,12 @@ use Rattle.model.specs.Region.{sound, valuesOf}
 use Rattle.model.specs.Work.{pending}
 use Rattle.model.specs.Request.{Request}
 use Rattle.model.specs.Change.{put, changeIn}
-use Rattle.model.specs.Rules.{setBroken}
+use Rattle.model.specs.Rules.{setBroken, profileBroken}
 use Rattle.model.specs.Stores.{Store, page, erase, Write, write, header, clear, stores, applyAll, leftBy, leftByOne, mark, byte, Every, widthOf}
 use Rattle.model.specs.Set.{fitsTail}
 use Rattle.model.specs.Answers.{storesOf}
 use Rattle.model.specs.StartUp.{resume, tidyTail, startUpStores}
-use Rattle.model.specs.Book.{setPlan, isRecord}
+use Rattle.model.specs.Book.{setPlan, profilePlan, isRecord}
 
 -- "The new flash stores up to w bytes at a time, within one page of w": whatever is written
 abbrev pub OnePage : ℕ → Store → Type 0
@@ -40,7 +40,7 @@ WholeOrRecord w img (erase b) = Unit {0}
 abbrev pub InWholePages : ℕ → List ℕ → List Write → Type 0
 InWholePages n img ws = Every (WholeOrRecord (widthOf n) img) (stores (widthOf n) ws)
 
--- there are three: a set's, where its entry does not fit in the tail; a start-up's with no change; and the one that a start-up resumes
+-- there are four: a set's, where its entry does not fit in the tail; a start-up's with no change; the one that a start-up resumes; and a profile's, if something differs
 abbrev pub WholePagesStored : Type 0
 WholePagesStored =
     (n : ℕ) (img : List ℕ)
@@ -52,6 +52,9 @@ WholePagesStored =
     → Every (WholeOrRecord (widthOf n) img) (storesOf (widthOf n) (setPlan m s r img)))
     × (rightLength img ≡ true → sound (region img) ≡ true → InWholePages n img (tidyTail img))
     × (rightLength img ≡ true → InWholePages n img (resume img))
+    × ((m : Bool) (s : Session) (file : List ℕ)
+    → profileBroken m s file img ≡ none
+    → Every (WholeOrRecord (widthOf n) img) (storesOf (widthOf n) (profilePlan m s file img)))
 
 -- what is written leaves the same for every w, where the state of each header that is written is blank, as it is in a blank tail
 abbrev pub StateBlank : Write → List ℕ → Type 0

@@ -17,12 +17,14 @@ use Rattle.model.specs.Entry.{Value}
 use Rattle.model.specs.Region.{valuesOf, find}
 use Rattle.model.specs.Session.{freshSession}
 use Rattle.model.specs.Request.{Request, requestKey}
+use Rattle.model.specs.Profile.{itemsIn}
 use Rattle.model.specs.Limits.{limitsFor}
 use Rattle.model.specs.Sides.{allotted}
 use Rattle.model.specs.Stores.{Bytes, stores, applyAll, Cut}
 use Rattle.model.specs.StartUp.{startUpPlan}
 use Rattle.model.specs.Answers.{Outcome, done, refused}
-use Rattle.model.specs.Book.{Call, set, planOf, Sized, bookAfter}
+use Rattle.model.specs.Book.{Call, set, profile, planOf, Sized, bookAfter}
+use Rattle.model.specs.Beside.{EachItem}
 use Rattle.plan.specs.declared.HostPlan.{HostPlan}
 use Rattle.plan.specs.Told.{expandNumbers, Told}
 use Rattle.recovery.specs.Claims.{forbidden, InShares}
@@ -34,8 +36,8 @@ use Rattle.recovery.specs.Interface.{MoveReturned, InSession, Apart}
 abbrev pub StartUpPlanned : Setup → List ℕ → List ℕ → HostPlan → Type 0
 StartUpPlanned setup part content p = Told (startUpPlan setup part) content p
 
--- A call was planned over these bytes. `vs_plan_set` ensures it of its own arguments. It and `vs_plan_start_up` require nothing, so such a plan exists for every set
--- and every start-up, on any part. A get, next-name or many-get has no planning function: as a step its plan is its refusal, or operations without a store.
+-- A call was planned over these bytes. `vs_plan_set` and `vs_plan_profile` ensure it of their own arguments. They and `vs_plan_start_up` require nothing, so such a plan
+-- exists for every set, every profile and every start-up, on any part. A get, next-name or many-get has no planning function: as a step its plan is its refusal, or operations without a store.
 abbrev pub PlannedFor : Call → List ℕ → List ℕ → HostPlan → Type 0
 PlannedFor c part content p = Told (planOf c part) content p
 
@@ -54,7 +56,7 @@ decidingDone w k content p =
 -- * the power fails: of the stores told the first k are complete and the next may be begun, as `Cut` says, and the book moves if the deciding operation was complete
 --   ("or had that store complete"). A host that gives a plan up between two stores is of this kind too, and so is one whose part fails at a store, because a byte
 --   there has died: the stores before it are complete, and of its own bits none or some are cleared.
--- `bookAfter` moves the book for a set only ("only a set .. changes it").
+-- `bookAfter` moves the book for a set ("only a set .. changes it") and a profile only.
 pub data Hosting (start : List ℕ) : List ℕ → List Value → Type 0 where
   none-yet : Hosting start start (valuesOf start)
   carried-out : {part : List ℕ}
@@ -130,6 +132,16 @@ HostKeepsSettings =
     → p .rule ≡ 0
     → (w : ℕ)
     → forbidden (limitsFor setup (requestKey r)) (find (requestKey r) (valuesOf (carriedOut w content p part))) ≡ false
+
+-- and so what a profile leaves under the name of each of its items.
+abbrev pub HostKeepsProfileSettings : Type 0
+HostKeepsProfileSettings =
+    (setup : Setup) (m : Bool) (s : Session) (file part content : List ℕ) (p : HostPlan)
+    → InSession setup s
+    → PlannedFor (profile m s file) part content p
+    → p .rule ≡ 0
+    → (w : ℕ)
+    → EachItem (λ r. forbidden (limitsFor setup (requestKey r)) (find (requestKey r) (valuesOf (carriedOut w content p part))) ≡ false) (itemsIn file)
 
 -- 02 (f), of a host: a call was planned over the part's bytes and carried out with some w; the rule told is the answer, its number of stores aside. A get,
 -- next-name or many-get, whose plan has no store, is carried out by doing nothing, and hands out what its function ensures.

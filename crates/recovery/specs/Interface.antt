@@ -16,16 +16,18 @@ use Rattle.model.specs.Entry.{Value}
 use Rattle.model.specs.Region.{valuesOf, find}
 use Rattle.model.specs.Session.{freshSession, movedTo}
 use Rattle.model.specs.Request.{Request, requestKey}
+use Rattle.model.specs.Profile.{itemsIn}
 use Rattle.model.specs.Limits.{limitsFor}
 use Rattle.model.specs.Stores.{Bytes, Cut}
 use Rattle.model.specs.Answers.{Outcome, done, answerOf, outcome, imageAfter, madeOf, pageOf, storesOf, decided, lockOutcome, lockSession}
 use Rattle.model.specs.Move.{moveAnswer, imageMoved}
-use Rattle.model.specs.Book.{Call, set, startUp, planOf, Sized, counts, bookAfter}
+use Rattle.model.specs.Book.{Call, set, startUp, profile, planOf, Sized, counts, bookAfter}
+use Rattle.model.specs.Beside.{EachItem}
 use Rattle.recovery.specs.Claims.{forbidden}
 use Rattle.recovery.specs.Tenants.{World, Asked, callOf, Event, calls, locks, moves, Fitting, no-more, handed, Told, toItsEnd, butStores, isOf, sees}
 
--- A call of the interface has returned: its arguments, its context, the image before and after, and the answer. `engine::write::set`, `engine::read::get` and `next_name` and
--- `engine::many::get_many`, which are lent the image shared, and `engine::start::start_up` ensure it of their own arguments, in every session that says what they are given.
+-- A call of the interface has returned: its arguments, its context, the image before and after, and the answer. `engine::write::set`, `engine::items::profile`,
+-- `engine::read::get` and `next_name` and `engine::many::get_many`, which are lent the image shared, and `engine::start::start_up` ensure it of their own arguments, in every session that says what they are given.
 abbrev pub Returned : Call → Context → List ℕ → List ℕ → Answer → Type 0
 Returned c x img img′ a = (answerOf a ≡ outcome x (planOf c img) img) × (img′ ≡ imageAfter x (planOf c img) img)
 
@@ -95,6 +97,14 @@ InterfaceKeepsSettings =
     → length (r .vendor) ≡ 16
     → Returned (set m s r) x img img′ (Done stores)
     → forbidden (limitsFor setup (requestKey r)) (find (requestKey r) (valuesOf img′)) ≡ false
+
+-- and so what a profile leaves under the name of each of its items.
+abbrev pub InterfaceKeepsProfileSettings : Type 0
+InterfaceKeepsProfileSettings =
+    (setup : Setup) (m : Bool) (s : Session) (file : List ℕ) (x : Context) (img img′ : List ℕ) (stores : ℕ)
+    → InSession setup s
+    → Returned (profile m s file) x img img′ (Done stores)
+    → EachItem (λ r. forbidden (limitsFor setup (requestKey r)) (find (requestKey r) (valuesOf img′)) ≡ false) (itemsIn file)
 
 -- A session in use, by what it is that a call has run (the call, the image before and after, its answer): since its start-up, calls of either side ran to their end, each on the
 -- image as the last left it, names were locked, and the phase was moved.

@@ -23,19 +23,20 @@ use Rattle.model.specs.Query.{storageFor, remainingFor, largestFor, queryOutcom
 use Rattle.model.specs.Set.{Plan}
 use Rattle.model.specs.StartUp.{startUpPlan}
 use Rattle.model.specs.Answers.{Outcome, done, stopped, refused, outcome, imageAfter, Reply, Gots, getReply, getsReply, nextReply, lockOutcome, lockSession}
-use Rattle.model.specs.Book.{Call, set, get, next, several, Sized, planOf}
+use Rattle.model.specs.Book.{Call, set, get, next, several, profile, Sized, planOf}
 
 -- a session in use, and its image
 pub record World : Type 0 where
   pub session : Session
   pub image : List ℕ
 
--- what a side asks in it of the image: a set, with deletes and appends among them; a get, with the caller's buffer; a next-name; a many-get
+-- what a side asks in it of the image: a set, with deletes and appends among them; a get, with the caller's buffer; a next-name; a many-get; a profile
 pub data Asked : Type 0 where
   sets : Request → Asked
   reads : Key → List ℕ → Asked
   names : Key → List ℕ → Asked
   reads-each : List Key → List ℕ → Asked
+  profiles : List ℕ → Asked
 
 -- it is a call of that side in that session
 abbrev pub callOf : Bool → Session → Asked → Call
@@ -43,6 +44,7 @@ callOf m s (sets r) = set m s r
 callOf m s (reads k buffer) = get m s k buffer
 callOf m s (names k buffer) = next m s k buffer
 callOf m s (reads-each ks buffer) = several m s ks buffer
+callOf m s (profiles file) = profile m s file
 
 -- what happens in it: a side's call; a side's lock; or the phase is moved, which is neither side's: "with the phase given"
 pub data Event : Type 0 where
@@ -83,6 +85,7 @@ handed m s (sets r) img = no-more
 handed m s (reads k buffer) img = replied (getReply m s k buffer img)
 handed m s (names k buffer) img = replied (nextReply m s k buffer img)
 handed m s (reads-each ks buffer) img = each (getsReply m s ks buffer img)
+handed m s (profiles file) img = no-more
 
 unfoldable pub reply : Event → World → Handed
 reply (calls m a) w = handed m (w .session) a (w .image)
@@ -182,7 +185,7 @@ allOurs u vs = all (λ v. owns (u .modem .vendor) false (keyOf v) && not (isErro
 abbrev pub rule13Alone : Session → ℕ → List Change → List Value → Bool
 rule13Alone s size cs vs = any (puts (λ v. true)) cs && ltb size (spaceOf (steps cs vs) + reserved false s)
 
--- So over values that are ours and no error records our sets of such values meet 13 just where 01 says, and not 18, and no start-up on them meets 22 if they fit.
+-- So over values that are ours and no error records our sets and profiles of such values meet 13 just where 01 says, and not 18, and no start-up on them meets 22 if they fit.
 abbrev pub AsIn01 : Type 0
 AsIn01 =
     (s : Session) (size : ℕ)

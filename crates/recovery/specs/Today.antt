@@ -2,12 +2,12 @@
 -- definitions of `model` give them with w = 1 and, where no byte is dead, 01's answers and images.
 use Prim.Native.Nat.{ℕ, zero, suc, _+_, _*_, _-_}
 use mathlib.Core.Path.{_≡_}
-use mathlib.Core.Bool.{cond}
+use mathlib.Core.Bool.{Bool, cond}
 use mathlib.Core.List.{List, [], _∷_, _++_}
 use lib.ListN.{length}
 use lib.Dec.{leb}
 use Rattle.model.specs.declared.Context.{Context}
-use Rattle.model.specs.Lists.{allFF, onSome}
+use Rattle.model.specs.Lists.{all, allFF, onSome}
 use Rattle.model.specs.Image.{block, blocks, regionSize, regionHeader, region, work, spare}
 use Rattle.model.specs.Name.{Key}
 use Rattle.model.specs.Layout.{stateAt}
@@ -15,7 +15,7 @@ use Rattle.model.specs.Entry.{headerSize, Value, keyOf, headerFront, headerRest
 use Rattle.model.specs.Walk.{Entry, stateOf}
 use Rattle.model.specs.Region.{entries, tailAt, tail, valuesOf, added, replacing, standing}
 use Rattle.model.specs.Work.{usedRecords, pending, idle}
-use Rattle.model.specs.Change.{Change, nothing, remove, put, step, steps}
+use Rattle.model.specs.Change.{Change, nothing, remove, put, isNothing, step, steps}
 use Rattle.model.specs.Rules.{formatBroken}
 use Rattle.model.specs.Stores.{Store, byte, erase, Write, stores, bytewise, todays, applyAll, after}
 use Rattle.model.specs.Compact.{encode, allUsed, nextRecord}
@@ -89,11 +89,14 @@ changeToday img (put v) =
     (tailToday (tailAt (region img)) v (entries (region img)))
     (compactToday img (step (put v) (valuesOf img)))
 
--- of several changes one compaction, with all of them folded in
-abbrev pub changesToday : List ℕ → List Change → List Store
-changesToday img [] = []
-changesToday img (c ∷ []) = changeToday img c
-changesToday img (c ∷ d ∷ cs) = compactToday img (steps (c ∷ d ∷ cs) (valuesOf img))
+-- 02 (l), "The whole profile is one compaction, or no stores if nothing differs": changes folded in
+unfoldable pub foldedToday : List ℕ → List Change → List Store
+foldedToday img cs = cond (all isNothing cs) [] (compactToday img (steps cs (valuesOf img)))
+
+abbrev pub changesToday : Bool → List ℕ → List Change → List Store
+changesToday fold img [] = []
+changesToday fold img (c ∷ []) = cond fold (foldedToday img (c ∷ [])) (changeToday img c)
+changesToday fold img (c ∷ d ∷ cs) = foldedToday img (c ∷ d ∷ cs)
 
 -- "Start-up: if pending, resume at the erase of the region. Then erase the spare's blocks if it is not all FF, the work block if it is not well formed or ends in FC, and
 -- compact with no change if the tail is not all FF."
@@ -122,7 +125,7 @@ formatToday img = erasesToday 0 (2 * blocks img + 1) ++ bytewise 0 (regionHeader
 -- by kinds: a get or a next-name makes no stores,
 abbrev pub doingToday : Kind → List ℕ → List Store
 doingToday reads img = []
-doingToday (writes changes) img = changesToday img (changes (valuesOf img))
+doingToday (writes fold changes) img = changesToday fold img (changes (valuesOf img))
 doingToday (startsUp setup) img = startUpToday img
 
 -- and neither does a refused call
