@@ -29,3 +29,5 @@ pub mod Settings
 pub mod Tenants
 -- 02 (g): many-gets
 pub mod Many
+-- 02 (l): profiles
+pub mod Profiles
