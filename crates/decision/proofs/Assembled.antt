@@ -40,7 +40,7 @@ use Rattle.policy.specs.Descriptor.{stampOf}
 use Rattle.policy.proofs.Descriptor.{stamp-right, proper-drop}
 use Rattle.decision.specs.declared.Decision.{Decision}
 use Rattle.decision.specs.declared.Decision.the-variants.{Broken, Nothing, Remove, Put}
-use Rattle.decision.specs.Decision.{requestOf, kindOf, decided, itemOf, decisionOf}
+use Rattle.decision.specs.Decision.{requestOf, kindOf, decided, itemOf, triedOf, decisionOf}
 use Rattle.decision.specs.declared.NewValue.{NewValue}
 use Rattle.decision.specs.declared.Sums.{Sums}
 use Rattle.decision.specs.Parts.{onFound, valueAt, stands, standingBy, notLater, verdictBy, equalBy, kindBy, keptData, stampOver, stampKept, valueBy, leavesBy, newSize, classedBy, oldSums, OldCounts, sumsAfter, roomBy, roomAfter, resultBy, outcomeBy, limitedBy, roomedBy}
@@ -146,7 +146,7 @@ limited-put false Remove h = h
 limited-put false Put h = h
 
 -- the sums of the values by class
-abbrev sumsOf : Terms → List Value → Sums
+abbrev pub sumsOf : Terms → List Value → Sums
 sumsOf t vs = record {
   records = recordSizes vs;
   own = sideSizes (t .vendor) (t .modem) vs;
@@ -282,7 +282,7 @@ module _ (t : Terms) (q : Request) (r : List ℕ) (sounds : sound r ≡ true) (o
   abbrev size : ℕ
   size = rounded (headerSize + length (q .name) + its-size)
 
-  new-entry : size ≡ entrySize new
+  pub new-entry : size ≡ entrySize new
   unfolding newValue
   new-entry = ap (λ (n : ℕ). rounded (headerSize + length (q .name) + n)) new-size
 
@@ -354,31 +354,35 @@ module _ (t : Terms) (q : Request) (r : List ℕ) (sounds : sound r ≡ true) (o
       ∙ sym (room-rules t (length r) new vs))
 
   -- a change that puts, puts the new value
-  puts-new : (v : Value) → changeIn q vs ≡ put v → v ≡ new
+  pub puts-new : (v : Value) → changeIn q vs ≡ put v → v ≡ new
   unfolding changeIn
   puts-new v e =
       change-cases (λ (c : Change). c ≡ put v → v ≡ new) q (find (requestKey q) vs)
       (λ e. let z : _≡_ {A = ℕ} 0 1 = cc in absurd (omega arith)) (λ e. let z : _≡_ {A = ℕ} 0 1 = cc in absurd (omega arith)) (λ e. cc) e
 
-  pub decision-here : (ls : List Limit)
-      → decisionOf ls t q (length r) vs
-      ≡ roomedBy
-      (limitedBy (brokenBy ls (leavesBy old (q .attributes) (length (dataProper q))) (keptData r old (q .attributes) ++ dataProper q)) (itemOf t q vs))
-      (firstBroken (roomAfter t r old mine (recordBit (q .attributes)) size))
-  unfolding decisionOf itemOf settingRules changeIn
-  decision-here ls =
+  pub tried-here : (ls : List Limit)
+      → triedOf ls t q vs
+      ≡ limitedBy (brokenBy ls (leavesBy old (q .attributes) (length (dataProper q))) (keptData r old (q .attributes) ++ dataProper q)) (itemOf t q vs)
+  unfolding triedOf itemOf settingRules changeIn
+  tried-here ls =
       let c : Change = changeIn q vs in
       let a : List (Rule × Bool) = itemRules t q vs in
       let b : Bool = rule21 ls c (find (requestKey q) vs) in
-      let d : List (Rule × Bool) = roomRules t (length r) (c ∷ []) vs in
-      let full : Option Rule = firstBroken (roomAfter t r old mine (recordBit (q .attributes)) size) in
-      ap (λ (o : Option Rule). decided o (kindOf c)) (broken-append (a ++ ((Setting, b) ∷ [])) d)
-      ∙ room-cases (firstBroken (a ++ ((Setting, b) ∷ []))) c full t (length r) vs
-      (λ v e. ap (λ (w : Value). firstBroken (roomRules t (length r) (put w ∷ []) vs)) (puts-new v e) ∙ sym room-here)
-      ∙ ap (λ (x : Decision). roomedBy x full)
-      (ap (λ (o : Option Rule). decided o (kindOf c)) (broken-append a ((Setting, b) ∷ []))
+      ap (λ (o : Option Rule). decided o (kindOf c)) (broken-append a ((Setting, b) ∷ []))
       ∙ limited-cases (firstBroken a) b c
-      ∙ ap (λ (f : Bool). limitedBy f (decided (firstBroken a) (kindOf c))) (sym (forbidden-here ls)))
+      ∙ ap (λ (f : Bool). limitedBy f (decided (firstBroken a) (kindOf c))) (sym (forbidden-here ls))
+
+  pub decision-here : (ls : List Limit)
+      → decisionOf ls t q (length r) vs
+      ≡ roomedBy (triedOf ls t q vs) (firstBroken (roomAfter t r old mine (recordBit (q .attributes)) size))
+  unfolding decisionOf triedOf
+  decision-here ls =
+      let c : Change = changeIn q vs in
+      let a : List (Rule × Bool) = itemRules t q vs ++ settingRules ls q (find (requestKey q) vs) in
+      let full : Option Rule = firstBroken (roomAfter t r old mine (recordBit (q .attributes)) size) in
+      ap (λ (o : Option Rule). decided o (kindOf c)) (broken-append a (roomRules t (length r) (c ∷ []) vs))
+      ∙ room-cases (firstBroken a) c full t (length r) vs
+      (λ v e. ap (λ (w : Value). firstBroken (roomRules t (length r) (put w ∷ []) vs)) (puts-new v e) ∙ sym room-here)
 
   -- ---- the value to put
 

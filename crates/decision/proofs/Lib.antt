@@ -11,3 +11,9 @@ pub mod AfterTail
 pub mod Assembled
 -- What a decision says of the call, of the change and of the room
 pub mod Accepted
+-- The weight of an item of a profile
+pub mod Weighing
+-- Items one after another
+pub mod Passing
+-- Room for all items
+pub mod RoomOfItems

@@ -39,7 +39,11 @@ decided broken what = onSome broken (λ rule. Broken rule) what
 unfoldable pub itemOf : Terms → Request → List Value → Decision
 itemOf t r vs = decided (firstBroken (itemRules t r vs)) (kindOf (changeIn r vs))
 
--- by these, 21 with these rules for its name, 18 and 13, over a region of so many bytes with these values
+-- by these and 21, with these rules for its name: before room is asked
+unfoldable pub triedOf : List Limit → Terms → Request → List Value → Decision
+triedOf ls t r vs = decided (firstBroken (itemRules t r vs ++ settingRules ls r (find (requestKey r) vs))) (kindOf (changeIn r vs))
+
+-- by these, 18 and 13, over a region of so many bytes with these values
 unfoldable pub decisionOf : List Limit → Terms → Request → ℕ → List Value → Decision
 decisionOf ls t r size vs =
     decided

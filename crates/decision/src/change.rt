@@ -239,7 +239,7 @@ fn after(t: Terms, region: &[u8], old: Found, own: bool, error: bool, size: usiz
 }
 
 // Rules 18 and 13 on the sums after a set, in a region of so many bytes.
-fn room(t: Terms, size: usize, error: bool, s: Sums) -> Judged
+pub fn room(t: Terms, size: usize, error: bool, s: Sums) -> Judged
     requires { ⌜ s .records + s .own + s .others < 2 ^ 63 + 2 ^ 16 ⌝ }
     ensures { λ r. ⌜ r ≡ judgedOf (firstBroken (roomBy t size error s)) ⌝ }
 {

@@ -1,4 +1,4 @@
-// The decision on a set over a sound region: the first broken of rules 3 to 13, 17, 18, 21 and 22, or what the set does to the values.
+// The decision on a set over a sound region: the first broken of rules 3 to 13, 17, 18, 21 and 22, or what the set does to the values. That on a profile is in `items`.
 ghost use mathlib.Core.Path.{_≡_};
 ghost use mathlib.Core.Bool.{true, cond};
 ghost use mathlib.Core.List.{[], _++_};
@@ -13,7 +13,7 @@ ghost use Rattle.model.specs.Change.{newValue};
 ghost use Rattle.model.specs.Rules.{firstBroken};
 ghost use Rattle.values.specs.Found.{foundOf, elseFound, oldData};
 ghost use Rattle.policy.specs.Descriptor.{stampOf};
-ghost use Rattle.decision.specs.Decision.{requestOf, itemOf, decisionOf};
+ghost use Rattle.decision.specs.Decision.{requestOf, itemOf, triedOf, decisionOf};
 ghost use Rattle.decision.specs.Parts.{judgedOf, stands, standingBy, verdictBy, newSize, valueBy};
 use model::Rule;
 use model::Terms;
@@ -22,6 +22,7 @@ use values::Places;
 use values::lookup;
 
 mod change;
+pub mod items;
 mod rules;
 
 // The first broken rule, or what a set does: nothing, remove the value that stands, put a new one.
@@ -61,10 +62,41 @@ pub struct Sums {
     pub others: usize,
 }
 
+// What a set, or an item of a profile, comes to before room is asked, and the size of the data that a value to put would have.
+pub struct Tried {
+    pub what: Decision,
+    pub size: usize,
+}
+
 // What some of the rules say: kept, or the first broken.
 pub enum Judged {
     Kept,
     Breaks(Rule),
+}
+
+// What an item of a profile weighs: what the rules say of it, room apart; the offset of the entry that it leaves behind, 0 if it leaves none; and the rounded sizes of
+// that entry and of the one that comes.
+pub struct Weight {
+    pub judged: Judged,
+    pub at: usize,
+    pub gone: usize,
+    pub comes: usize,
+}
+
+// The same of all items: an offset for each, whether it stores a value, and the sums of the sizes.
+pub struct Weights {
+    pub judged: Judged,
+    pub leave: [usize; 8],
+    pub stores: [bool; 8],
+    pub gone: usize,
+    pub comes: usize,
+}
+
+// What a profile comes to: the first broken rule, nothing, or a compaction, which leaves out the entries at eight offsets and adds a value for each item that stores one.
+pub struct Weighed {
+    pub what: Decision,
+    pub leave: [usize; 8],
+    pub stores: [bool; 8],
 }
 
 // Rules 7 to 10: the mode is looked up, and the stamp read, only where 7 and 8 are kept.
@@ -148,7 +180,36 @@ fn judge(
     }
 }
 
-// What a set comes to, by what is there of its name. Whether 21 is broken is asked first, and reported in its place.
+// Rules 3 to 12, 17, 22 and 21, by what is there of the name. Whether 21 is broken is asked first, and reported in its place.
+fn before_room(
+    t: Terms,
+    limits: &[u8],
+    region: &[u8],
+    old: Found,
+    name: &[u8],
+    vendor: &[u8; 16],
+    asking: Asking,
+    bytes: &[u8],
+) -> Tried
+    requires { ⌜ sound (now region) ≡ true ⌝ }
+    requires { ⌜ old ≡ foundOf (standing (keyed (now name) (now vendor)) (entries (now region))) ⌝ }
+    ensures { λ r. ⌜ (r .what ≡ triedOf (limitsIn (now (limits .entry)) (t .rules) (keyed (now (name .entry)) (now (vendor .entry)))) t
+        (requestOf (now (name .entry)) (now (vendor .entry)) (asking .attributes) (now (bytes .entry)) (asking .presence) (asking .verdict))
+        (values (entries (now (region .entry)))))
+        × (r .size ≡ newSize (now (region .entry)) old (asking .attributes) (length (properOf (asking .attributes) (now (bytes .entry)))))
+        × (r .what ≡ Decision.Put → r .size ≤ 2048) ⌝ }
+{
+    let attributes = asking.attributes;
+    let proper = policy::proper(attributes, bytes);
+    let kept = change::kept_data(region, old, policy::appends(attributes));
+    let forbidden = change::forbids(limits, t.rules, old, name, vendor, attributes, kept, proper);
+    let size = kept.len() + proper.len();
+    let item = judge(t, region, old, name, vendor, asking, bytes, proper, size);
+    let what = change::limited(item, forbidden);
+    Tried { what, size }
+}
+
+// What a set comes to, by what is there of its name: room is asked last.
 fn decide_over(
     t: Terms,
     limits: &[u8],
@@ -168,22 +229,18 @@ fn decide_over(
         (requestOf (now (name .entry)) (now (vendor .entry)) (asking .attributes) (now (bytes .entry)) (asking .presence) (asking .verdict))
         (length (now (region .entry))) (values (entries (now (region .entry)))) ⌝ }
 {
-    let attributes = asking.attributes;
-    let proper = policy::proper(attributes, bytes);
-    let kept = change::kept_data(region, old, policy::appends(attributes));
-    let forbidden = change::forbids(limits, t.rules, old, name, vendor, attributes, kept, proper);
-    let size = kept.len() + proper.len();
-    let item = judge(t, region, old, name, vendor, asking, bytes, proper, size);
+    let tried = before_room(t, limits, region, old, name, vendor, asking, bytes);
+    let what = tried.what;
     change::roomed(
-        change::limited(item, forbidden),
+        what,
         t,
         region,
         tail,
         old,
         name,
         vendor,
-        attributes,
-        size,
+        asking.attributes,
+        tried.size,
     )
 }
 

@@ -13,6 +13,7 @@ ghost use Rattle.model.specs.Answers.{answerOf, lockOutcome, lockSession};
 ghost use Rattle.model.specs.Lent.{sessionOf};
 ghost use Rattle.session.specs.Said.{barredBy, lockOutcomeBy, lockEnters};
 ghost use Rattle.session.specs.Written.{numberBytes, enlisted};
+use crate::Locks;
 use crate::Upshot;
 use model::Answer;
 use model::Tenant;
@@ -99,6 +100,26 @@ fn is_barred(s: &[u8], name: &[u8], vendor: &[u8; 16]) -> bool
         name,
         vendor,
     )
+}
+
+// Its phase and its lock list.
+pub fn locks(s: &[u8]) -> Locks
+    ensures { λ r. ⌜ (r .phase ≡ sessionOf (now (s .entry)) .phase)
+        × (r .used ≡ sessionOf (now (s .entry)) .count)
+        × (r .sizes ≡ sessionOf (now (s .entry)) .sizes) ⌝ }
+{
+    let sizes = sizes(s);
+    Locks {
+        phase: layout::u32_at(s, PHASE),
+        used: layout::u32_at(s, COUNT),
+        sizes,
+    }
+}
+
+pub fn places(s: &[u8]) -> &[u8]
+    ensures { λ r. ⌜ now r ≡ sessionOf (now (s .entry)) .locks ⌝ }
+{
+    slices::cut(s, LOCKS, 2304)
 }
 
 // The modem's GUID.

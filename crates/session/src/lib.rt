@@ -54,6 +54,13 @@ fn reserved(phase: u32, reserve: u32) -> u32
     reserve
 }
 
+// The phase and a lock list, but for its bytes: how many places are in use, and the sizes of their names.
+pub struct Locks {
+    pub phase: u32,
+    pub used: u32,
+    pub sizes: [u32; 16],
+}
+
 // Whether a place of the lock list holds a name: well formed, and the same name and GUID. A listed name that is not well formed locks nothing.
 fn is_place(locks: &[u8], place: usize, size: usize, name: &[u8], vendor: &[u8]) -> bool
     requires { ⌜ place < 16 ⌝ }
