@@ -4,9 +4,9 @@
 use Prim.Native.Nat.{ℕ, zero, suc, _+_, _-_, _≤_, _<_}
 use native.Mathlib.Numerals.{add-one}
 use native.Mathlib.Omega.{arith}
-use mathlib.Core.Path.{_≡_, refl, sym, ap, _∙_, subst}
+use mathlib.Core.Path.{_≡_, refl, sym, ap, _∙_, subst, fun-ext}
 use mathlib.Core.Logic.{_≢_}
-use mathlib.Core.Bool.{Bool, true, false, cond, _||_, or-true, or-false}
+use mathlib.Core.Bool.{Bool, true, false, not, cond, _||_, or-true, or-false}
 use mathlib.Core.List.{List, [], _∷_, _++_, map, map-append}
 use mathlib.Core.Option.{Option, none, some}
 use lib.ListN.{length, drop, getD, replicate, drop-of-length-le}
@@ -20,11 +20,11 @@ use Rattle.model.specs.Entry.{Header, Value, keyOf, readHeaderIn}
 use Rattle.model.specs.Walk.{Entry, stateOf, entryKey, entryValue, walk, placed, stride}
 use Rattle.model.specs.Region.{entries, entriesIn, isEntry, isValue, values, added, replacing, standing, sound, find}
 use Rattle.model.specs.Change.{without}
+use Rattle.model.specs.Beside.{withoutAll}
 use Rattle.model.proofs.Tests.{and-split, or-split, key-refl, key-eq, key-sym}
 use Rattle.model.proofs.Chunks.{sound-parts, judged-parts}
 use Rattle.model.proofs.Values.{any-at, keep-append, found, find-standing}
 use Rattle.model.proofs.Encode.{Distinct, values-distinct}
-use Rattle.values.specs.declared.Found.{Found}
 use Rattle.values.specs.Found.{foundOf}
 use Rattle.compose.specs.Compose.{leaving, valuesBut, leaveOf}
 
@@ -75,31 +75,76 @@ above : (low : ℕ) (xs ys : List Entry) (s : Entry) → Rising low (xs ++ (s �
 above low [] ys s r = r .0
 above low (x ∷ xs) ys s r = omega (arith, r .0, above (x .at + 1) xs ys s (r .1))
 
--- ---- places left out
+-- ---- what holds of every entry
 
--- an offset that is not 0 is left out where it is the place
-only : (a n : ℕ) → 1 ≤ n → among (a ∷ replicate 7 0) n ≡ eqb n a
-only a n h = rw (ne-eqb n 0 (λ e. omega arith)) (or-false (eqb n a))
+abbrev Each : (Entry → Type 0) → List Entry → Type 0
+Each P [] = Unit {0}
+Each P (e ∷ es) = P e × Each P es
 
-kept-all : (leave : List ℕ) (low : ℕ) (es : List Entry) → ((n : ℕ) → low ≤ n → among leave n ≡ false) → Rising low es
-    → leaving leave es ≡ map entryValue es
-unfolding leaving
-kept-all leave low [] h r = refl
-kept-all leave low (e ∷ es) h r =
-    rw (h (e .at) (r .0)) (ap (λ (vs : List Value). entryValue e ∷ vs) (kept-all leave (e .at + 1) es (λ n l. h n (omega (arith, r .0, l))) (r .1)))
+each : {P : Entry → Type 0} (es : List Entry) → ((e : Entry) → P e) → Each P es
+each [] f = tt
+each (e ∷ es) f = (f e, each es f)
 
-one-left : (low : ℕ) (xs ys : List Entry) (s : Entry) → 1 ≤ low → Rising low (xs ++ (s ∷ ys))
-    → leaving (s .at ∷ replicate 7 0) (xs ++ (s ∷ ys)) ≡ map entryValue (xs ++ ys)
-unfolding leaving
-one-left low [] ys s h r =
-    rw (only (s .at) (s .at) (omega (arith, r .0)), eq-eqb (s .at) (s .at) refl)
-    (kept-all (s .at ∷ replicate 7 0) (s .at + 1) ys (λ n l. only (s .at) n (omega (arith, l)) ∙ ne-eqb n (s .at) (λ e. omega (arith, l, e))) (r .1))
-one-left low (x ∷ xs) ys s h r =
+each-as : {P Q : Entry → Type 0} (es : List Entry) → ((e : Entry) → P e → Q e) → Each P es → Each Q es
+each-as [] f p = tt
+each-as (e ∷ es) f p = (f e (p .0), each-as es f (p .1))
+
+each-both : {P Q R : Entry → Type 0} (es : List Entry) → ((e : Entry) → P e → Q e → R e) → Each P es → Each Q es → Each R es
+each-both [] f p q = tt
+each-both (e ∷ es) f p q = (f e (p .0) (q .0), each-both es f (p .1) (q .1))
+
+-- ---- an offset is that of one name's value
+
+-- the entries at an offset are those of a name
+abbrev Marks : ℕ → Key → List Entry → Type 0
+Marks a k es = Each (λ e. eqb (e .at) a ≡ sameKey (entryKey e) k) es
+
+abbrev named : Key → Value → Bool
+named k w = sameKey (keyOf w) k
+
+-- no entry is there, and none has the name
+unmarked : (a : ℕ) (k : Key) (low : ℕ) (es : List Entry) → a < low → Rising low es → any (named k) (map entryValue es) ≡ false → Marks a k es
+unmarked a k low [] h r n = tt
+unmarked a k low (e ∷ es) h r n =
+    let p = or-split (sameKey (entryKey e) k) (any (named k) (map entryValue es)) n in
+    (ne-eqb (e .at) a (λ f. omega (arith, r .0, f)) ∙ sym (p .0), unmarked a k (e .at + 1) es (omega (arith, r .0)) (r .1) (p .1))
+
+marked : (low : ℕ) (xs ys : List Entry) (s : Entry) → Rising low (xs ++ (s ∷ ys)) → Distinct (map entryValue (xs ++ (s ∷ ys)))
+    → Marks (s .at) (entryKey s) (xs ++ (s ∷ ys))
+marked low [] ys s r d =
+    (eq-eqb (s .at) (s .at) refl ∙ sym (key-refl (entryKey s)), unmarked (s .at) (entryKey s) (s .at + 1) ys (omega arith) (r .1) (d .0))
+marked low (x ∷ xs) ys s r d =
+    let others : List Value = map entryValue xs ++ map entryValue ys in
     let a = above (x .at + 1) xs ys s (r .1) in
-    rw (only (s .at) (x .at) (omega (arith, r .0)), ne-eqb (x .at) (s .at) (λ e. omega (arith, a, e)))
-    (ap (λ (vs : List Value). entryValue x ∷ vs) (one-left (x .at + 1) xs ys s (omega arith) (r .1)))
+    let n = sym (any-at (named (entryKey x)) (map entryValue xs) (map entryValue ys) (entryValue s))
+    ∙ ap (any (named (entryKey x))) (sym (map-append entryValue xs (s ∷ ys))) ∙ d .0 in
+    let p = or-split (sameKey (entryKey s) (entryKey x)) (any (named (entryKey x)) others) n in
+    (ne-eqb (x .at) (s .at) (λ f. omega (arith, a, f)) ∙ sym (key-sym (entryKey x) (entryKey s) ∙ p .0), marked (x .at + 1) xs ys s (r .1) (d .1))
 
--- ---- names left out
+-- ---- entries kept
+
+kept-alike : (f g : Entry → Bool) (es : List Entry) → Each (λ e. f e ≡ g e) es → keep f es ≡ keep g es
+kept-alike f g [] h = refl
+kept-alike f g (e ∷ es) h = rw (h .0, kept-alike f g es (h .1))
+
+kept-values : (f : Value → Bool) (es : List Entry) → keep f (map entryValue es) ≡ map entryValue (keep (λ e. f (entryValue e)) es)
+kept-values f [] = refl
+kept-values f (e ∷ es) = go (f (entryValue e)) (kept-values f es)
+  where
+    go : (t : Bool) → keep f (map entryValue es) ≡ map entryValue (keep (λ e. f (entryValue e)) es)
+        → cond t (entryValue e ∷ keep f (map entryValue es)) (keep f (map entryValue es))
+        ≡ map entryValue (cond t (e ∷ keep (λ e. f (entryValue e)) es) (keep (λ e. f (entryValue e)) es))
+    go true h = ap (λ (l : List Value). entryValue e ∷ l) h
+    go false h = h
+
+without-none : (vs : List Value) → withoutAll [] vs ≡ vs
+unfolding withoutAll
+without-none [] = refl
+without-none (v ∷ vs) = ap (λ (l : List Value). v ∷ l) (without-none vs)
+
+without-one : (k : Key) (vs : List Value) → withoutAll (k ∷ []) vs ≡ without k vs
+unfolding withoutAll without
+without-one k vs = ap (λ (f : Value → Bool). keep f vs) (fun-ext (λ v. ap not (or-false (sameKey (keyOf v) k))))
 
 first-any : {A : Type 0} (f : A → Bool) (l : List A) → first f l ≡ none → any f l ≡ false
 first-any f [] h = refl
@@ -108,21 +153,6 @@ first-any f (a ∷ l) h = go (f a) h (first-any f l)
     go : (t : Bool) → cond t (some a) (first f l) ≡ none → (first f l ≡ none → any f l ≡ false) → (t || any f l) ≡ false
     go true h more = let z : _≡_ {A = ℕ} 0 1 = cc in absurd (omega arith)
     go false h more = more h
-
-unnamed : (k : Key) (vs : List Value) → any (λ w. sameKey (keyOf w) k) vs ≡ false → without k vs ≡ vs
-unfolding without
-unnamed k [] h = refl
-unnamed k (v ∷ vs) h =
-    let p = or-split (sameKey (keyOf v) k) (any (λ w. sameKey (keyOf w) k) vs) h in
-    rw (p .0) (ap (λ (ws : List Value). v ∷ ws) (unnamed k vs (p .1)))
-
-one-named : (xs ys : List Value) (v : Value) → Distinct (xs ++ (v ∷ ys)) → without (keyOf v) (xs ++ (v ∷ ys)) ≡ xs ++ ys
-unfolding without
-one-named [] ys v d = rw (key-refl (keyOf v)) (unnamed (keyOf v) ys (d .0))
-one-named (x ∷ xs) ys v d =
-    let other : Value → Bool = λ w. sameKey (keyOf w) (keyOf x) in
-    let p = or-split (other v) (any other (xs ++ ys)) (sym (any-at other xs ys v) ∙ d .0) in
-    rw (key-sym (keyOf x) (keyOf v), p .0) (ap (λ (ws : List Value). x ∷ ws) (one-named xs ys v (d .1)))
 
 -- ---- a name's 3F entry, else its 3E entry, is a value; where it is among the entries
 
@@ -159,31 +189,71 @@ module _ (r : List ℕ) where
   unfolding entriesIn
   rises = kept-rises (isValue (entries r)) 28 (entries r) (walk-rises (headerLength authenticated) (readHeaderIn authenticated) (drop 28 r) 0 28)
 
-  -- with no place no value is left out
-  pub leaving-none : valuesBut (replicate 8 0) r ≡ values (entries r)
-  unfolding valuesBut values
-  leaving-none = kept-all (replicate 8 0) 28 held (λ n l. rw (ne-eqb n 0 (λ e. omega (arith, l, e)))) rises
+  -- of every value the offset is among some just if the name is among others
+  abbrev pub Agreed : List ℕ → List Key → Type 0
+  Agreed leave ks = Each (λ e. among leave (e .at) ≡ any (sameKey (entryKey e)) ks) held
 
-  -- with the place of a name's value that value alone is left out
-  pub leaving-standing : sound r ≡ true → (k : Key) → valuesBut (leaveOf (foundOf (standing k (entries r)))) r ≡ without k (values (entries r))
-  unfolding valuesBut values find
-  leaving-standing sounds k = go (standing k (entries r)) refl
+  pub agreed-none : Agreed [] []
+  agreed-none = each held (λ e. refl)
+
+  -- no entry is at 0
+  pub agreed-zero : (leave : List ℕ) (ks : List Key) → Agreed leave ks → Agreed (0 ∷ leave) ks
+  agreed-zero leave ks h = each-both held (λ e z p. rw z p) (nonzero 28 held (omega arith) rises) h
     where
-      go : (o : Option Entry) → standing k (entries r) ≡ o → valuesBut (leaveOf (foundOf o)) r ≡ without k (values (entries r))
+      nonzero : (low : ℕ) (es : List Entry) → 1 ≤ low → Rising low es → Each (λ e. eqb (e .at) 0 ≡ false) es
+      nonzero low [] h r = tt
+      nonzero low (e ∷ es) h r = (ne-eqb (e .at) 0 (λ f. omega (arith, r .0, f)), nonzero (e .at + 1) es (omega arith) (r .1))
+
+  -- where a name stands, only its value is
+  marks : sound r ≡ true → (k : Key) → Marks (onSome (standing k (entries r)) (λ e. e .at) 0) k held
+  unfolding values find
+  marks sounds k = go (standing k (entries r)) refl
+    where
+      go : (o : Option Entry) → standing k (entries r) ≡ o → Marks (onSome o (λ e. e .at) 0) k held
       go none q =
           let n = find-standing (length r) (entries r) k (sound-parts authenticated r sounds .1)
           ∙ ap (λ (o : Option Entry). onSome o (λ e. some (entryValue e)) none) q in
-          leaving-none ∙ sym (unnamed k (values (entries r)) (first-any (λ v. sameKey (keyOf v) k) (values (entries r)) n))
+          unmarked 0 k 28 held (omega arith) rises (first-any (named k) (values (entries r)) n)
       go (some s) q =
           let w = stood (entries r) k s q in
           let d = values-distinct (entries r) (judged-parts (length r) (entries r) (sound-parts authenticated r sounds .1) .3) in
           let xs = keep (isValue (entries r)) (w .before) in
           let ys = keep (isValue (entries r)) (w .behind) in
           let p : held ≡ xs ++ (s ∷ ys) = ap (keep (isValue (entries r))) (w .place) ∙ keep-append (isValue (entries r)) (w .before) (s ∷ w .behind) ∙ rw (w .value) in
-          let m : values (entries r) ≡ map entryValue xs ++ (entryValue s ∷ map entryValue ys) = ap (map entryValue) p ∙ map-append entryValue xs (s ∷ ys) in
-          ap (leaving (s .at ∷ replicate 7 0)) p
-          ∙ one-left 28 xs ys s (omega arith) (subst (Rising 28) p rises)
-          ∙ map-append entryValue xs ys
-          ∙ sym (one-named (map entryValue xs) (map entryValue ys) (entryValue s) (subst Distinct m d))
-          ∙ ap (λ (vs : List Value). without (entryKey s) vs) (sym m)
-          ∙ ap (λ (j : Key). without j (values (entries r))) (w .key)
+          let m = marked 28 xs ys s (subst (Rising 28) p rises) (subst (λ (es : List Entry). Distinct (map entryValue es)) p d) in
+          subst (λ (j : Key). Marks (s .at) j held) (w .key) (subst (Marks (s .at) (entryKey s)) (sym p) m)
+
+  -- the place of a name's value, and the name
+  pub agreed-name : sound r ≡ true → (k : Key) (leave : List ℕ) (ks : List Key) → Agreed leave ks
+      → Agreed (onSome (standing k (entries r)) (λ e. e .at) 0 ∷ leave) (k ∷ ks)
+  agreed-name sounds k leave ks h =
+      let a : ℕ = onSome (standing k (entries r)) (λ e. e .at) 0 in
+      let more : (e : Entry) → eqb (e .at) a ≡ sameKey (entryKey e) k → among leave (e .at) ≡ any (sameKey (entryKey e)) ks
+      → among (a ∷ leave) (e .at) ≡ any (sameKey (entryKey e)) (k ∷ ks) = λ e m p. rw (m, p) in
+      each-both held more (marks sounds k) h
+
+  -- places left out are names left out
+  pub leaving-agreed : (leave : List ℕ) (ks : List Key) → Agreed leave ks → valuesBut leave r ≡ withoutAll ks (values (entries r))
+  unfolding valuesBut leaving values withoutAll
+  leaving-agreed leave ks h =
+      ap (map entryValue) (kept-alike (λ e. not (among leave (e .at))) (λ e. not (any (sameKey (entryKey e)) ks)) held (each-as held (λ e p. ap not p) h))
+      ∙ sym (kept-values (λ v. not (any (sameKey (keyOf v)) ks)) held)
+
+  agreed-zeros : (n : ℕ) → Agreed (replicate n 0) []
+  agreed-zeros zero = agreed-none
+  agreed-zeros (suc n) = agreed-zero (replicate n 0) [] (agreed-zeros n)
+
+  -- with no place no value is left out
+  pub leaving-none : valuesBut (replicate 8 0) r ≡ values (entries r)
+  leaving-none = leaving-agreed (replicate 8 0) [] (agreed-zeros 8) ∙ without-none (values (entries r))
+
+  -- with the place of a name's value that value alone is left out
+  pub leaving-standing : sound r ≡ true → (k : Key) → valuesBut (leaveOf (foundOf (standing k (entries r)))) r ≡ without k (values (entries r))
+  leaving-standing sounds k =
+      ap (λ (l : List ℕ). valuesBut l r) (go (standing k (entries r)))
+      ∙ leaving-agreed (onSome (standing k (entries r)) (λ e. e .at) 0 ∷ replicate 7 0) (k ∷ []) (agreed-name sounds k (replicate 7 0) [] (agreed-zeros 7))
+      ∙ without-one k (values (entries r))
+    where
+      go : (o : Option Entry) → leaveOf (foundOf o) ≡ onSome o (λ e. e .at) 0 ∷ replicate 7 0
+      go none = refl
+      go (some e) = refl

@@ -15,7 +15,11 @@ pub mod StartUps
 pub mod Composed
 -- What stands ready before a put
 pub mod Ready
--- A put with a compaction
+-- The values that the items of a profile store, entry by entry
+pub mod Stored
+-- The values after the items of a profile
+pub mod Changed
+-- A compaction with changes folded in
 pub mod Folded
 -- A put in the tail
 pub mod Tail

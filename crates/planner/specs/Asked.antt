@@ -1,20 +1,24 @@
--- The value that a put stores, and what the checks of the call leave to it.
+-- The value that a put stores, those that the items of a profile store, and what the checks of the call leave to them.
 use Prim.Native.Nat.{ℕ, _≤_}
 use mathlib.Core.Path.{_≡_}
-use mathlib.Core.Bool.{true}
-use mathlib.Core.List.{List}
+use mathlib.Core.Bool.{Bool, true, false, cond}
+use mathlib.Core.List.{List, [], _∷_, _++_}
 use lib.ListN.{length}
 use Rattle.model.specs.Image.{regionSize, region}
-use Rattle.model.specs.Entry.{Value, keyOf}
+use Rattle.model.specs.Lists.{among}
+use Rattle.model.specs.Entry.{Value, keyOf, noStamp}
 use Rattle.model.specs.Region.{entries, valuesOf, added, replacing}
-use Rattle.model.specs.Change.{put, step, spaceOf}
-use Rattle.model.specs.Set.{fitsTail, putPlan}
+use Rattle.model.specs.Request.{Request}
+use Rattle.model.specs.Profile.{itemAttributes, sharesName}
+use Rattle.model.specs.Change.{Change, put, changeIn, step, steps, spaceOf}
+use Rattle.model.specs.Set.{fitsTail, compactPlan, putPlan}
 use Rattle.model.specs.Answers.{storesOf}
 use Rattle.model.specs.Book.{ClearsOne, isState, isRecord}
-use Rattle.model.specs.Beside.{Valid}
+use Rattle.model.specs.Beside.{Valid, EachItem, changesAlone}
 use Rattle.values.specs.Found.{foundOf}
 use Rattle.values.specs.declared.Places.{Places}
 use Rattle.image.specs.Check.{IsReady}
+use Rattle.profile.specs.Folded.{Folds}
 use Rattle.plan.specs.declared.Planned.{Planned}
 use Rattle.plan.specs.Plan.{Ready}
 use Rattle.plan.specs.Planned.{plannedAs, decidesRight}
@@ -41,3 +45,37 @@ pub record PutPlanned (img : List ℕ) (v : Value) (content : List ℕ) (p : Pla
   pub ready : (fitsTail (region img) v ≡ true → (w : ℕ) → ClearsOne (isState img) (storesOf w (putPlan img v)) img)
       → ((w : ℕ) → ClearsOne (isRecord img) (storesOf w (putPlan img v)) img)
       → Ready content (p .plan) img
+
+-- a compaction was planned over an image that is to leave a list of values, with this content: as before; which operations make up the list is as open as in `Plans`
+pub record CompactPlanned (img : List ℕ) (vs : List Value) (content : List ℕ) (p : Planned) : Type 0 where
+  pub same : plannedAs content p ≡ compactPlan img vs
+  pub decides : decidesRight (compactPlan img vs) p ≡ true
+  pub ready : ((w : ℕ) → ClearsOne (isRecord img) (storesOf w (compactPlan img vs)) img) → Ready content (p .plan) img
+
+-- 02 (l), "The whole profile is one compaction": changes one after another, all of them folded in
+abbrev pub FoldPlanned : List ℕ → List Change → List ℕ → Planned → Type 0
+FoldPlanned img cs content p = CompactPlanned img (steps cs (valuesOf img)) content p
+
+-- the value that an item stores, if it does: it has neither 0x20 nor 0x40, so its stamp is zeros
+abbrev pub itemValue : Request → Value
+itemValue r = valued (r .name) (r .vendor) (r .attributes) noStamp (r .bytes)
+
+abbrev pub storedIf : Bool → Request → List Value
+storedIf b r = cond b (itemValue r ∷ []) []
+
+-- those of all items, in file order, by which of them store one
+unfoldable pub storedBy : List Request → List Bool → List Value
+storedBy [] bs = []
+storedBy (r ∷ rs) [] = []
+storedBy (r ∷ rs) (b ∷ bs) = storedIf b r ++ storedBy rs bs
+
+-- before the items of a profile are folded in: the image is ready, the items are of the form and no two share a name, the numbers are theirs, and what they put is
+-- what a region can hold and has room beside the other values
+pub record Foldable (img : List ℕ) (b used : ℕ) (rs : List Request) (leave : List ℕ) (stores : List Bool) : Type 0 where
+  pub tail : ℕ
+  pub ready : IsReady img b tail used
+  pub formed : EachItem (λ r. among itemAttributes (r .attributes) ≡ true) rs
+  pub apart : sharesName rs ≡ false
+  pub places : Folds (region img) rs leave stores
+  pub valid : EachItem (λ r. (v : Value) → changeIn r (valuesOf img) ≡ put v → Valid v) rs
+  pub room : spaceOf (steps (changesAlone rs (valuesOf img)) (valuesOf img)) ≤ regionSize img
