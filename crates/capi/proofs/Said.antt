@@ -3,6 +3,7 @@
 use Prim.Native.Nat.{ℕ}
 use mathlib.Core.Path.{_≡_, refl, sym, ap, ap₂, _∙_}
 use mathlib.Core.Bool.{Bool}
+use mathlib.Core.List.{List}
 use Rattle.model.specs.declared.Session.{Session}
 use Rattle.model.specs.declared.Terms.{Terms}
 use Rattle.model.specs.declared.View.{View}
@@ -10,7 +11,9 @@ use Rattle.model.specs.Name.{Key}
 use Rattle.model.specs.Rules.{viewOf, termsFor}
 use Rattle.model.specs.Beside.{Says}
 use Rattle.session.specs.Said.{barredBy, termsBy, termsWith, viewBy}
-use Rattle.session.proofs.Phases.{terms-for-said, terms-said, view-said}
+use Rattle.session.specs.declared.Locks.{Locks}
+use Rattle.session.proofs.Phases.{terms-for-said, terms-said, terms-with, view-said}
+use Rattle.engine.specs.Profile.{SaysAll}
 
 -- of a session, the terms by its parts
 abbrev pub saidTo : Bool → Session → Terms
@@ -29,3 +32,16 @@ module _ (m : Bool) (s : Session) {n : Bool} (i : n ≡ m) where
       → Says m s k t (s .setup .limits)
   says-told k b e f =
       (terms-said m s k ∙ sym (f ∙ ap₂ (λ (x : Terms) (y : Bool). termsWith x y k) (e ∙ ap (λ (x : Bool). saidTo x s) i) b), refl)
+
+-- to a profile: the terms for no name, the lock list by its parts, and the table
+pub all-told : (m : Bool) (s : Session) {t : Terms} {held : Locks} {locks table : List ℕ} → t ≡ termsFor m s
+    → (held .phase ≡ s .phase) × (held .used ≡ s .count) × (held .sizes ≡ s .sizes)
+    → locks ≡ s .locks
+    → table ≡ s .setup .limits
+    → SaysAll m s t held locks table
+all-told m s {t} {held} {locks} e h l d =
+    record {
+      terms = sym e;
+      each = λ k. terms-with m s k ∙ rw (sym e, sym (h .0), sym (h .1), sym (h .2), sym l);
+      limits = sym d;
+    }

@@ -16,7 +16,7 @@ ghost use Rattle.model.specs.Move.{moveAnswer, imageMoved};
 ghost use Rattle.model.specs.Lent.{sessionOf};
 ghost use Rattle.decision.specs.Decision.{requestOf};
 ghost use Rattle.model.specs.Book as book;
-ghost use Rattle.model.specs.Book.{setPlan, getPlan, getsPlan, nextPlan};
+ghost use Rattle.model.specs.Book.{setPlan, getPlan, getsPlan, nextPlan, profilePlan};
 ghost use Rattle.recovery.specs.Host.{StartUpPlanned, PlannedFor};
 ghost use Rattle.plan.specs.Planned.{Kept};
 ghost use Rattle.plan.specs.Told.{Told};
@@ -31,6 +31,7 @@ use model::Queried;
 use model::Session;
 use model::Setup;
 use plan::HostPlan;
+use session::Locks;
 use session::lent;
 
 // An answer in numbers: 0 done, 1 stopped, 2 refused; the rule if refused, else 0; the number of stores if done, else 0.
@@ -343,6 +344,48 @@ pub extern "C" fn vs_set(
 }
 
 #[no_mangle]
+pub extern "C" fn vs_profile(
+    context: Context,
+    session: Session,
+    image: &mut [u8],
+    file: &[u8],
+    content: &mut [u8; layout::CONTENT],
+) -> Answered
+    ensures { λ r. ⌜ (r ≡ numbersOf (outcome context (profilePlan (sideOf context) session (now (file .entry)) (now (image .entry))) (now (image .entry))))
+        × (now (image .exit) ≡ imageAfter context (profilePlan (sideOf context) session (now (file .entry)) (now (image .entry))) (now (image .entry)))
+        × Kept (profilePlan (sideOf context) session (now (file .entry)) (now (image .entry))) (now (content .entry)) (now (content .exit)) ⌝ }
+{
+    let tenant = session.setup.modem;
+    let said = session::terms_for(
+        session::is_modem(context.side),
+        session.phase,
+        session.setup.custom,
+        session.setup.reserve,
+        session.setup.records,
+        session.setup.share,
+        tenant,
+        session.setup.rules,
+    );
+    let sizes = session.sizes;
+    let held = Locks {
+        phase: session.phase,
+        used: session.count,
+        sizes,
+    };
+    let answer = engine::items::profile(
+        context,
+        said,
+        held,
+        &session.locks,
+        &session.setup.limits,
+        image,
+        file,
+        content,
+    );
+    numbers(answer)
+}
+
+#[no_mangle]
 pub extern "C" fn vs_format(
     context: Context,
     image: &mut [u8],
@@ -447,6 +490,47 @@ pub extern "C" fn vs_plan_set(
         vendor,
         asking,
         bytes,
+        content,
+    );
+    plan::in_numbers(planned)
+}
+
+#[no_mangle]
+pub extern "C" fn vs_plan_profile(
+    session: Session,
+    side: u32,
+    image: &[u8],
+    file: &[u8],
+    content: &mut [u8; layout::CONTENT],
+) -> HostPlan
+    ensures { λ r. ⌜ PlannedFor (book.profile (isModem side) session (now (file .entry))) (now (image .entry)) (now (content .exit)) r
+        × Kept (profilePlan (isModem side) session (now (file .entry)) (now (image .entry))) (now (content .entry)) (now (content .exit))
+        × Numbered (profilePlan (isModem side) session (now (file .entry)) (now (image .entry))) (now (image .entry)) (now (content .entry)) (now (content .exit)) r ⌝ }
+{
+    let tenant = session.setup.modem;
+    let said = session::terms_for(
+        session::is_modem(side),
+        session.phase,
+        session.setup.custom,
+        session.setup.reserve,
+        session.setup.records,
+        session.setup.share,
+        tenant,
+        session.setup.rules,
+    );
+    let sizes = session.sizes;
+    let held = Locks {
+        phase: session.phase,
+        used: session.count,
+        sizes,
+    };
+    let planned = engine::items::plan_profile(
+        said,
+        held,
+        &session.locks,
+        &session.setup.limits,
+        image,
+        file,
         content,
     );
     plan::in_numbers(planned)
@@ -652,6 +736,31 @@ pub extern "C" fn vs_set_lent(
 }
 
 #[no_mangle]
+pub extern "C" fn vs_profile_lent(
+    context: Context,
+    session: &[u8; lent::SESSION],
+    image: &mut [u8],
+    file: &[u8],
+    content: &mut [u8; layout::CONTENT],
+) -> Answered
+    ensures { λ r. ⌜ (r
+        ≡ numbersOf (outcome context (profilePlan (sideOf context) (sessionOf (now (session .entry))) (now (file .entry)) (now (image .entry))) (now (image .entry))))
+        × (now (image .exit)
+        ≡ imageAfter context (profilePlan (sideOf context) (sessionOf (now (session .entry))) (now (file .entry)) (now (image .entry))) (now (image .entry)))
+        × Kept
+        (profilePlan (sideOf context) (sessionOf (now (session .entry))) (now (file .entry)) (now (image .entry)))
+        (now (content .entry))
+        (now (content .exit)) ⌝ }
+{
+    let said = lent::terms_for(session, session::is_modem(context.side));
+    let held = lent::locks(session);
+    let locks = lent::places(session);
+    let limits = lent::limits(session);
+    let told = engine::items::profile(context, said, held, locks, limits, image, file, content);
+    numbers(told)
+}
+
+#[no_mangle]
 pub extern "C" fn vs_start_up_lent(
     context: Context,
     image: &mut [u8],
@@ -725,6 +834,34 @@ pub extern "C" fn vs_plan_set_lent(
         verdict,
     };
     let told = engine::write::plan_set(terms, limits, image, name, vendor, asking, bytes, content);
+    plan::in_numbers(told)
+}
+
+#[no_mangle]
+pub extern "C" fn vs_plan_profile_lent(
+    session: &[u8; lent::SESSION],
+    side: u32,
+    image: &[u8],
+    file: &[u8],
+    content: &mut [u8; layout::CONTENT],
+) -> HostPlan
+    ensures { λ r. ⌜ PlannedFor (book.profile (isModem side) (sessionOf (now (session .entry))) (now (file .entry))) (now (image .entry)) (now (content .exit)) r
+        × Kept
+        (profilePlan (isModem side) (sessionOf (now (session .entry))) (now (file .entry)) (now (image .entry)))
+        (now (content .entry))
+        (now (content .exit))
+        × Numbered
+        (profilePlan (isModem side) (sessionOf (now (session .entry))) (now (file .entry)) (now (image .entry)))
+        (now (image .entry))
+        (now (content .entry))
+        (now (content .exit))
+        r ⌝ }
+{
+    let said = lent::terms_for(session, session::is_modem(side));
+    let held = lent::locks(session);
+    let locks = lent::places(session);
+    let limits = lent::limits(session);
+    let told = engine::items::plan_profile(said, held, locks, limits, image, file, content);
     plan::in_numbers(told)
 }
 

@@ -17,3 +17,5 @@ pub mod Carrying
 pub mod Rooms
 -- The plan of a start-up, by what was found
 pub mod Starts
+-- A profile, by what was decided of its items
+pub mod Profiling

@@ -222,6 +222,6 @@ module _ (t : Terms) (table name vendor : List ℕ) (a : ℕ) (bytes : List ℕ)
           ready =
               d .ready
               (λ fits w. subst (λ (ss : List Store). ClearsOne (isState img) ss img) (ap (storesOf w) (put-plan h))
-              (marks-clear-one-bit w img bytes-img (set m s q) args .1 (changeIn q (valuesOf img)) refl (ap (inPlace img) (asked-change h) ∙ fits)))
+              (marks-clear-one-bit w img bytes-img (set m s q) args .1 (changeIn q (valuesOf img)) refl refl (ap (inPlace img) (asked-change h) ∙ fits)))
               (λ w. subst (λ (ss : List Store). ClearsOne (isRecord img) ss img) (ap (storesOf w) (put-plan h)) (marks-clear-one-bit w img bytes-img (set m s q) args .0));
         }

@@ -5,3 +5,5 @@ pub mod Read
 pub mod Many
 -- A start-up
 pub mod Shares
+-- Profiles
+pub mod Profile
