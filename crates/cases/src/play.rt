@@ -5,6 +5,7 @@
 //   F  format      b u8: the image becomes the first 4,096 * (2b + 1) bytes of the buffer, as they stand, and is formatted
 //   U  start-up    custom u8, reserve u32, records u32
 //   S  set         attributes u32, presence u8, verdict u8, vendor 16, name size u16, data size u32, name, data
+//   O  profile     size u32, the file
 //   G  get         buffer size u16, vendor 16, name size u16, name
 //   N  next-name   the same
 //   Q  many-get    buffer size u16, number of names u8 (up to 65), size of all places u16, the size of each name with its GUID u32, the places (144 bytes for each
@@ -30,7 +31,7 @@
 ghost use mathlib.Core.Path.{_≡_};
 ghost use Prim.Native.Nat.{_<_, _^_};
 ghost use Rattle.model.specs.Name.{keyed};
-ghost use Rattle.model.specs.Rules.{termsOf};
+ghost use Rattle.model.specs.Rules.{termsFor, termsOf};
 ghost use Rattle.io.specs.Counts.{Counts};
 use crate::fields;
 use crate::many;
@@ -47,6 +48,7 @@ use model::Session;
 use model::Setup;
 use model::Terms;
 use model::View;
+use session::Locks;
 
 // What is carried from a step to the next: the session, the last step's context for its dead bytes, its page and its side, what start-ups are given for its rules and
 // tenants, and whether a step has given tenants.
@@ -124,12 +126,12 @@ fn start_up(c: Context, step: &[u8], image: &mut [u8], ruled: Setup) -> Session 
     Session::fresh(setup)
 }
 
-// What a session says to a side's set of a name.
-fn terms(s: Session, modem: bool, name: &[u8], vendor: &[u8; 16]) -> Terms
-    ensures { λ r. ⌜ termsOf modem s (keyed (now (name .entry)) (now (vendor .entry))) ≡ r ⌝ }
+// What a session says to a side's call that names no name.
+fn said(s: Session, modem: bool) -> Terms
+    ensures { λ r. ⌜ termsFor modem s ≡ r ⌝ }
 {
     let tenant = s.setup.modem;
-    let said = session::terms_for(
+    session::terms_for(
         modem,
         s.phase,
         s.setup.custom,
@@ -138,7 +140,14 @@ fn terms(s: Session, modem: bool, name: &[u8], vendor: &[u8; 16]) -> Terms
         s.setup.share,
         tenant,
         s.setup.rules,
-    );
+    )
+}
+
+// And to a set of a name.
+fn terms(s: Session, modem: bool, name: &[u8], vendor: &[u8; 16]) -> Terms
+    ensures { λ r. ⌜ termsOf modem s (keyed (now (name .entry)) (now (vendor .entry))) ≡ r ⌝ }
+{
+    let said = said(s, modem);
     let sizes = s.sizes;
     let barred = session::is_barred(s.phase, s.count, sizes, &s.locks, name, vendor);
     session::terms(said, barred, name, vendor)
@@ -172,6 +181,29 @@ fn set(c: Context, step: &[u8], image: &mut [u8], s: Session) {
         &mut content,
     );
     print_answer(b"set", answer);
+}
+
+fn profile(c: Context, step: &[u8], image: &mut [u8], s: Session) {
+    let file = slices::cut(step, 9, fields::long(step, 5));
+    let said = said(s, session::is_modem(c.side));
+    let sizes = s.sizes;
+    let held = Locks {
+        phase: s.phase,
+        used: s.count,
+        sizes,
+    };
+    let mut content = content();
+    let answer = engine::items::profile(
+        c,
+        said,
+        held,
+        &s.locks,
+        &s.setup.limits,
+        image,
+        file,
+        &mut content,
+    );
+    print_answer(b"profile", answer);
 }
 
 // A get's answer; of a done one size, attributes and data too.
@@ -338,6 +370,7 @@ fn call(c: Context, step: &[u8], image: &mut [u8], target: &mut [u8], s: Session
     match fields::byte(step, 0) {
         b'F' => format(c, image),
         b'S' => set(c, step, image, s),
+        b'O' => profile(c, step, image, s),
         b'G' => read(c, step, image, s),
         b'N' => read(c, step, image, s),
         b'Q' => read(c, step, image, s),
@@ -402,6 +435,7 @@ fn step_size(step: &[u8]) -> usize
         b'F' => 6,
         b'U' => 14,
         b'S' => 33 + fields::short(step, 27) + fields::long(step, 29),
+        b'O' => 9 + fields::long(step, 5),
         b'G' => 25 + fields::short(step, 23),
         b'N' => 25 + fields::short(step, 23),
         b'Q' => 10 + 4 * fields::small(step, 7) + fields::short(step, 8),
