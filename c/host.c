@@ -1,7 +1,7 @@
 /* A host of the variable store.
  *
  *   host         a small flash part: set, append, delete, power cuts in a compaction, a byte that dies, pages, hardware error records, settings that
- *                must make sense and are read in one call, and a modem in the same image
+ *                must make sense, are read in one call and changed together, and a modem in the same image
  *   host IMAGE   lists the variables of an image file
  *
  * It shows how a firmware's variable driver is built on varstore.h: start up at every power-on, keep the session, ask with an empty buffer first, and carry
@@ -13,8 +13,8 @@
 
 #include "varstore_uefi.h"
 
-#if VS_INTERFACE != 9
-#error "this host knows the operations of interface 9"
+#if VS_INTERFACE != 10
+#error "this host knows the operations of interface 10"
 #endif
 
 enum { BLOCK = VS_BLOCK, PART = BLOCK * 3, PLAIN = VS_NV | VS_BOOT_ACCESS | VS_RUNTIME_ACCESS };
@@ -486,20 +486,26 @@ static vs_answer log_fault(const vs_session *session, unsigned number)
     return set_by(VS_OURS, record_vendor, session, text, PLAIN | VS_ERROR_RECORD, fault, sizeof fault);
 }
 
-/* The power fails in the compaction that logging makes, when so many stores are complete, or inside the next one; then it comes back, and the records are read. */
-static void cut_log(const uint8_t *before, unsigned number, uint64_t complete, int inside)
+static vs_answer log_asked(const vs_session *session, const void *number) { return log_fault(session, *(const unsigned *)number); }
+
+/* A call with what it is asked. */
+typedef vs_answer asking(const vs_session *session, const void *asked);
+
+/* The power fails in the compaction that a call makes on the part as it was, when so many stores are complete, or inside the next one; then it comes back, and the
+ * variables of a vendor are read. */
+static void cut_call(const uint8_t *before, asking *call, const void *asked, const uint8_t *vendor, uint64_t complete, int inside)
 {
     static vs_session session;
     memcpy(part.bytes, before, PART);
     power_on(&session);
     part.power = complete;
     part.inside = inside;
-    vs_answer answer = log_fault(&session, number);
+    vs_answer answer = call(&session, asked);
     part.power = UINT64_MAX;
     vs_answer started = power_on(&session);
     printf("power fails %s store %llu of it (%s): stores of the start-up %llu\n", inside ? "in" : "after", (unsigned long long)(complete + (inside ? 1 : 0)),
            answer.kind == VS_STOPPED ? "stopped" : "not stopped", (unsigned long long)started.stores);
-    list_of(record_vendor, &session, image, PART);
+    list_of(vendor, &session, image, PART);
 }
 
 /* Two records of 100 bytes take all that there is for them; our share is the rest of the region, 4,096 - 28 - 200 = 3,868 bytes: TRACE takes 2,120 and NOTES with
@@ -508,6 +514,7 @@ static void cut_log(const uint8_t *before, unsigned number, uint64_t complete, i
 static void records(vs_session *session)
 {
     static const uint8_t trace[2048] = {1}, notes[1677] = {2};
+    static const unsigned second = 2;
     static uint8_t kept[PART];
     part.width = 1;
     setup.records = 200;
@@ -527,8 +534,8 @@ static void records(vs_session *session)
     print_answer("delete HwErrRec0000", set_by(VS_OURS, record_vendor, session, "HwErrRec0000", 0, notes, 0));
     memcpy(kept, part.bytes, PART);
     print_answer("log fault 2", log_fault(session, 2));
-    cut_log(kept, 2, 4097, 1);
-    cut_log(kept, 2, 4098, 0);
+    cut_call(kept, log_asked, &second, record_vendor, 4097, 1);
+    cut_call(kept, log_asked, &second, record_vendor, 4098, 0);
 }
 
 /* The rules for this recorder's settings, as tools/settings writes them from host.rules: a rate that it can sample at, a flag, and the number that the factory gives
@@ -637,6 +644,90 @@ static void acquisition(vs_session *session)
     read_settings(session, data, sizeof data);
     printf("the same into 11 bytes, one less than they take\n");
     read_settings(session, data, 11);
+}
+
+/* ---- a station profile: settings that belong together, in one change
+ *
+ * With the new rate and the old trigger level a station records rubbish. Between two sets the power may fail; in a profile it leaves all settings as they were, or all
+ * as they shall be. A host gets the file from elsewhere, or writes it as here.
+ */
+
+typedef struct {
+    const char *name;
+    const void *data;
+    size_t size; /* with 0 the setting is deleted */
+} setting;
+
+typedef struct {
+    uint8_t bytes[512];
+    size_t size;
+} profile;
+
+static void add(profile *file, const void *bytes, size_t size)
+{
+    memcpy(file->bytes + file->size, bytes, size);
+    file->size += size;
+}
+
+/* Seven bits to a byte, the low ones first, and the top bit where another byte follows. */
+static void add_number(profile *file, size_t number)
+{
+    for (; number > 0x7F; number >>= 7) {
+        file->bytes[file->size++] = (uint8_t)(number | 0x80);
+    }
+    file->bytes[file->size++] = (uint8_t)number;
+}
+
+/* Up to eight settings of our own. They are small; a host that is given them from elsewhere looks at the room first. */
+static profile profile_of(const setting *settings, size_t count)
+{
+    profile file = {.size = 0};
+    add_number(&file, count);
+    for (const setting *s = settings; s < settings + count; s++) {
+        uint8_t name[VS_LARGEST_NAME];
+        size_t name_size = utf16(s->name, name);
+        add_number(&file, PLAIN);
+        add_number(&file, name_size);
+        add_number(&file, s->size);
+        add(&file, our_vendor, sizeof our_vendor);
+        add(&file, name, name_size);
+        add(&file, s->data, s->size);
+    }
+    return file;
+}
+
+static vs_answer apply(const vs_session *session, const void *asked)
+{
+    const profile *file = asked;
+    vs_plan plan = vs_plan_profile_lent(session, VS_OURS, image, PART, file->bytes, file->size, content);
+    return carry_out(&plan);
+}
+
+/* It has the rules for settings in force. The compaction makes 8,197 stores, and number 4,098 decides for all settings of the file. What the file changes stands last,
+ * as the file has it: 28 + 96 (SerialNumber) + 84 + 88 + 88 = 384. */
+static void profiles(vs_session *session)
+{
+    static const uint8_t yes = 1, no = 0, fast[4] = {200}, between[4] = {60}, low[2] = {5}, high[2] = {9};
+    static uint8_t kept[PART];
+    static profile wanted, forbidden, doubled;
+    wanted = profile_of((const setting[]){{"Compressed", &yes, 1}, {"SampleRate", fast, 4}, {"TriggerLevel", low, 2}}, 3);
+    forbidden = profile_of((const setting[]){{"Compressed", &no, 1}, {"SampleRate", between, 4}, {"TriggerLevel", high, 2}}, 3);
+    doubled = profile_of((const setting[]){{"TriggerLevel", high, 2}, {"SampleRate", fast, 4}, {"TriggerLevel", low, 2}}, 3);
+    printf("a station profile: Compressed, SampleRate and a new setting in one change\n");
+    memcpy(kept, part.bytes, PART);
+    cut_call(kept, apply, &wanted, our_vendor, 4096, 1);
+    cut_call(kept, apply, &wanted, our_vendor, 4097, 1);
+    cut_call(kept, apply, &wanted, our_vendor, 4098, 0);
+    memcpy(part.bytes, kept, PART);
+    print_answer("start-up", power_on(session));
+    print_answer("profile", apply(session, &wanted));
+    print_answer("the same profile", apply(session, &wanted));
+    print_answer("profile with SampleRate 60", apply(session, &forbidden));
+    print_answer("profile with TriggerLevel twice", apply(session, &doubled));
+    wanted.size--;
+    print_answer("profile whose last byte is missing", apply(session, &wanted));
+    list(session, image, PART);
+    printf("free from %u\n", (unsigned)vs_check(image, PART).tail);
 }
 
 /* ---- a modem in the same image
@@ -785,6 +876,7 @@ static int story(void)
     records(&session);
     settings(&session);
     acquisition(&session);
+    profiles(&session);
     tenant(&session);
     printf("dead bytes found: %u, at %u and %u\n", (unsigned)known.count, (unsigned)known.dead[0], (unsigned)known.dead[1]);
     return memcmp(image, part.bytes, PART) != 0;
@@ -800,7 +892,7 @@ int main(int argc, char **argv)
                 "usage: host [IMAGE]\n"
                 "  with IMAGE: lists the variables of an image file: name, attributes, data\n"
                 "  without: a small flash part, power cuts in a compaction, a byte that dies, pages, hardware error records, settings that must\n"
-                "  make sense and are read in one call, and a modem in the same image\n");
+                "  make sense, are read in one call and changed together, and a modem in the same image\n");
         return 2;
     }
     return list_file(argv[1]);

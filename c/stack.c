@@ -9,7 +9,7 @@
  * The caller's frame is measured, not reckoned: the same caller calls, on a stack of the same kind, a function that only returns. So are the copies: each rule is
  * known by its bytes, and two that stand as far apart as in the table tell where it was; a call may have written over the others.
  * Exit status 1 if a call takes more of its own, or in all, than it may, or makes more than one copy of the table; one with its session in the host's memory may make
- * none, and take 4,096 bytes in all, or 6,144 where it writes.
+ * none, and take 4,096 bytes in all.
  *
  *   stack
  */
@@ -20,13 +20,15 @@
 
 #include "varstore.h"
 
-enum { BLOCKS = 7, IMAGE = VS_LARGEST_IMAGE, STACK = 1 << 18, PAINT = 0xC5, ADDRESS = 8, OWN = 6 * 1024 + 512, ALL = 23 * 1024, LOCK = 28 * 1024, ALIKE = 40, READS = 4 * 1024, WRITES = 6 * 1024, PLAIN = VS_NV | VS_BOOT_ACCESS };
+enum { BLOCKS = 7, IMAGE = VS_LARGEST_IMAGE, STACK = 1 << 18, PAINT = 0xC5, ADDRESS = 8, OWN = 6 * 1024 + 512, ALL = 23 * 1024, LOCK = 28 * 1024, ALIKE = 40, LENT = 4 * 1024, PLAIN = VS_NV | VS_BOOT_ACCESS };
+/* A profile's settings, the data of each, and what each takes in the file: three numbers, GUID, name and data. */
+enum { ITEMS = 8, SETTING = 100, ITEM = 3 + 16 + 6 + SETTING };
 
 static const vs_context no_limit = {.limit = VS_NO_LIMIT};
 static vs_setup setup; /* no custom mode, no reserve, no bytes for error records, a modem with nothing, and as many rules as there may be */
 static const uint8_t vendor[16] = {1}, zeros[2048];
 static uint8_t image[IMAGE], plain[IMAGE], buffer[2048], content[VS_CONTENT], stack[STACK];
-static uint8_t keys[VS_NAMES * VS_KEY];
+static uint8_t keys[VS_NAMES * VS_KEY], file[1 + ITEMS * ITEM];
 static uint32_t sizes[VS_NAMES];
 static vs_item items[VS_NAMES];
 static vs_session session, made;
@@ -91,6 +93,18 @@ static void lay_keys(void)
         memcpy(keys + VS_KEY * i, vendor, sizeof vendor);
         memcpy(keys + VS_KEY * i + sizeof vendor, named(i), 6);
         sizes[i] = sizeof vendor + 6;
+    }
+}
+
+/* As many settings as a profile has: of the value that stands first, of one that is not there, and of more such. Each number takes one byte. */
+static void lay_file(void)
+{
+    uint8_t *item = file;
+    *item++ = ITEMS;
+    for (unsigned i = 0; i < ITEMS; i++, item += ITEM) {
+        memcpy(item, (const uint8_t[]){PLAIN, 6, SETTING}, 3);
+        memcpy(item + 3, vendor, sizeof vendor);
+        memcpy(item + 19, named(i == 0 ? FIRST : FREE + i - 1), 6);
     }
 }
 
@@ -168,6 +182,8 @@ static void plan_set(void)
     plan = CALL(vs_plan_set)(session, VS_OURS, image, IMAGE, name, sizeof name, vendor, attributes, zeros, size, 0, VS_BY_NONE, content);
 }
 
+static void profile(void) { answer = CALL(vs_profile)(no_limit, session, image, IMAGE, file, sizeof file, content); }
+static void plan_profile(void) { plan = CALL(vs_plan_profile)(session, VS_OURS, image, IMAGE, file, sizeof file, content); }
 static void session_fresh(void) { CALL(vs_session_fresh)(&session); }
 static void phase_lent(void) { CALL(vs_phase_lent)(&session, VS_RUNTIME); }
 static void lock_lent(void) { answer = CALL(vs_lock_lent)(&session, VS_OURS, name, sizeof name, vendor); }
@@ -189,6 +205,9 @@ static void plan_set_lent(void)
 {
     plan = CALL(vs_plan_set_lent)(&session, VS_OURS, image, IMAGE, name, sizeof name, vendor, attributes, zeros, size, 0, VS_BY_NONE, content);
 }
+
+static void profile_lent(void) { answer = CALL(vs_profile_lent)(no_limit, &session, image, IMAGE, file, sizeof file, content); }
+static void plan_profile_lent(void) { plan = CALL(vs_plan_profile_lent)(&session, VS_OURS, image, IMAGE, file, sizeof file, content); }
 
 /* The bytes of the stack that a caller and what it calls have used. */
 static size_t taken(void (*caller)(void))
@@ -233,7 +252,7 @@ typedef struct {
     unsigned i; /* of a set: the name's number, attributes, size */
     uint32_t attributes;
     size_t size;
-    size_t lent; /* with its session in the host's memory: the bytes that it may take in all */
+    int lent; /* whether its session is in the host's memory */
 } measured;
 
 static const measured calls[] = {
@@ -249,32 +268,36 @@ static const measured calls[] = {
     {"vs_set that deletes", set, 0, 1, ANSWER, FIRST, 0, 0, 0},
     {"vs_set that compacts", set, 1000, 50000, ANSWER, FIRST, PLAIN, 1000, 0},
     {"vs_set that appends and compacts", set, 2048, 50000, ANSWER, FIRST, PLAIN | VS_APPEND, 1024, 0},
+    {"vs_profile", profile, 1000, 50000, ANSWER, 0, 0, 0, 0},
     {"vs_format", format, 0, 15, ANSWER, 0, 0, 0, 0},
     {"vs_start_up that compacts", start_up, 0, 50000, STARTED, 0, 0, 0, 0},
     {"vs_plan_set in the tail", plan_set, 0, 60, PLANNED, FREE, PLAIN, 1, 0},
     {"vs_plan_set that deletes", plan_set, 0, 1, PLANNED, FIRST, 0, 0, 0},
     {"vs_plan_set that compacts", plan_set, 1000, 50000, PLANNED, FIRST, PLAIN, 1000, 0},
     {"vs_plan_set, appends and compacts", plan_set, 2048, 50000, PLANNED, FIRST, PLAIN | VS_APPEND, 1024, 0},
+    {"vs_plan_profile", plan_profile, 1000, 50000, PLANNED, 0, 0, 0, 0},
     {"vs_plan_format", plan_format, 0, 15, PLANNED, 0, 0, 0, 0},
     {"vs_plan_start_up that compacts", plan_start_up, 0, 50000, PLANNED, 0, 0, 0, 0},
     {"vs_to_plain", to_plain, 0, 0, ANSWER, 0, 0, 0, 0},
     {"vs_from_plain", from_plain, 0, 0, ANSWER, 0, 0, 0, 0},
-    {"vs_session_fresh", session_fresh, 0, 0, ANSWER, 0, 0, 0, READS},
-    {"vs_phase_lent", phase_lent, 0, 0, ANSWER, 0, 0, 0, READS},
-    {"vs_lock_lent", lock_lent, 0, 0, ANSWER, 0, 0, 0, WRITES},
-    {"vs_get_lent", get_lent, 0, 0, ANSWER, 0, 0, 0, READS},
-    {"vs_get_many_lent", many_lent, 0, 0, ANSWER, 0, 0, 0, READS},
-    {"vs_query_lent", query_lent, 0, 0, ANSWER, 0, 0, 0, READS},
-    {"vs_next_name_lent", next_lent, 0, 0, ANSWER, 0, 0, 0, READS},
-    {"vs_set_lent in the tail", set_lent, 0, 60, ANSWER, FREE, PLAIN, 1, WRITES},
-    {"vs_set_lent that deletes", set_lent, 0, 1, ANSWER, FIRST, 0, 0, WRITES},
-    {"vs_set_lent that compacts", set_lent, 1000, 50000, ANSWER, FIRST, PLAIN, 1000, WRITES},
-    {"vs_set_lent, appends and compacts", set_lent, 2048, 50000, ANSWER, FIRST, PLAIN | VS_APPEND, 1024, WRITES},
-    {"vs_start_up_lent that compacts", start_up_lent, 0, 50000, ANSWER, 0, 0, 0, WRITES},
-    {"vs_plan_set_lent in the tail", plan_set_lent, 0, 60, PLANNED, FREE, PLAIN, 1, WRITES},
-    {"vs_plan_set_lent that compacts", plan_set_lent, 1000, 50000, PLANNED, FIRST, PLAIN, 1000, WRITES},
-    {"vs_plan_set_lent, appends", plan_set_lent, 2048, 50000, PLANNED, FIRST, PLAIN | VS_APPEND, 1024, WRITES},
-    {"vs_plan_start_up_lent, compacts", plan_start_up_lent, 0, 50000, PLANNED, 0, 0, 0, WRITES},
+    {"vs_session_fresh", session_fresh, 0, 0, ANSWER, 0, 0, 0, 1},
+    {"vs_phase_lent", phase_lent, 0, 0, ANSWER, 0, 0, 0, 1},
+    {"vs_lock_lent", lock_lent, 0, 0, ANSWER, 0, 0, 0, 1},
+    {"vs_get_lent", get_lent, 0, 0, ANSWER, 0, 0, 0, 1},
+    {"vs_get_many_lent", many_lent, 0, 0, ANSWER, 0, 0, 0, 1},
+    {"vs_query_lent", query_lent, 0, 0, ANSWER, 0, 0, 0, 1},
+    {"vs_next_name_lent", next_lent, 0, 0, ANSWER, 0, 0, 0, 1},
+    {"vs_set_lent in the tail", set_lent, 0, 60, ANSWER, FREE, PLAIN, 1, 1},
+    {"vs_set_lent that deletes", set_lent, 0, 1, ANSWER, FIRST, 0, 0, 1},
+    {"vs_set_lent that compacts", set_lent, 1000, 50000, ANSWER, FIRST, PLAIN, 1000, 1},
+    {"vs_set_lent, appends and compacts", set_lent, 2048, 50000, ANSWER, FIRST, PLAIN | VS_APPEND, 1024, 1},
+    {"vs_profile_lent", profile_lent, 1000, 50000, ANSWER, 0, 0, 0, 1},
+    {"vs_start_up_lent that compacts", start_up_lent, 0, 50000, ANSWER, 0, 0, 0, 1},
+    {"vs_plan_set_lent in the tail", plan_set_lent, 0, 60, PLANNED, FREE, PLAIN, 1, 1},
+    {"vs_plan_set_lent that compacts", plan_set_lent, 1000, 50000, PLANNED, FIRST, PLAIN, 1000, 1},
+    {"vs_plan_set_lent, appends", plan_set_lent, 2048, 50000, PLANNED, FIRST, PLAIN | VS_APPEND, 1024, 1},
+    {"vs_plan_profile_lent", plan_profile_lent, 1000, 50000, PLANNED, 0, 0, 0, 1},
+    {"vs_plan_start_up_lent, compacts", plan_start_up_lent, 0, 50000, PLANNED, 0, 0, 0, 1},
 };
 
 /* All is laid ready; a start-up finds a byte in the tail that no entry accounts for, and a move from the plain form what one to it has left. */
@@ -304,6 +327,7 @@ int main(void)
     int wrong = 0;
     lay_rules();
     lay_keys();
+    lay_file();
     taken(enter);
     size_t above = STACK - (size_t)(begin - stack), most_own = 0, most_copies = 0, most_total = 0;
     printf("%-34s%7s%7s%7s\n", "bytes of stack", "own", "copies", "total");
@@ -323,9 +347,9 @@ int main(void)
         most_own = own > most_own ? own : most_own;
         most_copies = copies > most_copies ? copies : most_copies;
         most_total = total > most_total ? total : most_total;
-        wrong |= own > OWN || copies > (m->lent ? 0 : sizeof setup.settings) || total > (m->lent ? m->lent : m->caller == lock ? LOCK : ALL);
+        wrong |= own > OWN || copies > (m->lent ? 0 : sizeof setup.settings) || total > (m->lent ? LENT : m->caller == lock ? LOCK : ALL);
     }
     printf("%-34s%7zu%7zu%7zu\n", "most", most_own, most_copies, most_total);
-    printf("%-34s%7d%7zu%7d   in all %d but for a lock, %d and %d lent\n", "allowed", OWN, sizeof setup.settings, LOCK, ALL, READS, WRITES);
+    printf("%-34s%7d%7zu%7d   in all %d but for a lock, %d lent\n", "allowed", OWN, sizeof setup.settings, LOCK, ALL, LENT);
     return wrong;
 }

@@ -47,9 +47,12 @@ static const char *named(uint64_t status)
     return "none";
 }
 
+/* No rule has the number NONE. */
+enum { LAST = VS_TWICE, NONE = 24 };
+
 static void list_statuses(void)
 {
-    for (uint32_t rule = 1; rule <= VS_WORN; rule++) {
+    for (uint32_t rule = 1; rule <= LAST; rule++) {
         if (strcmp(vs_uefi_text(rule), "unknown rule") != 0) {
             printf("%u %s\n", (unsigned)rule, named(vs_uefi_status(rule)));
         }
@@ -63,13 +66,13 @@ static void answers(void)
     RIGHT(vs_uefi_answer((vs_answer){VS_STOPPED, 0, 0}) == 0x8000000000000007u);
     RIGHT(vs_uefi_answer((vs_answer){VS_REFUSED, VS_ABSENT, 0}) == 0x800000000000000Eu);
     /* a rule that this header does not know is no success */
-    RIGHT(vs_uefi_status(24) == 0x8000000000000007u && vs_uefi_status(1000) == 0x8000000000000007u);
-    RIGHT(strcmp(vs_uefi_text(24), "unknown rule") == 0 && strcmp(vs_uefi_text(1000), "unknown rule") == 0);
+    RIGHT(vs_uefi_status(NONE) == 0x8000000000000007u && vs_uefi_status(1000) == 0x8000000000000007u);
+    RIGHT(strcmp(vs_uefi_text(NONE), "unknown rule") == 0 && strcmp(vs_uefi_text(1000), "unknown rule") == 0);
     /* a call by the wrong side, and a start-up with shares that do not fit; every other rule is the same of both */
     RIGHT(vs_uefi_status(VS_SIDE) == 0x800000000000000Fu && vs_uefi_started(VS_SIDE) == 0x8000000000000002u);
-    for (uint32_t rule = 0; rule <= VS_WORN; rule++) {
+    for (uint32_t rule = 0; rule <= LAST; rule++) {
         RIGHT(rule == VS_SIDE || vs_uefi_started(rule) == vs_uefi_status(rule));
-        RIGHT(strcmp(vs_uefi_text(rule), "unknown rule") != 0);
+        RIGHT(rule == NONE || strcmp(vs_uefi_text(rule), "unknown rule") != 0);
         for (uint32_t other = 0; other < rule; other++) {
             RIGHT(strcmp(vs_uefi_text(rule), vs_uefi_text(other)) != 0);
         }

@@ -41,6 +41,8 @@ static inline uint64_t vs_uefi_status(uint32_t rule)
     case VS_DATA_SIZE:
     case VS_RECORD_NAME:
     case VS_SETTING:
+    case VS_FILE:
+    case VS_TWICE:
         return VS_EFI_INVALID_PARAMETER;
     case VS_LOCKED:
     case VS_LOCK_PHASE:
@@ -150,6 +152,10 @@ static inline const char *vs_uefi_text(uint32_t rule)
         return "the other side's name, or shares that do not fit";
     case VS_WORN:
         return "a byte no longer clears";
+    case VS_FILE:
+        return "not the form of a profile";
+    case VS_TWICE:
+        return "a profile names a variable twice";
     default:
         return "unknown rule";
     }
