@@ -19,6 +19,7 @@ pub struct Calls {
     pub get_many: fn(Context, &Session, &[u8], &[Key], &mut [u8]) -> Replies,
     pub next_name: Read,
     pub set: fn(Context, &Session, &mut [u8], &Request) -> Answer,
+    pub profile: fn(Context, &Session, &mut [u8], &[u8]) -> Answer,
     pub format: fn(Context, &mut [u8]) -> Answer,
     pub start_up: fn(Context, &mut [u8], &Setup) -> Started,
     pub from_plain: Move,
@@ -41,6 +42,7 @@ pub const PAPER: Calls = Calls {
     get_many: paper::get_many,
     next_name: paper::next_name,
     set: paper::set,
+    profile: paper::profile,
     format: paper::format,
     start_up: paper::start_up,
     from_plain: paper::from_plain,
@@ -57,18 +59,20 @@ pub const ENGINE: Calls = Calls {
     get_many: engine::get_many,
     next_name: engine::next_name,
     set: |context, session, image, request| lent(|content| engine::set(context, session, image, request, content)),
+    profile: |context, session, image, file| lent(|content| engine::profile(context, session, image, file, content)),
     format: |context, image| lent(|content| engine::format(context, image, content)),
     start_up: |context, image, setup| lent(|content| engine::start_up(context, image, setup, content)),
     from_plain: engine::from_plain,
     to_plain: engine::to_plain,
 };
 
-/// The engine with its session lent to get, next-name and set.
+/// The engine with its session lent to get, next-name, set and profile.
 pub const LENT: Calls = Calls {
     who: "lent",
     get: engine::lent::get,
     next_name: engine::lent::next_name,
     set: |context, session, image, request| lent(|content| engine::lent::set(context, session, image, request, content)),
+    profile: |context, session, image, file| lent(|content| engine::lent::profile(context, session, image, file, content)),
     ..ENGINE
 };
 

@@ -142,7 +142,7 @@ macro_rules! of_form {
 }
 
 #[rustfmt::skip]
-of_form! { 9
+of_form! { 10
     fn vs_check(image: *const u8, image_len: usize) -> RawChecked;
     fn vs_session_new(setup: Setup) -> Session;
     fn vs_phase(session: Session, phase: u32) -> Session;
@@ -156,12 +156,14 @@ of_form! { 9
     fn vs_set(context: Context, session: Session, image: *mut u8, image_len: usize, name: *const u8, name_len: usize,
               vendor: *const Guid, attributes: u32, data: *const u8, data_len: usize, presence: u32, verdict: u32,
               content: *mut Content) -> RawAnswer;
+    fn vs_profile(context: Context, session: Session, image: *mut u8, image_len: usize, file: *const u8, file_len: usize, content: *mut Content) -> RawAnswer;
     fn vs_format(context: Context, image: *mut u8, image_len: usize, content: *mut Content) -> RawAnswer;
     fn vs_start_up(context: Context, image: *mut u8, image_len: usize, setup: Setup, content: *mut Content) -> RawStarted;
     fn vs_from_plain(image: *const u8, image_len: usize, target: *mut u8, target_len: usize) -> RawAnswer;
     fn vs_to_plain(image: *const u8, image_len: usize, target: *mut u8, target_len: usize) -> RawAnswer;
     fn vs_plan_set(session: Session, side: u32, image: *const u8, image_len: usize, name: *const u8, name_len: usize, vendor: *const Guid,
                    attributes: u32, data: *const u8, data_len: usize, presence: u32, verdict: u32, content: *mut Content) -> RawPlan;
+    fn vs_plan_profile(session: Session, side: u32, image: *const u8, image_len: usize, file: *const u8, file_len: usize, content: *mut Content) -> RawPlan;
     fn vs_plan_start_up(image: *const u8, image_len: usize, setup: Setup, content: *mut Content) -> RawPlan;
     fn vs_plan_format(image: *const u8, image_len: usize, content: *mut Content) -> RawPlan;
     fn vs_query(context: Context, session: Session, image: *const u8, image_len: usize, attributes: u32) -> RawRoom;
@@ -178,9 +180,13 @@ of_form! { 9
     fn vs_set_lent(context: Context, session: *const Session, image: *mut u8, image_len: usize, name: *const u8, name_len: usize,
                    vendor: *const Guid, attributes: u32, data: *const u8, data_len: usize, presence: u32, verdict: u32,
                    content: *mut Content) -> RawAnswer;
+    fn vs_profile_lent(context: Context, session: *const Session, image: *mut u8, image_len: usize, file: *const u8, file_len: usize,
+                       content: *mut Content) -> RawAnswer;
     fn vs_start_up_lent(context: Context, image: *mut u8, image_len: usize, session: *mut Session, content: *mut Content) -> RawAnswer;
     fn vs_plan_set_lent(session: *const Session, side: u32, image: *const u8, image_len: usize, name: *const u8, name_len: usize, vendor: *const Guid,
                         attributes: u32, data: *const u8, data_len: usize, presence: u32, verdict: u32, content: *mut Content) -> RawPlan;
+    fn vs_plan_profile_lent(session: *const Session, side: u32, image: *const u8, image_len: usize, file: *const u8, file_len: usize,
+                            content: *mut Content) -> RawPlan;
 }
 
 impl RawReply {
@@ -294,6 +300,11 @@ pub fn set(context: Context, session: &Session, image: &mut [u8], request: &Requ
     unsafe { vs_set(context, *session, first, whole, name, size, key.vendor, attributes, bytes, length, presence, verdict, content) }.answer()
 }
 
+/// The settings of a file as one change.
+pub fn profile(context: Context, session: &Session, image: &mut [u8], file: &[u8], content: &mut Content) -> Answer {
+    unsafe { vs_profile(context, *session, image.as_mut_ptr(), image.len(), file.as_ptr(), file.len(), content) }.answer()
+}
+
 pub fn format(context: Context, image: &mut [u8], content: &mut Content) -> Answer {
     unsafe { vs_format(context, image.as_mut_ptr(), image.len(), content) }.answer()
 }
@@ -318,6 +329,11 @@ pub fn plan_set(session: &Session, side: u32, image: &[u8], request: &Request, c
     let (bytes, length) = (data.as_ptr(), data.len());
     let (first, whole) = (image.as_ptr(), image.len());
     unsafe { vs_plan_set(*session, side, first, whole, name, size, key.vendor, attributes, bytes, length, presence, verdict, content) }.plan()
+}
+
+/// The same of a profile.
+pub fn plan_profile(session: &Session, side: u32, image: &[u8], file: &[u8], content: &mut Content) -> Result<Plan, Rule> {
+    unsafe { vs_plan_profile(*session, side, image.as_ptr(), image.len(), file.as_ptr(), file.len(), content) }.plan()
 }
 
 /// The same of a start-up, whose session is `session_new`'s.
@@ -386,6 +402,10 @@ pub mod lent {
         unsafe { vs_set_lent(context, session, first, whole, name, size, key.vendor, attributes, bytes, length, presence, verdict, content) }.answer()
     }
 
+    pub fn profile(context: Context, session: &Session, image: &mut [u8], file: &[u8], content: &mut Content) -> Answer {
+        unsafe { vs_profile_lent(context, session, image.as_mut_ptr(), image.len(), file.as_ptr(), file.len(), content) }.answer()
+    }
+
     /// The session holds the setup, and becomes the fresh one.
     pub fn start_up(context: Context, image: &mut [u8], session: &mut Session, content: &mut Content) -> Answer {
         unsafe { vs_start_up_lent(context, image.as_mut_ptr(), image.len(), session, content) }.answer()
@@ -397,5 +417,9 @@ pub mod lent {
         let (bytes, length) = (data.as_ptr(), data.len());
         let (first, whole) = (image.as_ptr(), image.len());
         unsafe { vs_plan_set_lent(session, side, first, whole, name, size, key.vendor, attributes, bytes, length, presence, verdict, content) }.plan()
+    }
+
+    pub fn plan_profile(session: &Session, side: u32, image: &[u8], file: &[u8], content: &mut Content) -> Result<Plan, Rule> {
+        unsafe { vs_plan_profile_lent(session, side, image.as_ptr(), image.len(), file.as_ptr(), file.len(), content) }.plan()
     }
 }

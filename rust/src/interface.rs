@@ -5,7 +5,7 @@ use std::fmt;
 pub type Guid = [u8; 16];
 
 /// Rules a call can break, by their numbers. Those of 01 are in checking order; 02's are not: 22 is tried after 3 and, by a start-up, after 2, 17 after 5, 21 and then 18
-/// between 12 and 13, a move tries 1, 19, 20, 13, and 23 is met by a store.
+/// between 12 and 13, a move tries 1, 19, 20, 13, a profile 25 and 26 after 2, and 23 is met by a store.
 #[derive(Clone, Copy, PartialEq, Eq, PartialOrd, Ord, Debug)]
 #[repr(u32)]
 pub enum Rule {
@@ -32,10 +32,12 @@ pub enum Rule {
     Setting,
     Tenant,
     Worn,
+    File = 25,
+    Twice,
 }
 
 impl Rule {
-    pub const ALL: [Rule; 23] = [
+    pub const ALL: [Rule; 25] = [
         Rule::Length,
         Rule::Unready,
         Rule::Name,
@@ -59,6 +61,8 @@ impl Rule {
         Rule::Setting,
         Rule::Tenant,
         Rule::Worn,
+        Rule::File,
+        Rule::Twice,
     ];
 
     pub fn number(self) -> u32 {
@@ -134,6 +138,9 @@ pub const PLACE: usize = 144;
 
 /// 02 (g): the most names of one call.
 pub const NAMES: usize = 64;
+
+/// 02 (l): the most settings of a profile.
+pub const ITEMS: usize = 8;
 
 /// Places for 02 (e)'s rules, and for the numbers of one.
 pub const SETTINGS: usize = 32;

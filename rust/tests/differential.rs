@@ -13,6 +13,7 @@ use common::book::Book;
 use common::cases::S;
 use common::cuts::places;
 use common::generate::{self, Asked, Name, BLOCK};
+use common::profiles::Profile;
 use common::random::Random;
 use common::settings::{check_broken, check_kept, is_ruled};
 use common::stored::{carry_out, Call};
@@ -198,6 +199,41 @@ impl<'t> Pair<'t> {
         answer
     }
 
+    /// One that is done leaves the values that its items leave as sets, none of which breaks a rule.
+    fn profile(&mut self, profile: &Profile, limit: u64) -> Answer {
+        let (before, call) = (self.image.clone(), Call::Profile(profile.clone()));
+        let answer = self.store("profile", &call, limit);
+        if let Answer::Done(_) = answer {
+            let (mut book, sets) = (Book::of(&before), call.sets());
+            sets.iter().for_each(|asked| book.set(&asked.request()));
+            assert!(Book::of(&self.image) == book, "the values after {profile:?}");
+            sets.iter().for_each(|asked| check_kept(&self.session, &asked.request(), &book));
+            if sets.iter().any(|asked| is_ruled(&self.session, asked.name.key())) {
+                self.count("profile within its rules", answer);
+            }
+        }
+        if profile.side == MODEM {
+            self.count("profile by the modem", answer);
+        }
+        answer
+    }
+
+    /// Another phase, room and rules from here on, once in some times, with an eye to the next profile.
+    fn other_terms(&mut self, r: &mut Random, next: &Profile) {
+        if r.once_in(2) {
+            self.session.phase = r.pick(&[0, 0, 1, 2]);
+            self.session.count = r.pick(&[0, 0, 2]);
+        }
+        if !r.once_in(3) {
+            generate::room_for_items(r, &mut self.session, &self.image, next);
+        }
+        match r.below(4) {
+            0 => self.session.setup = self.session.setup.ruled(&generate::rules_for_items(r, &self.image, next)),
+            1 => {}
+            _ => self.session.setup.rules = 0,
+        }
+    }
+
     fn format(&mut self, limit: u64) {
         self.store("format", &Call::Format, limit);
     }
@@ -224,6 +260,11 @@ impl<'t> Pair<'t> {
     fn set_with_stops(&mut self, r: &mut Random, asked: &Asked) {
         self.store_with_stops(r, "set", &Call::Set(asked.clone()));
         self.set(asked, u64::MAX);
+    }
+
+    fn profile_with_stops(&mut self, r: &mut Random, profile: &Profile) {
+        self.store_with_stops(r, "profile", &Call::Profile(profile.clone()));
+        self.profile(profile, u64::MAX);
     }
 
     fn start_up_with_stops(&mut self, r: &mut Random) {
@@ -351,8 +392,15 @@ fn random_lock(pair: &mut Pair, r: &mut Random) {
     pair.lock(&name);
 }
 
+fn random_profile(pair: &mut Pair, r: &mut Random) {
+    let profile = generate::profile(r, &pair.session.setup, &pair.image);
+    pair.other_terms(r, &profile);
+    pair.other_chip(r, &Call::Profile(profile.clone()));
+    pair.profile(&profile, limit(r));
+}
+
 fn random_call(pair: &mut Pair, r: &mut Random) {
-    match r.below(20) {
+    match r.below(23) {
         0..=2 => random_get(pair, r),
         3..=5 => random_next(pair, r),
         6 => {
@@ -367,6 +415,7 @@ fn random_call(pair: &mut Pair, r: &mut Random) {
         }
         9 => random_lock(pair, r),
         10 => pair.phase(r.pick(&[0, 1, 2, 3, u32::MAX])),
+        20.. => random_profile(pair, r),
         _ => {
             let mut asked = generate::asked_on(r, &pair.image);
             asked.side = generate::side(r, &pair.session.setup, asked.name.key());
@@ -399,6 +448,12 @@ fn any_call() {
     expect_seen(&tally, "set by the modem", &["done", "done without stores", "stopped", "refused 11", "refused 13", "refused 22", "refused 23"]);
     expect_seen(&tally, "set within its rules", &["done", "done without stores"]);
     expect_seen(&tally, "rule 21", &BREACHES);
+    expect_seen(&tally, "profile", &["done", "done without stores", "stopped"]);
+    for rule in [2, 3, 4, 5, 6, 7, 11, 12, 13, 17, 21, 22, 23, 25, 26] {
+        expect_seen(&tally, "profile", &[&format!("refused {rule}")]);
+    }
+    expect_seen(&tally, "profile by the modem", &["done", "done without stores", "stopped", "refused 13", "refused 22", "refused 23"]);
+    expect_seen(&tally, "profile within its rules", &["done", "done without stores"]);
     expect_seen(&tally, "get", &["done without stores", "refused 2", "refused 3", "refused 11", "refused 14", "refused 22"]);
     expect_seen(&tally, "next", &["done without stores", "refused 2", "refused 3", "refused 11", "refused 14", "refused 22"]);
     expect_seen(&tally, "startup", &["done", "done without stores", "stopped", "refused 2", "refused 22", "refused 23"]);
@@ -406,7 +461,8 @@ fn any_call() {
     expect_seen(&tally, "lock", &["done without stores", "refused 3", "refused 15", "refused 16", "refused 22"]);
     expect_seen(&tally, "plan", &["set refused", "set that does nothing", "set that marks", "set that programs", "set that programs and erases"]);
     expect_seen(&tally, "plan", &["startup refused", "startup that does nothing", "startup that erases", "startup that programs and erases"]);
-    expect_seen(&tally, "plan", &["set that fails", "startup that fails", "format that fails"]);
+    expect_seen(&tally, "plan", &["set that fails", "startup that fails", "format that fails", "profile that fails"]);
+    expect_seen(&tally, "plan", &["profile refused", "profile that does nothing", "profile that programs and erases"]);
 }
 
 /// The same image with one more damage each time: whether a call may use it, what a start-up makes of it, and what is read.
@@ -450,6 +506,10 @@ fn stops() {
             pair.other_space(r, &asked);
             pair.other_rules(r, &asked);
             pair.set_with_stops(r, &asked);
+            if r.once_in(3) {
+                let profile = generate::profile(r, &pair.session.setup, &pair.image);
+                pair.profile_with_stops(r, &profile);
+            }
             let cut = generate::asked_on(r, &pair.image);
             if pair.set(&cut, limit(r)) == Answer::Stopped {
                 pair.start_up_with_stops(r);
@@ -457,6 +517,7 @@ fn stops() {
         }
     });
     expect_seen(&tally, "set", &["done", "done without stores", "stopped", "refused 2", "refused 21", "refused 23"]);
+    expect_seen(&tally, "profile", &["done", "done without stores", "stopped", "refused 2", "refused 23", "refused 25"]);
     expect_seen(&tally, "startup", &["done", "done without stores", "stopped", "refused 2", "refused 23"]);
 }
 
@@ -605,6 +666,8 @@ fn lengths() {
             random_next(&mut pair, &mut r);
             for _ in 0..5 {
                 pair.set(&generate::asked(&mut r), u64::MAX);
+                let profile = generate::profile(&mut r, &Setup::PLAIN, &pair.image);
+                pair.profile(&profile, u64::MAX);
             }
             pair.start_up(u64::MAX, Setup { custom: 3, reserve: 5000, records: 70_000, ..Setup::PLAIN });
             for n in (0..=44).chain([u64::MAX]) {
@@ -623,7 +686,7 @@ fn lengths() {
     expect_seen(&tally, "check", &["done without stores", "refused 1", "refused 2"]);
     expect_seen(&tally, "format", &["done", "stopped", "refused 1"]);
     expect_seen(&tally, "plan", &["format refused", "format that programs and erases", "set refused", "startup refused"]);
-    for call in ["set", "get", "next", "startup"] {
+    for call in ["set", "get", "next", "startup", "profile"] {
         expect_seen(&tally, call, &["refused 1"]);
     }
 }

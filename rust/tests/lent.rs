@@ -3,15 +3,15 @@
 
 mod common;
 
-use common::generate::{asked_on, filled, session, side};
+use common::generate::{asked_on, filled, profile, session, side};
 use common::random::Random;
 use varstore::calls::lent;
 use varstore::engine;
 use varstore::interface::{Answer, Context, Session};
 
 const SESSIONS: usize = 5_000;
-/// Fresh session, phase, lock, get, next-name, set, plan of a set, start-up.
-const COMPARED: usize = 8;
+/// Fresh session, phase, lock, get, next-name, set, plan of a set, profile, plan of a profile, start-up.
+const COMPARED: usize = 10;
 
 /// A session, sometimes with numbers or bytes of another writer.
 fn foreign(r: &mut Random) -> Session {
@@ -40,7 +40,7 @@ fn same<T: PartialEq + std::fmt::Debug>(what: &str, image: &[u8], ours: impl FnO
 #[test]
 fn lent_calls_are_those_by_value() {
     let mut r = Random::new(0x6E);
-    let (mut compared, mut done, mut locked) = (0, 0, 0);
+    let (mut compared, mut done, mut one, mut locked) = (0, 0, 0, 0);
     for turn in 0..SESSIONS {
         let mut image = filled(&mut r, 1);
         if r.once_in(8) {
@@ -89,11 +89,25 @@ fn lent_calls_are_those_by_value() {
             |i| lent(|content| (engine::set(limit, &by_value, i, &request, content), *content)),
         );
         done += usize::from(matches!(set.0, Answer::Done(_)));
-        same(
+        let _ = same(
             &format!("turn {turn}: plan of a set"),
             &image,
             |i| lent(|content| (engine::lent::plan_set(&held, side, i, &request, content), *content)),
             |i| lent(|content| (engine::plan_set(&by_value, side, i, &request, content), *content)),
+        );
+        let asked = profile(&mut r, &by_value.setup, &image);
+        let profiled = same(
+            &format!("turn {turn}: profile"),
+            &image,
+            |i| lent(|content| (engine::lent::profile(limit.by(asked.side), &held, i, &asked.file, content), *content)),
+            |i| lent(|content| (engine::profile(limit.by(asked.side), &by_value, i, &asked.file, content), *content)),
+        );
+        one += usize::from(matches!(profiled.0, Answer::Done(_)));
+        let _ = same(
+            &format!("turn {turn}: plan of a profile"),
+            &image,
+            |i| lent(|content| (engine::lent::plan_profile(&held, asked.side, i, &asked.file, content), *content)),
+            |i| lent(|content| (engine::plan_profile(&by_value, asked.side, i, &asked.file, content), *content)),
         );
         assert!(held == by_value, "turn {turn}: a session that is only read");
         same(
@@ -110,6 +124,9 @@ fn lent_calls_are_those_by_value() {
         );
         compared += COMPARED;
     }
-    assert_eq!(compared, 40_000);
-    assert!(done > SESSIONS / 20 && locked > SESSIONS / 50, "only {done} sets were done, and {locked} locks made");
+    assert_eq!(compared, 50_000);
+    assert!(
+        done > SESSIONS / 20 && one > SESSIONS / 20 && locked > SESSIONS / 50,
+        "only {done} sets and {one} profiles were done, and {locked} locks made"
+    );
 }

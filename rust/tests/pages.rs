@@ -3,7 +3,7 @@
 
 mod common;
 
-use common::cases::{asked, being_replaced, compacting, crowded, delete, empty, record, set, with_dirty_tail, with_leftover};
+use common::cases::{asked, being_replaced, compacting, crowded, delete, empty, profile, profiling, record, set, with_dirty_tail, with_leftover};
 use common::cuts::{begun, places, Begun, Cut, Run, Way, START_UP};
 use common::failing::{fail_at, WORN};
 use common::generate::{self, BLOCK};
@@ -59,6 +59,9 @@ fn numbers_of_stores_of_compactions() {
         stores_of(&on(width, crowded(1)), &compacting(), 5 + 2 * pages);
         stores_of(&on(width, crowded(1).recorded(64)), &compacting(), 6 + 2 * pages);
         stores_of(&on(width, crowded(2)), &compacting(), 7 + 4 * pages);
+        stores_of(&on(width, crowded(1)), &profiling(), 5 + 2 * pages);
+        stores_of(&on(width, crowded(2).recorded(64)), &profiling(), 8 + 4 * pages);
+        stores_of(&on(width, empty(1).with(RATE, OLD)), &profile(&[(RATE, OLD)]), 0);
         stores_of(&on(width, with_dirty_tail(1)), &START_UP, 5 + 2 * pages);
         let decided = on(width, crowded(1)).stopped(&compacting(), pages + 2);
         stores_of(&decided, &START_UP, 3 + pages);
@@ -144,6 +147,9 @@ fn long_cases() -> Vec<(Run, Call)> {
     vec![
         (crowded(1), compacting()),
         (crowded(1).recorded(64), compacting()),
+        (crowded(1), profiling()),
+        (empty(1).with(RATE, OLD).recorded(64), profile(&[(RATE, NEW), (A, &[0xFF; 33])])),
+        (crowded(1).stopped(&profiling(), 4098), START_UP),
         (empty(1).with(A, &[1; 2048]).with(B, &[2; 1892]), set(A, &[3; 2048])),
         (crowded(1).stopped(&compacting(), 4098), START_UP),
         (crowded(1).stopped(&compacting(), 6000), START_UP),
@@ -358,11 +364,11 @@ fn calls_without_stores() {
     }
 }
 
-/// Sets, deletes and start-ups, each on a chip of another width, many of them cut between pages or inside one. After every start-up that is done the image's list of
+/// Sets, deletes, profiles and start-ups, each on a chip of another width, many of them cut between pages or inside one. After every start-up that is done the image's list of
 /// values equals the book.
 #[test]
 fn widths_that_change_in_a_run() {
-    let mut torn = 0;
+    let mut torn = [0; 2];
     rounds(3, 100, |r| {
         let mut image = if r.once_in(2) { generate::filled(r, 1) } else { generate::crafted::<Authenticated>(r, 1) };
         let setup = admitting(&image);
@@ -376,14 +382,18 @@ fn widths_that_change_in_a_run() {
             run.session = (ENGINE.session_new)(&generate::lenient(r, run.image.len()));
             let mut asked = generate::asked_on(r, &run.image);
             asked.presence = 1;
-            let call = if r.once_in(4) { START_UP } else { Call::Set(asked) };
+            let call = match r.below(6) {
+                0 => START_UP,
+                1 | 2 => Call::Profile(generate::profile(r, &run.session.setup, &run.image)),
+                _ => Call::Set(asked),
+            };
             let Ok(list) = run.stores(&call) else { continue };
             let after = if r.once_in(2) { list.len() } else { r.below(list.len() + 1) };
             let mut before = run.image.clone();
             list.make(after as u64, &mut before);
             let left = list.get(after).map_or(vec![], |store| begun(store, &before, true, r));
             let begun = if left.is_empty() { None } else { Some(r.pick(&left)) };
-            torn += usize::from(begun.is_some());
+            torn[usize::from(matches!(call, Call::Profile(_)))] += usize::from(begun.is_some());
             run.cut(&call, Cut { after, begun }, r);
             if after < list.len() && !r.once_in(3) {
                 run.width = generate::width(r);
@@ -392,5 +402,5 @@ fn widths_that_change_in_a_run() {
         }
         run.recover();
     });
-    assert!(torn > 100, "{torn} stores begun");
+    assert!(torn[0] > 100 && torn[1] > 30, "{torn:?} stores begun, of profiles the second");
 }

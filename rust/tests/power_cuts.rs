@@ -9,7 +9,9 @@ mod common;
 use std::collections::BTreeMap;
 
 use common::book::{Book, Value};
-use common::cases::{asked, being_replaced, compacting, crowded, decided, delete, empty, record, set, with_dirty_tail, with_leftover};
+use common::cases::{
+    asked, being_replaced, compacting, crowded, decided, delete, empty, profile, profiling, record, set, with_dirty_tail, with_leftover,
+};
 use common::cuts::{begun, places, Begun, Cut, Garbage, Run, Way, START_UP};
 use common::generate::{self, Asked, Name, BLOCK};
 use common::random::Random;
@@ -19,7 +21,7 @@ use common::stored::Call;
 use common::tenants::admitting;
 use common::{same_bytes, signed, stamped, A, AUTUMN, B, NEW, OLD, RATE, RECORD, RECORDS, SPRING};
 use varstore::calls::{lent, Calls, Read, BOTH, ENGINE, PAPER};
-use varstore::interface::{Answer, Context, Key, Reply, Rule, Setting};
+use varstore::interface::{Answer, Context, Key, Reply, Rule, Setting, Tenant};
 use varstore::paper::image::Parts;
 use varstore::paper::layout::Authenticated;
 use varstore::paper::request::{DBX, PK};
@@ -188,6 +190,51 @@ fn compaction_within_a_rule() {
     let run = empty(1).with_rules(&[Setting::any(A).field(2047, 1).one_of(&[1, 3])]).with(A, &[1; 2048]).with(B, &[2; 1892]);
     assert_eq!(run.clone().make(&set(A, &[2; 2048]), u64::MAX), Answer::Refused(Rule::Setting));
     cut_after(&run, &set(A, &[3; 2048]), 8197, |list, r| places(list, 61, r));
+}
+
+/// 02 (l): "FC decides for all items together": after each cut the list of values has all the profile's changes or none. It replaces, deletes and adds, beside a value
+/// with a stamp, leftovers, and a value that is 3E only.
+#[test]
+fn profile_of_one_block() {
+    cut_everywhere(&crowded(1), &profiling(), 8197);
+}
+
+/// At the ends of its operations and many places between them.
+#[test]
+fn profiles_of_two_and_seven_blocks_and_with_63_and_64_records_used() {
+    cut_after(&crowded(1).recorded(63), &profiling(), 8197, |list, r| places(list, 61, r));
+    cut_after(&crowded(1).recorded(64), &profiling(), 8198, |list, r| places(list, 61, r));
+    cut_after(&crowded(2).recorded(64), &profiling(), 16392, |list, r| places(list, 61, r));
+    cut_after(&crowded(7), &profiling(), 57361, |list, r| places(list, 4001, r));
+}
+
+/// One item that would fit in the tail; one that deletes; eight new ones; and one of two that is equal, and keeps its place.
+#[test]
+fn profiles_of_few_and_many_items() {
+    let names: Vec<Vec<u8>> = (b'a'..b'i').map(|letter| vec![letter, 0, 0, 0]).collect();
+    let eight: Vec<(Key, &[u8])> = names.iter().map(|name| (Key { name, ..A }, &[8; 40][..])).collect();
+    let run = empty(1).with(RATE, OLD).with(A, OLD).with(B, OLD);
+    for call in [profile(&[(RATE, NEW)]), profile(&[(RATE, &[])]), profile(&eight), profile(&[(RATE, OLD), (A, NEW)])] {
+        cut_after(&run, &call, 8197, |list, r| places(list, 61, r));
+    }
+    assert_eq!(run.clone().make(&profile(&[(RATE, OLD), (B, OLD)]), 0), Answer::Done(0));
+}
+
+/// "Full as above": both values of a full region are replaced, and one goes for another that comes before it in the file.
+#[test]
+fn profiles_of_a_full_region() {
+    let run = empty(1).with(A, &[1; 2048]).with(B, &[2; 1892]);
+    cut_after(&run, &profile(&[(B, &[3; 1892]), (A, &[4; 2048])]), 8197, |list, r| places(list, 61, r));
+    cut_after(&run, &profile(&[(RATE, &[5; 1886]), (B, &[])]), 8197, |list, r| places(list, 61, r));
+    assert_eq!(run.clone().make(&profile(&[(RATE, &[5; 1887]), (B, &[])]), u64::MAX), Answer::Refused(Rule::Room));
+}
+
+/// A start-up that resumes a profile, itself cut.
+#[test]
+fn resume_of_a_profile() {
+    for copied in [0, 2000] {
+        cut_after(&crowded(1).stopped(&profiling(), decided(1) + copied), &START_UP, BLOCK + 3, |list, r| places(list, 61, r));
+    }
 }
 
 #[test]
@@ -386,6 +433,10 @@ fn cases() -> Vec<(Run, Call)> {
         (crowded(2).stopped(&compacting(), decided(2)), START_UP),
         (empty(1).with(A, OLD).with_space(1000).with_record(RECORD, OLD), record(RECORD, NEW)),
         (full_of_records(), record(RECORD, &[3; 2048])),
+        (crowded(1), profiling()),
+        (crowded(2).recorded(64), profiling()),
+        (empty(1).with(A, &[1; 2048]).with(B, &[2; 1892]), profile(&[(RATE, &[5; 1886]), (B, &[])])),
+        (crowded(1).stopped(&profiling(), decided(1)), START_UP),
     ];
     for (first, second) in [(AUTUMN, SPRING), (SPRING, AUTUMN)] {
         cases.push((with_revocations(1, &first), revoked(0x67, &second, NEW)));
@@ -506,6 +557,26 @@ fn some_set(run: &mut Run, r: &mut Random) -> Call {
     Call::Set(asked)
 }
 
+/// A profile in any session; most often in one that refuses little.
+fn some_profile(run: &mut Run, r: &mut Random) -> Call {
+    run.session = generate::session(r);
+    if !r.once_in(4) {
+        let modem = run.session.setup.modem;
+        run.session = (ENGINE.session_new)(&generate::lenient(r, run.image.len()));
+        if r.once_in(2) {
+            run.session.setup.modem = Tenant { share: run.session.setup.share, ..modem };
+        }
+    }
+    let profile = generate::profile(r, &run.session.setup, &run.image);
+    if r.once_in(3) {
+        generate::room_for_items(r, &mut run.session, &run.image, &profile);
+    }
+    if r.once_in(3) {
+        run.session.setup = run.session.setup.ruled(&generate::rules_for_items(r, &run.image, &profile));
+    }
+    Call::Profile(profile)
+}
+
 /// An image as a done start-up left it, and its b; or one that a move has left, where a start-up finds nothing to do.
 fn some_image(r: &mut Random) -> (Vec<u8>, usize) {
     if r.once_in(8) {
@@ -533,7 +604,7 @@ type Tally = BTreeMap<&'static str, usize>;
 
 /// One call of a run: whole, or cut.
 fn random_step(run: &mut Run, r: &mut Random, tally: &mut Tally) {
-    let call = match r.below(8) {
+    let call = match r.below(12) {
         0 | 1 => {
             let (side, name) = some_name(run, r);
             let kind = if r.once_in(2) { kind("get", get(run, side, &name), false) } else { kind("next-name", next_name(run, side, &name), false) };
@@ -541,9 +612,10 @@ fn random_step(run: &mut Run, r: &mut Random, tally: &mut Tally) {
         }
         2 => START_UP,
         3 => Call::StartUp(generate::setup(r, &run.image)),
+        4 | 5 => some_profile(run, r),
         _ => some_set(run, r),
     };
-    let what = if matches!(call, Call::Set(_)) { "set" } else { "start-up" };
+    let what = call.what();
     let ruled = matches!(&call, Call::Set(asked) if is_ruled(&run.session, asked.name.key()));
     let of_record = matches!(&call, Call::Set(asked) if asked.name.vendor == RECORDS && asked.attributes & 0x08 != 0);
     other_chip(run, &call, r);
@@ -557,6 +629,9 @@ fn random_step(run: &mut Run, r: &mut Random, tally: &mut Tally) {
         *tally.entry(if cut.begun.is_some() { "store begun" } else { "cut between stores" }).or_default() += 1;
         if what == "set" {
             *tally.entry(if before == run.book { "set cut before deciding" } else { "set cut when decided" }).or_default() += 1;
+        }
+        if what == "profile" && has_stores {
+            *tally.entry(if before == run.book { "profile cut before deciding" } else { "profile cut when decided" }).or_default() += 1;
         }
         if ruled && has_stores {
             *tally
@@ -585,7 +660,7 @@ fn random_step(run: &mut Run, r: &mut Random, tally: &mut Tally) {
         Answer::Done(_) if what == "start-up" => run.check_book(),
         Answer::Refused(Rule::Worn) => run.cuts.clear(),
         Answer::Refused(Rule::Tenant) => {}
-        _ => assert!(what == "set", "a start-up in a run is {answer:?} after {:?}", run.cuts),
+        _ => assert!(what != "start-up", "a start-up in a run is {answer:?} after {:?}", run.cuts),
     }
 }
 
@@ -599,6 +674,13 @@ fn kind(what: &'static str, answer: Answer, both: bool) -> &'static str {
         ("set", Answer::Refused(Rule::Unready)) => "set refused before a start-up",
         ("set", Answer::Refused(Rule::Setting)) => "set refused by its rules",
         ("set", _) => "set refused",
+        ("profile", Answer::Refused(Rule::Worn)) => "profile failed",
+        ("profile", Answer::Done(0)) => "profile done without stores",
+        ("profile", Answer::Done(_)) => "profile done",
+        ("profile", Answer::Refused(Rule::Unready)) => "profile refused before a start-up",
+        ("profile", Answer::Refused(Rule::File | Rule::Twice)) => "profile refused for its file",
+        ("profile", Answer::Refused(Rule::Room)) => "profile refused for room",
+        ("profile", _) => "profile refused by an item",
         ("start-up", Answer::Refused(Rule::Worn)) => "start-up failed",
         ("start-up", Answer::Refused(_)) => "start-up refused its shares",
         ("start-up", Answer::Done(0)) => "start-up without stores",
@@ -611,7 +693,7 @@ fn kind(what: &'static str, answer: Answer, both: bool) -> &'static str {
     }
 }
 
-/// Sets, appends, deletes, gets, next-names and start-ups, in any sessions, many of them cut or failed; the book is checked after every done start-up.
+/// Sets, appends, deletes, profiles, gets, next-names and start-ups, in any sessions, many of them cut or failed; the book is checked after every done start-up.
 #[test]
 fn any_call_of_a_run() {
     let mut tally = Tally::new();
@@ -640,7 +722,10 @@ fn any_call_of_a_run() {
     let cut_records = ["set of a record cut before deciding", "set of a record cut when decided"];
     let ruled = ["set refused by its rules", "set within its rules done", "set within its rules done by compaction"];
     let cut_ruled = ["set within its rules cut before deciding", "set within its rules cut when decided"];
-    for thing in [&whole[..], &started, &read, &cut, &failed, &records, &cut_records, &ruled, &cut_ruled].concat() {
+    let profiles =
+        ["profile done", "profile done without stores", "profile refused by an item", "profile refused for its file", "profile refused for room"];
+    let cut_profiles = ["profile failed", "profile cut before deciding", "profile cut when decided", "profile refused before a start-up"];
+    for thing in [&whole[..], &started, &read, &cut, &failed, &records, &cut_records, &ruled, &cut_ruled, &profiles, &cut_profiles].concat() {
         assert!(tally.contains_key(thing), "no {thing} in the runs");
     }
 }

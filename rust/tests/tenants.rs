@@ -7,6 +7,7 @@ mod common;
 use common::book::{Book, Value};
 use common::cuts::{begun, Cut, Run, Way};
 use common::generate::{self, Asked, Name, BLOCK};
+use common::profiles::Profile;
 use common::random::Random;
 use common::rounds::rounds;
 use common::station::{with_setup, Station};
@@ -602,6 +603,7 @@ fn a_station_without_a_modem() {
 #[derive(Clone, Debug)]
 enum Act {
     Set(Asked),
+    Profile(Profile),
     Get(u32, Name),
     Many(u32, Vec<Name>),
     Next(u32, Name),
@@ -614,6 +616,7 @@ impl Act {
     fn is_modems(&self) -> Option<bool> {
         match self {
             Act::Set(asked) => Some(asked.side == MODEM),
+            Act::Profile(profile) => Some(profile.side == MODEM),
             Act::Get(side, _) | Act::Next(side, _) | Act::Lock(side, _) | Act::Many(side, _) => Some(*side == MODEM),
             Act::Phase(_) => None,
         }
@@ -658,6 +661,7 @@ impl World {
         };
         match act {
             Act::Set(asked) => plain((self.calls.set)(Context::NO_LIMIT.by(asked.side), &self.session, &mut self.image, &asked.request())),
+            Act::Profile(profile) => plain((self.calls.profile)(Context::NO_LIMIT.by(profile.side), &self.session, &mut self.image, &profile.file)),
             Act::Get(side, name) => read(self.calls.get, *side, name),
             Act::Many(side, names) => several(*side, names),
             Act::Next(side, name) => read(self.calls.next_name, *side, name),
@@ -698,7 +702,7 @@ fn some_name(r: &mut Random, values: &[Value]) -> Name {
 }
 
 /// An act of either side, on a store that held these values; a lock once in so many times, and more often.
-fn some_act(r: &mut Random, setup: &Setup, values: &[Value], locks: usize) -> Act {
+fn some_act(r: &mut Random, setup: &Setup, image: &[u8], values: &[Value], locks: usize) -> Act {
     let name = some_name(r, values);
     let side = generate::side(r, setup, name.key());
     match r.below(16) {
@@ -707,6 +711,7 @@ fn some_act(r: &mut Random, setup: &Setup, values: &[Value], locks: usize) -> Ac
         1 => Act::Many(side, (0..r.below(12)).map(|_| some_name(r, values)).collect()),
         2..=4 => Act::Next(side, name),
         5 if r.once_in(4) => Act::Phase(r.pick(&[AFTER_END_OF_DXE, RUNTIME])),
+        6..=8 => Act::Profile(generate::profile(r, setup, image)),
         _ => {
             let mut asked = generate::asked(r);
             if !values.is_empty() && r.once_in(3) {
@@ -747,12 +752,12 @@ fn shared(r: &mut Random) -> (Vec<u8>, Setup) {
 /// start-up in which one side asks the same, with the phase given, and the other asks other things, or nothing.
 #[test]
 fn non_interference() {
-    let (mut histories, mut heard, mut rooms, mut locks) = (0, 0, 0, 0);
+    let (mut histories, mut heard, mut rooms, mut locks, mut profiles) = (0, 0, 0, 0, [0; 3]);
     rounds(4, 200, |r| {
         let (image, setup) = shared(r);
         let values = Book::of(&image).values;
         let many = r.pick(&[2, 10, 10]);
-        let acts: Vec<Act> = (0..r.below(60)).map(|_| some_act(r, &setup, &values, many)).collect();
+        let acts: Vec<Act> = (0..r.below(60)).map(|_| some_act(r, &setup, &image, &values, many)).collect();
         for calls in BOTH {
             let world = World { calls, session: (calls.session_new)(&setup), image: image.clone() };
             for modem in [false, true] {
@@ -760,7 +765,7 @@ fn non_interference() {
                 let alone: Vec<Act> = acts.iter().filter(kept).cloned().collect();
                 let mut other = vec![];
                 for act in &alone {
-                    let between = (0..r.below(4)).map(|_| some_act(r, &setup, &values, many)).filter(|act| act.is_modems() == Some(!modem));
+                    let between = (0..r.below(4)).map(|_| some_act(r, &setup, &image, &values, many)).filter(|act| act.is_modems() == Some(!modem));
                     other.extend(between);
                     other.push(act.clone());
                 }
@@ -778,13 +783,19 @@ fn non_interference() {
                     histories += 1;
                 }
                 heard += expected.len();
+                for ((told, _), act) in expected.iter().zip(&alone) {
+                    if let (Act::Profile(_), place) = (act, [None, Some(Rule::Room)].iter().position(|refused| *refused == told.refused)) {
+                        profiles[place.unwrap_or(2)] += 1;
+                    }
+                }
                 rooms += expected.iter().filter(|(told, _)| told.refused == Some(Rule::Room)).count();
                 locks += expected.iter().filter(|(told, _)| told.refused == Some(Rule::LockSpace)).count();
             }
         }
     });
-    println!("{histories} pairs of histories, {heard} acts, {rooms} without room, {locks} without a lock");
+    println!("{histories} pairs of histories, {heard} acts, {rooms} without room, {locks} without a lock; profiles done, without room and else refused: {profiles:?}");
     assert!(rooms > 200 && locks > 20, "{rooms} acts without room, {locks} without a lock");
+    assert!(profiles[0] > 200 && profiles[1] > 20, "profiles: {profiles:?}");
 }
 
 /// The premises are needed: where shares do not fit, or values stand above one, a side is told of the other.
@@ -814,8 +825,12 @@ fn shares_are_kept() {
             let mut asked = generate::asked_on(r, &run.image);
             asked.presence = 1;
             asked.side = generate::side(r, &setup, asked.name.key());
-            let modem = asked.side == MODEM;
-            let call = if r.once_in(6) { Call::StartUp(setup) } else { Call::Set(asked) };
+            let profile = generate::profile(r, &setup, &run.image);
+            let (modem, call) = match r.below(6) {
+                0 => (false, Call::StartUp(setup)),
+                1 | 2 => (profile.side == MODEM, Call::Profile(profile)),
+                _ => (asked.side == MODEM, Call::Set(asked)),
+            };
             let Ok(list) = run.stores(&call) else { continue };
             let after = if r.once_in(2) { list.len() } else { r.below(list.len() + 1) };
             let mut before = run.image.clone();
@@ -835,6 +850,6 @@ fn shares_are_kept() {
             }
         }
     });
-    println!("{cuts} cuts, {modems} sets by the modem");
-    assert!(cuts > 300 && modems > 80, "{cuts} cuts, {modems} sets by the modem");
+    println!("{cuts} cuts, {modems} sets and profiles by the modem");
+    assert!(cuts > 300 && modems > 80, "{cuts} cuts, {modems} sets and profiles by the modem");
 }

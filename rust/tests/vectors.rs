@@ -8,6 +8,7 @@
 //!     session and startup also hw (02 (a): H) and rules (02 (e): joined by `;`, which may be more than 32; `-` none)
 //!     session and startup also share, modem, share1 and reserve1 (02 (f): our share, the modem's GUID, share and reserve); set, get, next and lock also side
 //!     many names buflen fill n, and side (02 (g): names as name/guid joined by `;`, which may be more than 64; `-` none)
+//!     profile file dead w n, and side (02 (l): file is the file's bytes)
 //!     move src to (02 (d): from the image in slot src into the current one; to is `new` or `plain`)
 //!
 //! A session or startup without shares is that of a station without a modem: our share is what 28 and H leave of L, the rest 0.
@@ -29,6 +30,7 @@ use std::process::{Command, Stdio};
 
 use common::digest::{crc32, sha256};
 use common::generate::{Asked, Name};
+use common::profiles::Profile;
 use common::stored::{carry_out, Call};
 use varstore::calls::{lent, Calls, BOTH, PAPER};
 use varstore::interface::{Answer, Context, Guid, Key, Reply, Rule, Session, Setting, Setup, Tenant, OURS};
@@ -42,7 +44,7 @@ struct Line<'a> {
 
 /// What a line may give; every field that is not an argument is checked.
 const ARGUMENTS: &str =
-    "why op len rle off slot phase custom reserve count sizes locks name guid attrs data presence verdict dead w hw rules modem share share1 reserve1 side n buflen fill to src names";
+    "why op len rle off slot phase custom reserve count sizes locks name guid attrs data presence verdict dead w hw rules modem share share1 reserve1 side n buflen fill to src names file";
 const EXPECTED: &str =
     "answer rule stores list deciding made size attrs_out buf_sha256 items text sha256 crc32 s_phase s_custom s_reserve s_hw s_count s_sizes s_locks s_modem s_share s_share1 s_reserve1";
 
@@ -193,6 +195,7 @@ impl Player {
             "get" => self.read(line, self.calls.get),
             "next" => self.read(line, self.calls.next_name),
             "many" => self.many(line),
+            "profile" => self.store(line, &Call::Profile(Profile { file: line.bytes("file"), side: line.side() })),
             "startup" => self.start_up(line),
             "format" => self.store(line, &Call::Format),
             "lock" => self.lock(line),
@@ -448,6 +451,12 @@ fn a_second_tenant() {
 #[test]
 fn sixty_four_settings_in_one_call() {
     run_file("g.txt", 269, 0);
+}
+
+/// 02 (l): up to eight settings as one change.
+#[test]
+fn a_station_profile_as_one_change() {
+    run_file("l.txt", 399, 0);
 }
 
 #[test]

@@ -8,7 +8,9 @@ mod common;
 
 use std::collections::BTreeMap;
 
-use common::cases::{asked, being_replaced, compacting, crowded, decided, delete, empty, record, set, with_dirty_tail, with_leftover};
+use common::cases::{
+    asked, being_replaced, compacting, crowded, decided, delete, empty, profile, profiling, record, set, with_dirty_tail, with_leftover,
+};
 use common::cuts::{places, Run, Way, START_UP};
 use common::failing::{fail_at, one_by_one, WORN};
 use common::generate::{self, BLOCK};
@@ -70,6 +72,15 @@ fn compactions() {
 #[test]
 fn compaction_of_two_blocks() {
     fail_in_compaction(&crowded(2), &compacting(), 16391);
+}
+
+/// 02 (l): the whole profile fails, at that store; the book has all of its items where FC was made before it, else none.
+#[test]
+fn profiles() {
+    fail_in_compaction(&crowded(1), &profiling(), 8197);
+    fail_in_compaction(&crowded(1).recorded(64), &profiling(), 8198);
+    fail_in_compaction(&crowded(2), &profiling(), 16391);
+    fail_in_compaction(&empty(1).with(RATE, OLD), &profile(&[(A, NEW), (RATE, &[])]), 8197);
 }
 
 #[test]
@@ -295,7 +306,9 @@ fn calls_without_stores() {
 /// then stands is what the call leaves that is given the address; and the next start-up, planned on the part, is as after a power cut.
 #[test]
 fn a_host_that_reads_back() {
-    for (run, call) in [(empty(1).with(A, OLD), set(RATE, OLD)), (with_leftover(), set(RATE, OLD)), (crowded(1), compacting())] {
+    for (run, call) in
+        [(empty(1).with(A, OLD), set(RATE, OLD)), (with_leftover(), set(RATE, OLD)), (crowded(1), compacting()), (crowded(1), profiling())]
+    {
         once(|r| {
             let list = run.stores(&call).expect("an accepted call");
             for number in places(&list, 97, r) {
@@ -313,8 +326,8 @@ fn a_host_that_reads_back() {
                 assert_eq!(answer == WORN, made.failed, "{dying} dying");
                 assert!(told == part, "the image with {dying} dying");
                 let mut book = run.book.clone();
-                if let (Call::Set(asked), true) = (&call, plan.deciding_store(1).is_some_and(|deciding| deciding < made.stores)) {
-                    book.set(&asked.request());
+                if plan.deciding_store(1).is_some_and(|deciding| deciding < made.stores) {
+                    call.sets().iter().for_each(|asked| book.set(&asked.request()));
                 }
                 Run { way: Way::Planned, image: part, book, dead: vec![dying as u32], ..run.clone() }.recover_worn();
             }
@@ -333,12 +346,15 @@ fn some_image(r: &mut Random) -> Vec<u8> {
     }
 }
 
-/// A set that little refuses, or a start-up.
+/// A set or profile that little refuses, or a start-up.
 fn some_call(run: &mut Run, r: &mut Random) -> Call {
     if r.once_in(4) {
         return START_UP;
     }
     run.session = (ENGINE.session_new)(&generate::lenient(r, run.image.len()));
+    if r.once_in(4) {
+        return Call::Profile(generate::profile(r, &run.session.setup, &run.image));
+    }
     let mut asked = generate::asked_on(r, &run.image);
     asked.presence = 1;
     Call::Set(asked)
@@ -363,7 +379,7 @@ fn bytes_that_die_in_a_run() {
             }
             let n = if r.once_in(6) { r.below(9000) as u64 } else { u64::MAX };
             let answer = run.make(&call, n);
-            let what = if matches!(call, Call::Set(_)) { "set" } else { "start-up" };
+            let what = call.what();
             *tally.entry(format!("{what} {}", kind(answer))).or_default() += 1;
             if let (Answer::Done(_), "start-up") = (answer, what) {
                 run.check_book();
@@ -374,8 +390,11 @@ fn bytes_that_die_in_a_run() {
         run.recover_worn();
     });
     println!("{tally:?}");
-    for thing in ["set done", "set failed", "set stopped", "start-up done", "start-up failed", "start-up failed behind a failed call"] {
-        assert!(tally.contains_key(thing), "no {thing} in the runs");
+    let profiled = ["profile done", "profile failed", "profile stopped"];
+    for thing in
+        ["set done", "set failed", "set stopped", "start-up done", "start-up failed", "start-up failed behind a failed call"].iter().chain(&profiled)
+    {
+        assert!(tally.contains_key(*thing), "no {thing} in the runs");
     }
 }
 

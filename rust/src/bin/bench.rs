@@ -1,6 +1,7 @@
 //! Benchmarks of the engine against the paper's implementation, the same work on both sides: every call with its own check of the image, on an image
 //! copied back and a buffer cleared before each turn, which is not measured. For 02 (g)'s call the other side is not the paper's but the program of `once`, which checks
-//! once and walks for every name: the keys are laid in their places beforehand, on both sides.
+//! once and walks for every name: the keys are laid in their places beforehand, on both sides. 02 (l)'s profile is beside the paper's, and its settings as sets are a case of
+//! their own; in both the engine's session is lent.
 //!
 //!     bench                              wall time, the best of many alternating turns
 //!     bench names                        each case, its number of turns, and whether it is one of a growing row, for tools/bench
@@ -13,7 +14,7 @@ use std::time::{Duration, Instant};
 
 use varstore::calls::{lent, Calls, ENGINE, LENT, PAPER};
 use varstore::engine::{self, Item, Told};
-use varstore::interface::{Answer, Context, Guid, Key, Request, Rule, Session, Setup, Tenant, MODEM, NAMES, OURS};
+use varstore::interface::{Answer, Context, Guid, Key, Request, Rule, Session, Setup, Tenant, ITEMS, MODEM, NAMES, OURS};
 use varstore::once;
 use varstore::paper::entry::{self, Contents, GONE, STATE};
 use varstore::paper::layout::Authenticated;
@@ -30,16 +31,20 @@ const BEGIN: Key = Key { name: &[0, 0], vendor: &VENDOR };
 const BUFFER: usize = 4096;
 const UNTOLD: Item = Item { rule: 0, size: 0, attributes: 0, needed: 0 };
 
+/// What a set stores.
+const DATA: &[u8] = &[0x5A; 50];
+
 /// A name with its GUID.
 type Variable = (Vec<u8>, Guid);
 
-/// What a turn works on: the variable is the one that it gets or sets; the keys are those of a call for 64 names, in their places.
+/// What a turn works on: the variable is the one that it gets or sets; the keys are those of a call for 64 names, in their places; the file is a profile's.
 struct Desk {
     context: Context,
     session: Session,
     variable: Variable,
     keys: Vec<u8>,
     sizes: Vec<u32>,
+    file: Vec<u8>,
     image: Vec<u8>,
     told: Told,
     buffer: [u8; BUFFER],
@@ -69,6 +74,7 @@ impl Case {
             variable: self.variable.clone(),
             keys,
             sizes,
+            file: profile_of_eight(),
             image: self.image.clone(),
             told: [UNTOLD; NAMES],
             buffer: [0; BUFFER],
@@ -131,6 +137,17 @@ fn numbered(index: usize) -> Variable {
 fn sixty_four() -> (Vec<u8>, Vec<u32>) {
     let variables: Vec<Variable> = (0..NAMES).map(|index| numbered(index * 200 / NAMES)).collect();
     engine::placed(&variables.iter().map(|(name, vendor)| Key { name, vendor }).collect::<Vec<_>>())
+}
+
+/// Eight of them, likewise.
+fn eight() -> impl Iterator<Item = Variable> {
+    (0..ITEMS).map(|index| numbered(index * 200 / ITEMS))
+}
+
+/// A profile that changes these: its sizes are below 128, and so of one group.
+fn profile_of_eight() -> Vec<u8> {
+    let item = |(name, vendor): Variable| [&[0x07, name.len() as u8, DATA.len() as u8][..], &vendor, &name, DATA].concat();
+    [ITEMS as u8].into_iter().chain(eight().flat_map(item)).collect()
 }
 
 /// The same, every second one the modem's.
@@ -251,8 +268,35 @@ fn start(calls: &Calls, desk: &mut Desk) -> Answer {
 /// Replaces a value by another of the same length.
 fn replace(calls: &Calls, desk: &mut Desk) -> Answer {
     let key = Key { name: &desk.variable.0, vendor: &desk.variable.1 };
-    let request = Request { key, attributes: 0x07, data: &[0x5A; 50], presence: 0, verdict: 0 };
+    let request = Request { key, attributes: 0x07, data: DATA, presence: 0, verdict: 0 };
     (calls.set)(desk.context, &desk.session, &mut desk.image, &request)
+}
+
+/// The engine's calls with its session lent, whoever else asks.
+fn lending(calls: &Calls) -> &Calls {
+    if calls.who == ENGINE.who {
+        &LENT
+    } else {
+        calls
+    }
+}
+
+/// Eight settings as one change.
+fn profile(calls: &Calls, desk: &mut Desk) -> Answer {
+    (lending(calls).profile)(desk.context, &desk.session, &mut desk.image, &desk.file)
+}
+
+/// The same settings, each by a set of its own.
+fn eight_sets(calls: &Calls, desk: &mut Desk) -> Answer {
+    let mut stores = 0;
+    for (name, vendor) in eight() {
+        let request = Request { key: Key { name: &name, vendor: &vendor }, attributes: 0x07, data: DATA, presence: 0, verdict: 0 };
+        match (lending(calls).set)(desk.context, &desk.session, &mut desk.image, &request) {
+            Answer::Done(more) => stores += more,
+            other => return other,
+        }
+    }
+    Answer::Done(stores)
 }
 
 /// Next-name from the first to the end.
@@ -338,6 +382,8 @@ fn cases() -> Vec<Case> {
         case("next-name over 200, 201 calls", NONE, region_of(7, 200), 7, 2, names, end),
         case("set in the tail, 200 values", numbered(0), region_of(7, 200), 7, 20, replace, done(129)),
         case("compact seven blocks, 204", numbered(0), crowded(204), 7, 5, replace, done(57361)),
+        case("8 settings in a lent profile", NONE, region_of(7, 200), 7, 5, profile, done(57361)),
+        case("8 settings in 8 lent sets", NONE, region_of(7, 200), 7, 5, eight_sets, done(8 * 129)),
         paged("compact, 204, w = 2", 2, 28689),
         paged("compact, 204, w = 16", 16, 3601),
         case("replace in the tail, b = 1", numbered(0), region_of(1, 20), 1, 50, replace, done(129)),

@@ -3,12 +3,14 @@
 use super::entry::{Entry, RT};
 use super::image::{blank, Parts};
 use super::layout::Authenticated;
-use super::region::{self, find, values};
+use super::profiles::{self, share_a_name};
+use super::records::is_record;
+use super::region::{self, changed, find, values};
 use super::request::{change, Change};
-use super::rules::{broken, of_the_call, of_the_change, of_the_name, of_what_stands, ready};
+use super::rules::{broken, of_the_call, of_the_change, of_the_name, of_the_room, of_what_stands, ready, sizes_after};
 use super::session::{is_runtime, session_new};
 use super::stores::{clearing, compaction, deletion, formatting, in_tail, resumption, Stores, Wanting};
-use super::tenants::{exceeded, Side};
+use super::tenants::{exceeded, Side, Sizes};
 use super::work;
 use crate::interface::{Answer, Checked, Context, Key, Replies, Reply, Request, Rule, Session, Setup, Started, DEAD, NAMES};
 
@@ -143,15 +145,67 @@ pub fn set_stores(w: usize, side: u32, session: &Session, image: &[u8], request:
     let value = standing.value();
     let payload = of_what_stands(session, region, request, value.as_ref())?;
     let change = change(request, payload, value);
-    of_the_change(session, region, key, value.as_ref(), &change)?;
-    Ok(match change {
-        Change::Nothing => Stores::new(w),
-        Change::Delete => deletion(w, &standing),
-        Change::Put(contents) if ready.tail + contents.entry_size::<Authenticated>(key) <= region.len() => {
-            in_tail(w, &standing, ready.tail, key, &contents)
-        }
-        Change::Put(contents) => compaction(w, &ready.parts, ready.records, (key, &contents)),
-    })
+    of_the_change(session, key, value.as_ref(), &change)?;
+    let contents = match change {
+        Change::Nothing => return Ok(Stores::new(w)),
+        Change::Delete => return Ok(deletion(w, &standing)),
+        Change::Put(contents) => contents,
+    };
+    let sizes = sizes_after(&session.setup, region, key, &contents);
+    of_the_room(session, region.len(), Side::owning(&session.setup, key), is_record(contents.attributes), &sizes)?;
+    if ready.tail + contents.entry_size::<Authenticated>(key) <= region.len() {
+        return Ok(in_tail(w, &standing, ready.tail, key, &contents));
+    }
+    let after = changed(region, region.len(), key, Some(&contents));
+    Ok(compaction(w, &ready.parts, ready.records, filled(after, region.len())))
+}
+
+/// A region's rest is FF.
+fn filled(mut region: Vec<u8>, length: usize) -> Vec<u8> {
+    region.resize(length, 0xFF);
+    region
+}
+
+/// 02 (l): up to eight settings as one change. Rules 1, 2, 25 and 26; of each item those of a set before 18; then 13, and 23.
+pub fn profile(context: Context, session: &Session, image: &mut [u8], file: &[u8]) -> Answer {
+    made(profile_stores(width(&context), context.side, session, image, file), context, image)
+}
+
+/// "Each item is checked in turn as if those before it stood; room is judged after the last, if one stores a value; changed values stand last, in file order. The whole
+/// profile is one compaction, or no stores if nothing differs".
+pub fn profile_stores(w: usize, side: u32, session: &Session, image: &[u8], file: &[u8]) -> Result<Stores, Rule> {
+    let ready = ready::<Authenticated>(image)?;
+    let (length, side) = (ready.parts.length(), Side::of(side));
+    let items = profiles::read(file).ok_or(Rule::File)?;
+    broken(Rule::Twice, share_a_name(&items))?;
+    // header and values as they stand after the items so far, where something differs: before the last they may take more than L
+    let (mut after, mut stores_a_value) = (None, false);
+    for item in &items {
+        let region = after.as_deref().unwrap_or(ready.parts.region);
+        let put = match of_the_item(session, side, region, item)? {
+            Change::Nothing => continue,
+            Change::Delete => None,
+            Change::Put(contents) => Some(contents),
+        };
+        stores_a_value |= put.is_some();
+        after = Some(changed(region, length, item.key, put.as_ref()));
+    }
+    let Some(after) = after else { return Ok(Stores::new(w)) };
+    if stores_a_value {
+        // every item's value is the asking side's, and no error record
+        of_the_room(session, length, side, false, &Sizes::of(&session.setup, values(&after)))?;
+    }
+    Ok(compaction(w, &ready.parts, ready.records, filled(after, length)))
+}
+
+/// What an item of a profile changes in a region. Rules 3, 22, 4, 5, 17, 6, 7, 11, 12 and 21; by its attributes it breaks none of 8, 9, 10 and 18.
+fn of_the_item<'a>(session: &Session, side: Side, region: &'a [u8], item: &Request<'a>) -> Result<Change<'a>, Rule> {
+    of_the_call(session, side, item)?;
+    let value = find(region, item.key).value();
+    let payload = of_what_stands(session, region, item, value.as_ref())?;
+    let change = change(item, payload, value);
+    of_the_change(session, item.key, value.as_ref(), &change)?;
+    Ok(change)
 }
 
 /// Formatting meets 1, and 23.

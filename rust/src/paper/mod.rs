@@ -6,6 +6,7 @@ pub mod entry;
 pub mod image;
 pub mod layout;
 pub mod moves;
+pub mod profiles;
 pub mod records;
 pub mod region;
 pub mod request;
@@ -17,7 +18,9 @@ pub mod tenants;
 pub mod varlist;
 pub mod work;
 
-pub use calls::{check, dead, format, format_stores, get, get_many, next_name, set, set_stores, start_up, start_up_stores, width};
+pub use calls::{
+    check, dead, format, format_stores, get, get_many, next_name, profile, profile_stores, set, set_stores, start_up, start_up_stores, width,
+};
 pub use moves::{from_plain, to_plain};
 pub use session::{lock, phase, session_new};
 pub use stores::{Made, Page, Store, Stores};

@@ -126,16 +126,22 @@ pub fn values<F: Layout>(region: &[u8]) -> impl Iterator<Item = Entry<'_, F>> {
     })
 }
 
-/// A region of values as 3F entries in flash order, the changed one last, rest FF. The old value under the changed name is left out.
-/// There is room for the bytes of marks behind.
-pub fn compacted(region: &[u8], change: Option<(Key, &Contents)>) -> Vec<u8> {
+/// A region of values as 3F entries in flash order, rest FF. There is room for the bytes of marks after it.
+pub fn compacted(region: &[u8]) -> Vec<u8> {
     let mut bytes = Vec::with_capacity(region.len() + 8);
-    let kept = values::<Authenticated>(region).filter(|value| !change.is_some_and(|(key, _)| value.is_for(key)));
-    write_values::<_, Authenticated>(&mut bytes, region.len(), kept);
-    if let Some((key, contents)) = change {
+    write_values::<_, Authenticated>(&mut bytes, region.len(), values::<Authenticated>(region));
+    bytes.resize(region.len(), 0xFF);
+    bytes
+}
+
+/// The header of a region of so many bytes and its values as they stand after a change: as 3F entries in flash order, the changed one last. The old value under the
+/// changed name is left out. There is room for the rest of the region and for the bytes of marks after it; the values may take more.
+pub fn changed(region: &[u8], length: usize, key: Key, put: Option<&Contents>) -> Vec<u8> {
+    let mut bytes = Vec::with_capacity(length + 8);
+    write_values::<_, Authenticated>(&mut bytes, length, values::<Authenticated>(region).filter(|value| !value.is_for(key)));
+    if let Some(contents) = put {
         write::<Authenticated>(&mut bytes, key, contents);
     }
-    bytes.resize(region.len(), 0xFF);
     bytes
 }
 

@@ -78,8 +78,8 @@ pub fn of_what_stands<'a>(session: &Session, region: &[u8], request: &Request<'a
     Ok(payload)
 }
 
-/// Rules 11, 12, 21, 18 and 13: what the change would leave.
-pub fn of_the_change(session: &Session, region: &[u8], key: Key, value: Option<&Entry>, change: &Change) -> Result<(), Rule> {
+/// Rules 11, 12 and 21: what the change would leave of the value.
+pub fn of_the_change(session: &Session, key: Key, value: Option<&Entry>, change: &Change) -> Result<(), Rule> {
     match change {
         // 02 (e): "Rules are tried on the data as they would stand, if any, also where nothing changes. Deletes obey only read-only"
         Change::Nothing => broken(Rule::Setting, breaks_rule(session, key, value.map(|value| [value.data(), &[]]))),
@@ -89,22 +89,25 @@ pub fn of_the_change(session: &Session, region: &[u8], key: Key, value: Option<&
         }
         Change::Put(contents) => {
             broken(Rule::DataSize, contents.data_size() > MOST_DATA)?;
-            broken(Rule::Setting, breaks_rule(session, key, Some([contents.old, contents.new])))?;
-            let (side, sizes) = (Side::owning(&session.setup, key), sizes_after(&session.setup, region, key, contents));
-            // 02 (a): "18 when after a set of one their rounded sizes exceed H, before 13 and with its exemptions"; 02 (f): "Rule 13 .. reads a side's sum without error
-            // records, with its reserve at runtime, against its share, and still 28 plus all values against L (an error record's set meets only this)"
-            if is_record(contents.attributes) {
-                broken(Rule::RecordRoom, sizes.records > record_space(session))?;
-            } else {
-                broken(Rule::Room, sizes.of_side(side) + reserve(session, side) > side.share(&session.setup))?;
-            }
-            broken(Rule::Room, REGION_HEADER as u64 + sizes.all() > region.len() as u64)
+            broken(Rule::Setting, breaks_rule(session, key, Some([contents.old, contents.new])))
         }
     }
 }
 
-/// The sizes of all values after the change.
-fn sizes_after(setup: &Setup, region: &[u8], key: Key, contents: &Contents) -> Sizes {
+/// Rules 18 and 13, which a change meets that stores a value. 02 (a): "18 when after a set of one their rounded sizes exceed H, before 13 and with its exemptions"; 02 (f):
+/// "Rule 13 .. reads a side's sum without error records, with its reserve at runtime, against its share, and still 28 plus all values against L (an error record's set
+/// meets only this)". `sizes` are those of all values after the change, in a region of so many bytes.
+pub fn of_the_room(session: &Session, length: usize, side: Side, of_a_record: bool, sizes: &Sizes) -> Result<(), Rule> {
+    if of_a_record {
+        broken(Rule::RecordRoom, sizes.records > record_space(session))?;
+    } else {
+        broken(Rule::Room, sizes.of_side(side) + reserve(session, side) > side.share(&session.setup))?;
+    }
+    broken(Rule::Room, REGION_HEADER as u64 + sizes.all() > length as u64)
+}
+
+/// The sizes of all values after one is put.
+pub fn sizes_after(setup: &Setup, region: &[u8], key: Key, contents: &Contents) -> Sizes {
     let mut sizes = Sizes::of(setup, region::values::<Authenticated>(region).filter(|value| !value.is_for(key)));
     sizes.add(setup, key, contents.attributes, contents.entry_size::<Authenticated>(key));
     sizes

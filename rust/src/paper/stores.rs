@@ -297,16 +297,16 @@ pub fn deletion(w: usize, standing: &Standing) -> Stores {
     stores
 }
 
-/// The region is compacted with the change folded in: erase the work block if 64 records are used; next record FE; the new region stored into the
-/// spare in whole pages; record FC (deciding); then as when resumed.
-pub fn compaction(w: usize, parts: &Parts, used: usize, change: (Key, &Contents)) -> Stores {
-    let mut stores = Stores::of(w, vec![]);
-    compact(&mut stores, parts, used, Some(change));
+/// The region is compacted with a change folded in, or with those of a profile: erase the work block if 64 records are used; next record FE; the new region stored into
+/// the spare in whole pages; record FC (deciding); then as when resumed.
+pub fn compaction(w: usize, parts: &Parts, used: usize, region: Vec<u8>) -> Stores {
+    let mut stores = Stores::of(w, region);
+    compact(&mut stores, parts, used, true);
     stores
 }
 
-fn compact(stores: &mut Stores, parts: &Parts, used: usize, change: Option<(Key, &Contents)>) {
-    stores.bytes = compacted(parts.region, change);
+/// The list's own bytes begin with the new region.
+fn compact(stores: &mut Stores, parts: &Parts, used: usize, decides: bool) {
     let record = if used == RECORDS {
         stores.erase(work_block(parts));
         0
@@ -316,7 +316,7 @@ fn compact(stores: &mut Stores, parts: &Parts, used: usize, change: Option<(Key,
     stores.mark(parts.length() + record, BEGUN);
     stores.run(parts.spare_at(), 0..parts.length());
     stores.mark(parts.length() + record, SPARE_COMPLETE);
-    if change.is_some() {
+    if decides {
         stores.decide();
     }
     finish(stores, parts, record);
@@ -354,7 +354,8 @@ pub fn clearing(w: usize, parts: &Parts, used: usize, wanting: Wanting) -> Store
         stores.erase(work_block(parts));
     }
     if wanting.compact {
-        compact(&mut stores, parts, used, None);
+        stores.bytes = compacted(parts.region);
+        compact(&mut stores, parts, used, false);
     }
     stores
 }

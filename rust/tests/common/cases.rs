@@ -2,6 +2,7 @@
 
 use super::cuts::Run;
 use super::generate::{self, Asked, Name, BLOCK};
+use super::profiles::{self, Profile};
 use super::stored::Call;
 use super::{signed, A, B, NEW, OLD, RATE, VENDOR};
 use varstore::interface::{Answer, Key, Setting, Setup, OURS};
@@ -24,6 +25,11 @@ pub fn record(key: Key, data: &[u8]) -> Call {
 
 pub fn delete(key: Key) -> Call {
     Call::Set(asked(key, 0, &[]))
+}
+
+/// A profile of settings with attributes 0x07; empty data delete.
+pub fn profile(settings: &[(Key, &[u8])]) -> Call {
+    Call::Profile(Profile { file: profiles::settings(settings), side: OURS })
 }
 
 /// A run on an empty store. Its former region holds other values under the same names.
@@ -102,6 +108,11 @@ pub fn crowded(blocks: usize) -> Run {
 /// What compacts a crowded region.
 pub fn compacting() -> Call {
     set(A, &[3; 700])
+}
+
+/// What changes a crowded region by one profile: a value that stays, one that is replaced, one that goes, and two new ones.
+pub fn profiling() -> Call {
+    profile(&[(RATE, NEW), (A, &[3; 700]), (C, &[]), (Key { name: b"D\0\0\0", ..A }, OLD), (Key { name: b"E\0\0\0", ..A }, &[5; 40])])
 }
 
 /// A compaction of b blocks makes 1 + L stores before its deciding one, of index 1 + L.

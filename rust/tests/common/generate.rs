@@ -2,10 +2,11 @@
 //! calls meet what stands.
 
 use super::book::{Book, Value};
+use super::profiles::{self, Profile};
 use super::random::Random;
 use super::tenants::{admitting, found, is_modems, Taken};
 use varstore::calls::PAPER;
-use varstore::interface::{Answer, Context, Guid, Key, Request, Session, Setting, Setup, Tenant, MODEM, OURS, PLACE, PLACES};
+use varstore::interface::{Answer, Context, Guid, Key, Request, Session, Setting, Setup, Tenant, ITEMS, MODEM, OURS, PLACE, PLACES};
 use varstore::paper::image::Parts;
 use varstore::paper::layout::{Authenticated, Layout, Plain};
 use varstore::paper::records::{self, record_name};
@@ -267,18 +268,40 @@ pub fn side(r: &mut Random, setup: &Setup, key: Key) -> u32 {
 
 /// Another H and other shares in a session with an eye to a set: what stands or would stand with the reserve, a byte less or more; what the others leave of L; or any.
 pub fn room_for(r: &mut Random, session: &mut Session, image: &[u8], asked: &Asked) {
-    let setup = &mut session.setup;
     if r.once_in(3) || (PAPER.check)(image).answer != Answer::Done(0) {
-        return [setup.share, setup.modem.share, setup.records] = [share(r), share(r), record_space(r)];
+        return any_room(r, &mut session.setup);
     }
     let mut values = Book::of(image).values;
-    let before = Taken::by(setup, &values);
+    let before = Taken::by(&session.setup, &values);
     let old = values.iter().position(|value| value.name == asked.name).map(|place| values.remove(place));
     let joined = old.filter(|_| asked.attributes & 0x40 != 0).map_or(0, |value| value.data.len());
     let given = if asked.attributes & 0x20 != 0 { asked.data.len().saturating_sub(40) } else { asked.data.len() };
     let stands = Value { name: asked.name.clone(), attributes: asked.attributes & !0x40, stamp: [0; 16], data: vec![0; joined + given] };
     values.push(stands);
-    let after = Taken::by(setup, &values);
+    let after = Taken::by(&session.setup, &values);
+    room_between(r, session, image, before, after);
+}
+
+/// The same with an eye to a profile.
+pub fn room_for_items(r: &mut Random, session: &mut Session, image: &[u8], profile: &Profile) {
+    let items = profiles::items(&profile.file).unwrap_or_default();
+    if r.once_in(3) || (PAPER.check)(image).answer != Answer::Done(0) {
+        return any_room(r, &mut session.setup);
+    }
+    let mut book = Book::of(image);
+    let before = Taken::by(&session.setup, &book.values);
+    items.iter().for_each(|item| book.set(&item.request()));
+    let after = Taken::by(&session.setup, &book.values);
+    room_between(r, session, image, before, after);
+}
+
+fn any_room(r: &mut Random, setup: &mut Setup) {
+    [setup.share, setup.modem.share, setup.records] = [share(r), share(r), record_space(r)];
+}
+
+/// What is taken before or after a call with the reserve, a byte less or more; or what the others leave of L.
+fn room_between(r: &mut Random, session: &mut Session, image: &[u8], before: Taken, after: Taken) {
+    let setup = &mut session.setup;
     let reserve = |reserve: u32| if session.phase >= 2 { reserve.min(4096).into() } else { 0 };
     let rest = u64::from(Setup::alone(image.len()).share).saturating_sub(after.ours + after.modem + after.records);
     let mut near = |before: u64, after: u64| {
@@ -453,6 +476,113 @@ pub fn session(r: &mut Random) -> Session {
         }
     }
     session
+}
+
+/// A name that a side may set by an item of a profile: well formed, its own, no key and no record.
+fn own_name(r: &mut Random, setup: &Setup, side: u32) -> Name {
+    loop {
+        let vendor = if side == MODEM { setup.modem.vendor } else { r.pick(&[PLAIN_VENDOR, PLAIN_VENDOR, OTHER_VENDOR, [0xFF; 16]]) };
+        let name = Name { name: good_name(r), vendor };
+        let key = name.key();
+        if is_modems(setup, key) == (side == MODEM) && !KEYS.contains(&key) && !record_name(key) {
+            return name;
+        }
+    }
+}
+
+/// 02 (l): a profile of a side with an eye to what stands: values that stay, change or go, and new ones. Once in some times one item is wrong, or the file is. No name is
+/// under the zero GUID, which is the modem's of a station without one.
+pub fn profile(r: &mut Random, setup: &Setup, image: &[u8]) -> Profile {
+    let side = r.pick(if setup.modem.vendor == [0; 16] { &[OURS, OURS, 2] } else { &[OURS, OURS, MODEM] });
+    let is_own = |value: &Value| is_modems(setup, value.name.key()) == (side == MODEM) && [3, 7].contains(&value.attributes);
+    let mut standing: Vec<Value> = match (PAPER.check)(image).answer {
+        Answer::Done(0) => Book::of(image).values.into_iter().filter(is_own).collect(),
+        _ => vec![],
+    };
+    let mut items: Vec<Asked> = vec![];
+    let most = r.pick(&[8, 8, 60, 400, 2048]);
+    for _ in 0..r.pick(&[0, 1, 1, 2, 2, 3, 4, 5, 6, 7, 8, 8, 8]) {
+        let fresh = |r: &mut Random| vec![r.byte(); 1 + r.below(most)];
+        let (name, attributes, data) = if standing.is_empty() || r.once_in(3) {
+            (own_name(r, setup, side), r.pick(&[7, 7, 7, 3]), fresh(r))
+        } else {
+            let value = standing.swap_remove(r.below(standing.len()));
+            let data = match r.below(4) {
+                0 => value.data,
+                1 => vec![],
+                _ => fresh(r),
+            };
+            (value.name, value.attributes, data)
+        };
+        if items.iter().all(|item| item.name != name) {
+            items.push(Asked { name, attributes, data, presence: 0, verdict: 0, side });
+        }
+    }
+    if !items.is_empty() && r.once_in(3) {
+        let place = r.below(items.len());
+        spoil(r, &mut items, place);
+    }
+    let file = laid_out(r, &items);
+    Profile { file, side }
+}
+
+/// A name that is not well formed, any name, that of another item, other attributes, empty data, or too many.
+fn spoil(r: &mut Random, items: &mut [Asked], place: usize) {
+    let other = items[r.below(items.len())].name.clone();
+    let item = &mut items[place];
+    match r.below(7) {
+        0 => item.name.name = bad_name(r),
+        1 | 2 => item.name = name(r),
+        3 => item.name = other,
+        4 => item.attributes ^= 4,
+        5 => item.data.clear(),
+        _ => item.data = vec![r.byte(); r.pick(&[2047, 2048, 2049, 5000, 20_000])],
+    }
+}
+
+/// The file of these items, or once in some times one that is not of the form in one place; a bit that is another may also make another file of the form.
+fn laid_out(r: &mut Random, items: &[Asked]) -> Vec<u8> {
+    let mut numbers: Vec<Vec<u8>> = vec![profiles::number(items.len())];
+    for item in items {
+        numbers.extend([item.attributes as usize, item.name.name.len(), item.data.len()].map(profiles::number));
+    }
+    let wrong = r.once_in(5);
+    let (place, kind) = (r.below(numbers.len()), if wrong { r.below(8) } else { usize::MAX });
+    match kind {
+        0 => {
+            let last = numbers[place].len() - 1;
+            numbers[place][last] |= 0x80;
+            numbers[place].push(0);
+        }
+        1 => numbers[place] = profiles::number(r.pick(&[0, 1, 2, 3, 7, 8, 9, 0x27, 0x40, 0x47, 0x7F, 0x80, 0x3FFF, 0x4000, 0x1F_FFFF, 0x20_0000])),
+        2 => numbers[0] = profiles::number(r.below(ITEMS + 4)),
+        _ => {}
+    }
+    let mut file = numbers[0].clone();
+    for (item, numbers) in items.iter().zip(numbers[1..].chunks_exact(3)) {
+        file.extend(profiles::sized([numbers[0].clone(), numbers[1].clone(), numbers[2].clone()], item.name.key(), &item.data));
+    }
+    match kind {
+        3 => file.truncate(r.below(file.len())),
+        4 => file.push(r.byte()),
+        5 | 6 => {
+            let at = r.below(file.len());
+            file[at] ^= 1 << r.below(8);
+        }
+        7 => {
+            let count = r.below(60);
+            file = r.bytes(count);
+        }
+        _ => {}
+    }
+    file
+}
+
+/// Rules with an eye to a profile: for one of its items.
+pub fn rules_for_items(r: &mut Random, image: &[u8], profile: &Profile) -> Vec<Setting> {
+    let items = profiles::items(&profile.file).unwrap_or_default();
+    let place = r.below(items.len().max(1));
+    items.get(place).map_or(vec![], |item| rules_for(r, image, item))
 }
 
 /// Dead addresses, sometimes more than count: of stores that a call is to make, anywhere in the image, or outside.

@@ -7,6 +7,7 @@ pub mod cuts;
 pub mod digest;
 pub mod failing;
 pub mod generate;
+pub mod profiles;
 pub mod random;
 pub mod rounds;
 pub mod settings;

@@ -81,6 +81,29 @@ impl Station {
         (self.calls.set)(context.by(self.side), &self.session, &mut self.image, &request)
     }
 
+    /// What is planned has the same answer, by value and lent, and a refused profile changes nothing.
+    pub fn profile(&mut self, file: &[u8]) -> Answer {
+        let before = self.image.clone();
+        let answer = (self.calls.profile)(self.context(), &self.session, &mut self.image, file);
+        for plan in [engine::plan_profile, engine::lent::plan_profile] {
+            let planned = lent(|content| plan(&self.session, self.side, &before, file, content).map(|plan| plan.count(1) as u64));
+            assert_eq!(
+                planned.map_or_else(Answer::Refused, Answer::Done),
+                answer,
+                "planned: {} bytes, {:02X?}",
+                file.len(),
+                &file[..file.len().min(64)]
+            );
+        }
+        assert!(!matches!(answer, Answer::Refused(_)) || self.image == before, "a refused profile has changed the image");
+        answer
+    }
+
+    /// The answer, where the store keeps what it has.
+    pub fn profiled(&self, file: &[u8]) -> Answer {
+        self.clone().profile(file)
+    }
+
     pub fn delete(&mut self, key: Key) -> Answer {
         self.set(key, 0, &[])
     }

@@ -3,6 +3,7 @@
 use std::ops::Range;
 
 use super::generate::Asked;
+use super::profiles::{self, Profile};
 use super::tenants::admitting;
 use varstore::calls::Calls;
 use varstore::engine;
@@ -13,6 +14,7 @@ use varstore::plan::{Content, Operation, Plan};
 #[derive(Clone, Debug)]
 pub enum Call {
     Set(Asked),
+    Profile(Profile),
     StartUp(Setup),
     /// A start-up that is given what admits the values that it finds.
     Restart,
@@ -25,7 +27,26 @@ impl Call {
         match self {
             Call::StartUp(setup) => Some(*setup),
             Call::Restart => Some(admitting(image)),
-            Call::Set(_) | Call::Format => None,
+            Call::Set(_) | Call::Profile(_) | Call::Format => None,
+        }
+    }
+
+    /// In a word.
+    pub fn what(&self) -> &'static str {
+        match self {
+            Call::Set(_) => "set",
+            Call::Profile(_) => "profile",
+            Call::StartUp(_) | Call::Restart => "start-up",
+            Call::Format => "format",
+        }
+    }
+
+    /// The sets that the book takes where the call is done or decided, in their order.
+    pub fn sets(&self) -> Vec<Asked> {
+        match self {
+            Call::Set(asked) => vec![asked.clone()],
+            Call::Profile(profile) => profiles::items(&profile.file).expect("a profile that is accepted has items"),
+            _ => vec![],
         }
     }
 
@@ -34,6 +55,7 @@ impl Call {
         match (self, self.setup(image)) {
             (_, Some(setup)) => paper::start_up_stores(w, image, &setup),
             (Call::Set(asked), _) => paper::set_stores(w, asked.side, session, image, &asked.request()),
+            (Call::Profile(profile), _) => paper::profile_stores(w, profile.side, session, image, &profile.file),
             _ => paper::format_stores(w, image),
         }
     }
@@ -46,6 +68,7 @@ impl Call {
                 (started.answer, started.session)
             }
             (Call::Set(asked), _) => ((calls.set)(context.by(asked.side), session, image, &asked.request()), *session),
+            (Call::Profile(profile), _) => ((calls.profile)(context.by(profile.side), session, image, &profile.file), *session),
             _ => ((calls.format)(context, image), *session),
         }
     }
@@ -58,6 +81,7 @@ impl Call {
                 (started.answer, started.session)
             }
             (Call::Set(asked), _) => (engine::set(context.by(asked.side), session, image, &asked.request(), content), *session),
+            (Call::Profile(profile), _) => (engine::profile(context.by(profile.side), session, image, &profile.file, content), *session),
             _ => (engine::format(context, image, content), *session),
         }
     }
@@ -67,6 +91,7 @@ impl Call {
         match (self, self.setup(image)) {
             (_, Some(setup)) => engine::plan_start_up(image, &setup, content),
             (Call::Set(asked), _) => engine::plan_set(session, asked.side, image, &asked.request(), content),
+            (Call::Profile(profile), _) => engine::plan_profile(session, profile.side, image, &profile.file, content),
             _ => engine::plan_format(image, content),
         }
     }
