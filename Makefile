@@ -1,5 +1,5 @@
 .SILENT:
-.PHONY: help kit demo test check fmt lib link-test targets-test examples-test host host-test stack rust-test soak bench check-time efi interop volume-test convert-test records-test settings-test shares-test desk-test install clean
+.PHONY: help kit demo test check fmt lib link-test targets-test examples-test host host-test stack rust-test soak bench check-time efi interop volume-test convert-test records-test settings-test shares-test profile-test desk-test install clean
 
 CC = cc
 CFLAGS = -std=c11 -O2 -Wall -Wextra -Werror
@@ -129,6 +129,10 @@ settings-test:
 # tools/shares on images that the test makes
 shares-test:
 	tools/shares-test
+
+# tools/profile on texts, profiles, rules and images that the test makes
+profile-test:
+	tools/profile-test
 
 # what all desk tools do alike: lost output, files, --help, the documents' transcripts; needs the programs varlist and plainlist
 desk-test:

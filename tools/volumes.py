@@ -1,5 +1,5 @@
-"""What tools/volume, tools/convert, tools/records, tools/settings and tools/shares know of stores: the variable store in a firmware volume or SPI dump, what keeps a region from
-being sound in words, images made of entries, what a start-up finds in them, and what can be read of a store that no start-up would take."""
+"""What tools/volume, tools/convert, tools/records, tools/settings, tools/shares and tools/profile know of stores: the variable store in a firmware volume or SPI dump, what
+keeps a region from being sound in words, images made of entries, what a start-up finds in them, and what can be read of a store that no start-up would take."""
 import argparse
 import struct
 
@@ -222,6 +222,18 @@ def values_held(path, held, at, blocks):
     for fault in faults:
         tell("%s: %s" % (path, fault))
     return values_of(entries), NOT_ALL if faults else 0
+
+
+def region_size(held, at, blocks):
+    """of the image that is meant, in the new form"""
+    begin = at or 0
+    blocks = blocks or blocks_of(len(held))
+    if blocks is None:
+        raise Refused("no image; of a volume make one with tools/volume image; for an image inside a dump, --at and --blocks say where it is")
+    image = held[begin:begin + BLOCK * (2 * blocks + 1)]
+    if blocks_of(len(image)) == blocks and (pending_form(image) or form_of(parts_of(image)[0])) not in (NEW, None):
+        raise Refused("it is in the plain form, whose variables take other bytes than after the move: tools/convert")
+    return BLOCK * blocks
 
 
 def with_blocks(blocks, entries, form):
