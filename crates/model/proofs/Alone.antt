@@ -15,7 +15,7 @@ use Rattle.model.specs.Lists.{any, among, orElse}
 use Rattle.model.specs.Name.{sameKey}
 use Rattle.model.specs.Entry.{Value}
 use Rattle.model.specs.Region.{recordBit, find}
-use Rattle.model.specs.Request.{Request, requestKey, isKeyName, userMode}
+use Rattle.model.specs.Request.{Request, requestKey, isKeyName, modeOf}
 use Rattle.model.specs.Profile.{itemAttributes, sharesName}
 use Rattle.model.specs.Limits.{limitsFor}
 use Rattle.model.specs.Change.{Change, changeOf, changeIn, changesIn, step}
@@ -39,7 +39,7 @@ form-cases P a h x y = go (eqb a 0x03) refl (eqb a 0x07) refl h
     go false e false f h = absurd (false≢true h)
 
 -- with these a key name breaks 5, and no value is an error record
-not-keyed : (a : ℕ) → among itemAttributes a ≡ true → among (0x27 ∷ 0x67 ∷ []) a ≡ false
+pub not-keyed : (a : ℕ) → among itemAttributes a ≡ true → among (0x27 ∷ 0x67 ∷ []) a ≡ false
 not-keyed a h = form-cases (λ (n : ℕ). among (0x27 ∷ 0x67 ∷ []) n ≡ false) a h refl refl
 
 pub form-plain : (a : ℕ) → among itemAttributes a ≡ true → recordBit a ≡ false
@@ -55,7 +55,7 @@ by-request : (t : Terms) (r : Request) (rule : Rule) → firstBroken (requestRul
 unfolding itemRules
 by-request t r rule e vs =
     let a : List (Rule × Bool) = requestRules t r in
-    let b : List (Rule × Bool) = standingRules t r (userMode vs) (find (requestKey r) vs) in
+    let b : List (Rule × Bool) = standingRules t r (modeOf vs) (find (requestKey r) vs) in
     let c : List (Rule × Bool) = resultRules r (find (requestKey r) vs) in
     broken-append (a ++ b) c
     ∙ ap (λ (o : Option Rule). orElse o (firstBroken c)) (broken-append a b ∙ ap (λ (o : Option Rule). orElse o (firstBroken b)) e)

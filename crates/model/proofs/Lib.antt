@@ -25,6 +25,8 @@ pub mod Encode
 pub mod WorkBlock
 -- Changes one after another
 pub mod Changes
+-- What is put and removed under PlatMode's name
+pub mod Joint
 -- What the rules leave of a call that breaks none
 pub mod Requests
 -- A start-up that is given nothing
@@ -45,3 +47,5 @@ pub mod Folding
 pub mod Files
 -- A profile that breaks no rule
 pub mod Profiles
+-- How the platform's modes follow one another
+pub mod Modes

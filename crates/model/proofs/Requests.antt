@@ -18,21 +18,22 @@ use Rattle.model.specs.declared.Rule.{Rule}
 use Rattle.model.specs.declared.Rule.the-variants.{Side}
 use Rattle.model.specs.Layout.{authenticated}
 use Rattle.model.specs.Lists.{allFF, among, isSome, onSome, orElse}
-use Rattle.model.specs.Name.{Key, wellNamed, recordName}
+use Rattle.model.specs.Name.{Key, sameKey, wellNamed, recordName}
 use Rattle.model.specs.Image.{rightLength, regionSize, region, work, spare}
 use Rattle.model.specs.Entry.{Value, keyOf}
 use Rattle.model.specs.Region.{maxData, storedAttributes, recordBit, tail, sound, clean, cleanIn, valuesOf, valuesIn, find}
 use Rattle.model.specs.Work.{idle, readyForCall, readyIn, readyForStartUp}
-use Rattle.model.specs.Request.{Request, requestKey, stampSize, timeBased, appends, withoutAppend, dataProper, stampToStore, later, properAt, rightDescriptor}
+use Rattle.model.specs.Request.{Request, requestKey, stampSize, timeBased, appends, withoutAppend, dataProper, stampToStore, later, properAt, rightDescriptor, keyMode, auditMode, deployedMode}
 use Rattle.model.specs.Session.{atRuntime}
 use Rattle.model.specs.Limits.{Limit, limitsFor}
-use Rattle.model.specs.Change.{nothing, remove, put, deletes, emptyAppend, equalTo, newData, laterOf, newStamp, newValue, changeOf, changeIn, step, steps, spaceOf}
+use Rattle.model.specs.Change.{Change, nothing, remove, put, deletes, emptyAppend, equalTo, newData, laterOf, newStamp, newValue, changeOf, changeIn, changesOf, modeChanges, step, steps, spaceOf}
 use Rattle.model.specs.Sides.{allotted}
-use Rattle.model.specs.Rules.{firstBroken, rule1, rule2In, rule2StartUp, rule3, rule4, rule8, rule11, rule12, rule13, rule17, rule22StartUp, valuesFound, termsOf, imageRules, imageRulesIn, requestRules, standingRules, resultRules, itemRules, settingRules, roomRules, setBroken, getRules, getBroken, getsBroken, nextBroken, startUpBroken}
+use Rattle.model.specs.Rules.{firstBroken, rule1, rule2In, rule2StartUp, rule3, rule4, rule8, rule11, rule12, rule13, rule17, rule22StartUp, rule24Set, valuesFound, termsFor, termsOf, imageRules, imageRulesIn, requestRules, standingRules, resultRules, itemRules, settingRules, roomRules, setBroken, modeRules, modeBroken, getRules, getBroken, getsBroken, nextBroken, startUpBroken}
 use Rattle.model.specs.Answers.{ruleNumber}
 use Rattle.model.specs.Beside.{Valid}
 use Rattle.model.proofs.Encode.{AllValid, sound-valid, sound-fits}
 use Rattle.model.proofs.Changes.{Fitting, room-after}
+use Rattle.model.proofs.Joint.{mode-valid, beside-puts, mode-puts, mode-removes}
 use Rattle.model.proofs.Chunks.{Chunked, region-chunked}
 use Rattle.model.proofs.Parts.{right-parts, parts-region, parts-size}
 use Rattle.model.proofs.Values.{find-holds}
@@ -276,7 +277,7 @@ setRules t ls r img =
     imageRules img
     ++ itemRules t r (valuesOf img)
     ++ settingRules ls r (find (requestKey r) (valuesOf img))
-    ++ roomRules t (regionSize img) (changeIn r (valuesOf img) ∷ []) (valuesOf img)
+    ++ roomRules t (regionSize img) (changesOf r (valuesOf img)) (valuesOf img)
 
 module _ (t : Terms) (ls : List Limit) (r : Request) (img : List ℕ) (accepted : firstBroken (setRules t ls r img) ≡ none) where
   kept-length : rightLength img ≡ true
@@ -292,7 +293,7 @@ module _ (t : Terms) (ls : List Limit) (r : Request) (img : List ℕ) (accepted 
       let a : List (Rule × Bool) = imageRules img in
       let b : List (Rule × Bool) = itemRules t r (valuesOf img) in
       let c : List (Rule × Bool) = settingRules ls r (find (requestKey r) (valuesOf img)) in
-      let d : List (Rule × Bool) = roomRules t (regionSize img) (changeIn r (valuesOf img) ∷ []) (valuesOf img) in
+      let d : List (Rule × Bool) = roomRules t (regionSize img) (changesOf r (valuesOf img)) (valuesOf img) in
       none-append a b (none-append (a ++ b) c (none-append (a ++ b ++ c) d accepted .0) .0) .1
 
   pub kept-valid : (v : Value) → changeIn r (valuesOf img) ≡ put v → length (r .vendor) ≡ 16 → Valid v
@@ -302,13 +303,13 @@ module _ (t : Terms) (ls : List Limit) (r : Request) (img : List ℕ) (accepted 
   kept-present = item-present t r (valuesOf img) kept-item
 
   -- all values fit after it
-  kept-room : spaceOf (steps (changeIn r (valuesOf img) ∷ []) (valuesOf img)) ≤ regionSize img
+  pub kept-room : spaceOf (steps (changesOf r (valuesOf img)) (valuesOf img)) ≤ regionSize img
   unfolding imageRulesIn itemRules requestRules standingRules resultRules settingRules roomRules
   kept-room =
-      let h : rule13 t (regionSize img) (changeIn r (valuesOf img) ∷ []) (valuesOf img) ≡ false = unbroken _ 13 accepted in
-      room-after t (regionSize img) (changeIn r (valuesOf img) ∷ []) (valuesOf img) h (image-fits img kept-length kept-ready)
+      let h : rule13 t (regionSize img) (changesOf r (valuesOf img)) (valuesOf img) ≡ false = unbroken _ 13 accepted in
+      room-after t (regionSize img) (changesOf r (valuesOf img)) (valuesOf img) h (image-fits img kept-length kept-ready)
 
-  pub kept-fits : (v : Value) → changeIn r (valuesOf img) ≡ put v → spaceOf (step (put v) (valuesOf img)) ≤ regionSize img
+  pub kept-fits : (v : Value) → changesOf r (valuesOf img) ≡ put v ∷ [] → spaceOf (step (put v) (valuesOf img)) ≤ regionSize img
   unfolding steps
   kept-fits v c = rw c at kept-room
 
@@ -344,20 +345,49 @@ module _ (m : Bool) (s : Session) (r : Request) (img : List ℕ) (accepted : set
   unfolding setBroken
   remove-present = kept-present its rules r img accepted
 
-  set-room : spaceOf (steps (changeIn r (valuesOf img) ∷ []) (valuesOf img)) ≤ regionSize img
+  set-room : spaceOf (steps (changesOf r (valuesOf img)) (valuesOf img)) ≤ regionSize img
   unfolding setBroken
   set-room = kept-room its rules r img accepted
 
-  pub put-fits : (v : Value) → changeIn r (valuesOf img) ≡ put v → spaceOf (step (put v) (valuesOf img)) ≤ regionSize img
+  pub put-fits : (v : Value) → changesOf r (valuesOf img) ≡ put v ∷ [] → spaceOf (step (put v) (valuesOf img)) ≤ regionSize img
   unfolding setBroken
   put-fits = kept-fits its rules r img accepted
 
-  pub set-fitting : length (r .vendor) ≡ 16 → Fitting (changeIn r (valuesOf img) ∷ []) (valuesOf img) (regionSize img)
-  set-fitting g =
-      record { valid = (λ v c. put-is-valid v c g, tt); room = set-room; there = λ k e. remove-present k (only e) }
+  -- PlatMode is not set so
+  pub set-apart : sameKey (requestKey r) keyMode ≡ false
+  unfolding itemRules requestRules standingRules rule24Set
+  set-apart = unbroken _ 24 set-own
+
+  pub set-fitting : length (r .vendor) ≡ 16 → Fitting (changesOf r (valuesOf img)) (valuesOf img) (regionSize img)
+  unfolding changesOf
+  set-fitting g = record {
+    valid = (λ v c. put-is-valid v c g, beside-puts Valid (mode-valid deployedMode) (changeIn r (valuesOf img)) (valuesOf img));
+    room = set-room;
+    there = λ k e. remove-present k (only e);
+  }
     where
-      only : {k : Key} → changeIn r (valuesOf img) ∷ [] ≡ remove k ∷ [] → changeIn r (valuesOf img) ≡ remove k
+      only : {k : Key} {cs : List Change} → changeIn r (valuesOf img) ∷ cs ≡ remove k ∷ [] → changeIn r (valuesOf img) ≡ remove k
       only e = cc
+
+-- ---- a mode request that breaks no rule
+
+module _ (side : Bool) (s : Session) (m : ℕ) (img : List ℕ) (accepted : modeBroken side s m img ≡ none) where
+  pub mode-length : rightLength img ≡ true
+  unfolding modeBroken modeRules imageRulesIn rule1
+  mode-length = not-false (rightLength img) (unbroken _ 1 accepted)
+
+  pub mode-ready : readyForCall img ≡ true
+  unfolding modeBroken modeRules imageRulesIn rule2In
+  mode-ready = not-false (readyForCall img) (unbroken _ 2 accepted)
+
+  pub mode-fitting : Fitting (modeChanges m (valuesOf img)) (valuesOf img) (regionSize img)
+  unfolding modeBroken modeRules imageRulesIn
+  mode-fitting = record {
+    valid = mode-puts Valid (mode-valid auditMode) (mode-valid deployedMode) m (valuesOf img);
+    room =
+        room-after (termsFor side s) (regionSize img) (modeChanges m (valuesOf img)) (valuesOf img) (unbroken _ 13 accepted) (image-fits img mode-length mode-ready);
+    there = mode-removes m (valuesOf img);
+  }
 
 -- ---- the other calls
 

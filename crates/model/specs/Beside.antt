@@ -3,12 +3,15 @@ use Prim.Native.Nat.{ℕ, _+_, _*_, _≤_}
 use mathlib.Core.Path.{_≡_}
 use mathlib.Core.Bool.{Bool, true, false, not, cond, _&&_, _||_}
 use mathlib.Core.List.{List, [], _∷_, _++_}
+use mathlib.Core.Option.{Option, none, some}
 use lib.ListN.{length, drop}
 use lib.Dec.{eqb, leb, ltb}
 use Rattle.model.specs.declared.Layout.{Layout}
 use Rattle.model.specs.declared.Session.{Session}
 use Rattle.model.specs.declared.Terms.{Terms}
 use Rattle.model.specs.declared.Rule.{Rule}
+use Rattle.model.specs.declared.PlatMode.{PlatMode}
+use Rattle.model.specs.declared.PlatMode.the-variants as mode
 use Rattle.model.specs.Layout.{authenticated, headerLength, isStamped}
 use Rattle.model.specs.Lists.{any, keep, among, part, overlay}
 use Rattle.model.specs.Name.{Key, sameKey, keyed, wellNamed, recordName}
@@ -16,7 +19,7 @@ use Rattle.model.specs.Entry.{Value, keyOf, noStamp, readHeaderIn}
 use Rattle.model.specs.Walk.{Entry, walk}
 use Rattle.model.specs.Region.{storedAttributes, recordBit, maxData, find}
 use Rattle.model.specs.Session.{lockSpace, nameSpace, placeSize, withLock}
-use Rattle.model.specs.Request.{Request, requestKey}
+use Rattle.model.specs.Request.{Request, requestKey, auditMode, deployedMode}
 use Rattle.model.specs.Limits.{Limit}
 use Rattle.model.specs.Change.{Change, nothing, remove, put, changeIn}
 use Rattle.model.specs.Rules.{termsOf, itemRules, settingRules}
@@ -69,6 +72,22 @@ putValues (put v ∷ cs) = v ∷ putValues cs
 
 unfoldable pub withoutAll : List Key → List Value → List Value
 withoutAll ks vs = keep (λ v. not (any (sameKey (keyOf v)) ks)) vs
+
+-- 02 (j): how modes follow one another: "Setup may go to audit; user to audit, losing PK, or to deployed; audit to deployed when PK is enrolled ..; deployed to
+-- setup when PK is deleted"; and as in 01, setup to user when PK is enrolled and user to setup when it is deleted
+pub data Moves : PlatMode → PlatMode → Type 0 where
+  stays : (m : PlatMode) → Moves m m
+  setup-audit : Moves mode.Setup mode.Audit
+  user-audit : Moves mode.User mode.Audit
+  user-deployed : Moves mode.User mode.Deployed
+  audit-deployed : Moves mode.Audit mode.Deployed
+  deployed-setup : Moves mode.Deployed mode.Setup
+  setup-user : Moves mode.Setup mode.User
+  user-setup : Moves mode.User mode.Setup
+
+-- the mode that a mode request names: 2 audit, 3 deployed, any other number none
+abbrev pub modeNamed : ℕ → Option PlatMode
+modeNamed to = cond (eqb to auditMode) (some mode.Audit) (cond (eqb to deployedMode) (some mode.Deployed) none)
 
 -- what a value must be for its entry to be sound, and to be read back, in a form
 pub record ValidIn (y : Layout) (v : Value) : Type 0 where

@@ -22,8 +22,8 @@ use Rattle.model.specs.Region.{entries, tailAt, valuesOf}
 use Rattle.model.specs.Work.{recordSpace}
 use Rattle.model.specs.Request.{Request}
 use Rattle.model.specs.Profile.{itemsIn}
-use Rattle.model.specs.Change.{Change, nothing, remove, put, steps, changeIn, changesIn}
-use Rattle.model.specs.Rules.{setBroken, getBroken, nextBroken, startUpBroken, getsBroken, profileBroken}
+use Rattle.model.specs.Change.{Change, nothing, remove, put, steps, changesOf, modeChanges, changesIn}
+use Rattle.model.specs.Rules.{setBroken, getBroken, nextBroken, startUpBroken, getsBroken, profileBroken, modeBroken}
 use Rattle.model.specs.Stores.{Store, page, erase, apply, Bytes, Uncleared, Cut, Clears, difference}
 use Rattle.model.specs.Set.{Plan, refuse, make, fitsTail, changesPlan}
 use Rattle.model.specs.StartUp.{startUpStores, startUpPlan, formatPlan}
@@ -31,7 +31,8 @@ use Rattle.model.specs.Answers.{Outcome, done, stopped, refused, outcome
 use Rattle.model.specs.Move.{moveBroken, imageMoved}
 
 -- "sets (deletes among them), gets, next-names and start-ups": each with its side, its session and arguments, a start-up with what it is given; 02 (g), "Demand 3's
--- list takes this call in": several names at once, and the buffer; 02 (l), "Demand 3's list takes profiles in": the file
+-- list takes this call in": several names at once, and the buffer; 02 (l), "Demand 3's list takes profiles in": the file; 02 (j), it "takes mode requests in": the mode, 2
+-- audit or 3 deployed
 pub data Call : Type 0 where
   set : Bool → Session → Request → Call
   get : Bool → Session → Key → List ℕ → Call
@@ -39,6 +40,7 @@ pub data Call : Type 0 where
   startUp : Setup → Call
   several : Bool → Session → List Key → List ℕ → Call
   profile : Bool → Session → List ℕ → Call
+  mode : Bool → Session → ℕ → Call
 
 -- "The first broken is the answer": the rule that each breaks first
 abbrev pub callBroken : Call → List ℕ → Option Rule
@@ -48,6 +50,7 @@ callBroken (next m s k buffer) img = nextBroken m s k buffer img
 callBroken (startUp setup) img = startUpBroken setup img
 callBroken (several m s ks buffer) img = getsBroken ks img
 callBroken (profile m s file) img = profileBroken m s file img
+callBroken (mode m s to) img = modeBroken m s to img
 
 -- a call that breaks none reads; writes changes that follow from the values, a single one of them folded in too or not; or starts up with what it is given
 pub data Kind : Type 0 where
@@ -57,12 +60,13 @@ pub data Kind : Type 0 where
 
 -- "Of these calls only a set" changes the values: it writes one change; 02 (l): "the book in 01 takes their items as sets, in file order"
 abbrev pub kindOf : Call → Kind
-kindOf (set m s r) = writes false (λ vs. changeIn r vs ∷ [])
+kindOf (set m s r) = writes false (changesOf r)
 kindOf (get m s k buffer) = reads
 kindOf (next m s k buffer) = reads
 kindOf (startUp setup) = startsUp setup
 kindOf (several m s ks buffer) = reads
 kindOf (profile m s file) = writes true (changesIn (itemsIn file))
+kindOf (mode m s to) = writes false (modeChanges to)
 
 -- the stores of each kind: get, next-name and many-get make none; a start-up decides nothing
 abbrev pub doing : Kind → List ℕ → Plan
@@ -90,6 +94,9 @@ getsPlan modem s ks buffer img = planOf (several modem s ks buffer) img
 abbrev pub profilePlan : Bool → Session → List ℕ → List ℕ → Plan
 profilePlan modem s file img = planOf (profile modem s file) img
 
+abbrev pub modePlan : Bool → Session → ℕ → List ℕ → Plan
+modePlan modem s to img = planOf (mode modem s to) img
+
 -- arguments are bytes, a GUID is 16 of them
 abbrev pub Sized : Call → Type 0
 Sized (set m s r) = Bytes (r .name) × Bytes (r .vendor) × (length (r .vendor) ≡ 16) × Bytes (r .bytes)
@@ -98,6 +105,7 @@ Sized (next m s k buffer) = Unit {0}
 Sized (startUp setup) = Unit {0}
 Sized (several m s ks buffer) = Unit {0}
 Sized (profile m s file) = Bytes file
+Sized (mode m s to) = Unit {0}
 
 -- the changes of each kind
 abbrev pub changesBy : Kind → List Value → List Change

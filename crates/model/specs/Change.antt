@@ -5,14 +5,16 @@ use mathlib.Core.List.{List, [], _∷_, _++_}
 use mathlib.Core.Option.{Option, none, some}
 use lib.ListN.{length}
 use lib.Dec.{eqb}
-use Rattle.model.specs.Lists.{same, keep, onSome}
+use Rattle.model.specs.declared.PlatMode.{PlatMode}
+use Rattle.model.specs.declared.PlatMode.the-variants as mode
+use Rattle.model.specs.Lists.{same, keep, isSome, onSome}
 use Rattle.model.specs.declared.Layout.{Layout}
 use Rattle.model.specs.Layout.{authenticated}
 use Rattle.model.specs.Image.{regionHeaderSize}
 use Rattle.model.specs.Name.{Key, sameKey}
 use Rattle.model.specs.Entry.{Value, keyOf, entrySizeIn}
 use Rattle.model.specs.Region.{recordBit, find}
-use Rattle.model.specs.Request.{Request, requestKey, timeBased, appends, withoutAppend, dataProper, stampToStore, later}
+use Rattle.model.specs.Request.{Request, requestKey, timeBased, appends, withoutAppend, dataProper, stampToStore, later, keyPK, userMode, keyMode, auditMode, deployedMode, modeValue, storesMode, modeOf}
 
 pub data Change : Type 0 where
   nothing : Change
@@ -98,7 +100,41 @@ steps (c ∷ cs) vs = steps cs (step c vs)
 unfoldable pub changeIn : Request → List Value → Change
 changeIn r vs = changeOf r (find (requestKey r) vs)
 
--- 02 (l), items "as sets, in file order", each over the values as those before it leave them
+-- 02 (j): PlatMode's value is removed, if one stands
+abbrev pub withoutMode : List Value → List Change
+withoutMode vs = cond (isSome (find keyMode vs)) (remove keyMode ∷ []) []
+
+-- 02 (j): the change of PlatMode that goes with one of PK, by the values before: "audit to deployed when PK is enrolled"; "a PK that comes or goes also removes a byte that
+-- counts as absent, and one deleted in deployed the 3". A PK that is replaced neither comes nor goes
+unfoldable pub besidePK : Change → List Value → List Change
+besidePK nothing vs = []
+besidePK (remove k) vs = cond (sameKey k keyPK) (withoutMode vs) []
+besidePK (put v) vs =
+    cond
+    (sameKey (keyOf v) keyPK && not (userMode vs))
+    (cond (storesMode auditMode vs) (put (modeValue deployedMode) ∷ []) (withoutMode vs))
+    []
+
+-- the changes of a set: its own; "the book in 01 takes PK's change, if any, then PlatMode's"
+unfoldable pub changesOf : Request → List Value → List Change
+changesOf r vs = changeIn r vs ∷ besidePK (changeIn r vs) vs
+
+-- 02 (j): the changes of a mode request, which names 2 or 3: "Setup may go to audit; user to audit, losing PK, or to deployed"; none where it is another transition. A mode is
+-- always put, so it "goes to the end even where its byte stays"
+abbrev pub transition : PlatMode → ℕ → List Change
+transition mode.Setup m = cond (eqb m auditMode) (put (modeValue auditMode) ∷ []) []
+transition mode.Audit m = []
+transition mode.User m =
+    cond
+    (eqb m auditMode)
+    (remove keyPK ∷ put (modeValue auditMode) ∷ [])
+    (cond (eqb m deployedMode) (put (modeValue deployedMode) ∷ []) [])
+transition mode.Deployed m = []
+
+unfoldable pub modeChanges : ℕ → List Value → List Change
+modeChanges m vs = transition (modeOf vs) m
+
+-- 02 (l), items "as sets, in file order", each over the values as those before it leave them; none is of PK, by rule 5, or of PlatMode, by 24
 unfoldable pub changesIn : List Request → List Value → List Change
 changesIn [] vs = []
 changesIn (r ∷ rs) vs = changeIn r vs ∷ changesIn rs (step (changeIn r vs) vs)

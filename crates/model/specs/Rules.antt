@@ -10,8 +10,9 @@ use Rattle.model.specs.declared.Setup.{Setup}
 use Rattle.model.specs.declared.Session.{Session}
 use Rattle.model.specs.declared.Terms.{Terms}
 use Rattle.model.specs.declared.View.{View}
+use Rattle.model.specs.declared.PlatMode.{PlatMode}
 use Rattle.model.specs.declared.Rule.{Rule}
-use Rattle.model.specs.declared.Rule.the-variants.{Length, Unready, Name, Attributes, KeyAttributes, Locked, Standing, Descriptor, Verdict, Stamp, Absent, DataSize, Room, Buffer, LockPhase, LockSpace, RecordName, RecordSpace, Setting, Side, File, Twice}
+use Rattle.model.specs.declared.Rule.the-variants.{Length, Unready, Name, Attributes, KeyAttributes, Locked, Standing, Descriptor, Verdict, Stamp, Absent, DataSize, Room, Buffer, LockPhase, LockSpace, RecordName, RecordSpace, Setting, Side, Mode, File, Twice}
 use Rattle.model.specs.Layout.{authenticated}
 use Rattle.model.specs.Lists.{same, keep, any, among, isEmpty, isSome, onSome, head}
 use Rattle.model.specs.Image.{rightLength, regionSize, spare}
@@ -20,10 +21,10 @@ use Rattle.model.specs.Entry.{Value, keyOf}
 use Rattle.model.specs.Region.{maxData, storedAttributes, recordBit, entries, values, valuesOf, find}
 use Rattle.model.specs.Work.{readyIn, readyForStartUp, pending}
 use Rattle.model.specs.Session.{isYes, inBoot, atRuntime, customMode, shareOf, reserved, countedLocks, lockSpace, sideLocks, locked}
-use Rattle.model.specs.Request.{Request, requestKey, runtimeAccess, timeBased, appends, withoutAppend, isKeyName, userMode, wantedVerdicts, rightDescriptor, stampToStore, later}
+use Rattle.model.specs.Request.{Request, requestKey, runtimeAccess, timeBased, appends, withoutAppend, isKeyName, keyPK, keyMode, modeOf, wantedVerdicts, rightDescriptor, stampToStore, later}
 use Rattle.model.specs.Profile.{profileOf, itemsIn, sharesName}
 use Rattle.model.specs.Limits.{Limit, limitsFor, meets}
-use Rattle.model.specs.Change.{Change, nothing, remove, put, changeOf, changeIn, changesIn, step, steps, leaves, spaceOf, isErrorRecord, recordSizes}
+use Rattle.model.specs.Change.{Change, nothing, remove, put, changeOf, changeIn, changesOf, modeChanges, changesIn, step, steps, leaves, spaceOf, isErrorRecord, recordSizes}
 use Rattle.model.specs.Sides.{owns, view, sideSizes, allotted, locksOf}
 
 -- "The first broken is the answer": of rules in checking order, each with whether it is broken
@@ -134,6 +135,11 @@ puts f nothing = false
 puts f (remove k) = false
 puts f (put v) = f v
 
+abbrev pub removes : Change → Bool
+removes nothing = false
+removes (remove k) = true
+removes (put v) = false
+
 -- 18. 02 (a): "when after a set of one their rounded sizes exceed H, before 13 and with its exemptions": of changes one after another
 unfoldable pub rule18 : Terms → List Change → List Value → Bool
 rule18 t cs vs = any (puts isErrorRecord) cs && ltb (t .records) (recordSizes (steps cs vs))
@@ -152,6 +158,17 @@ rule15 s = not (inBoot s)
 -- 16. "The lock list holds 16 other names.", which 02 (f) reads: "eight of that side's names or no free place"; a name already listed needs none
 unfoldable pub rule16 : Bool → Session → Key → Bool
 rule16 modem s k = (leb sideLocks (locksOf modem s) || leb lockSpace (countedLocks s)) && not (locked s k)
+
+-- 24. 02 (j): "when another transition is requested, or a set or delete names PlatMode, after 9": of a mode request's changes, and of a set's name
+unfoldable pub rule24 : List Change → Bool
+rule24 cs = isEmpty cs
+
+unfoldable pub rule24Set : Key → Bool
+rule24Set k = sameKey k keyMode
+
+-- 6 of a mode request: "(PlatMode, and PK if lost)"
+unfoldable pub rule6Mode : Session → List Change → Bool
+rule6Mode s cs = rule6 s keyMode || (any removes cs && rule6 s keyPK)
 
 -- 25. 02 (l): "when the file is not of this form or leaves bytes over, after 2"
 unfoldable pub rule25 : List ℕ → Bool
@@ -206,16 +223,17 @@ requestRules t r =
     ∷ (Locked, t .barred)
     ∷ []
 
--- in user mode or not, over the value that stands
-abbrev pub wantedOf : Terms → Request → Bool → Option Value → List ℕ
-wantedOf t r user old = wantedVerdicts (t .custom) (r .presence) user (requestKey r) (r .attributes) (isSome old)
+-- in a mode, over the value that stands
+abbrev pub wantedOf : Terms → Request → PlatMode → Option Value → List ℕ
+wantedOf t r mode old = wantedVerdicts (t .custom) (r .presence) mode (requestKey r) (r .attributes) (isSome old)
 
-unfoldable pub standingRules : Terms → Request → Bool → Option Value → List (Rule × Bool)
-standingRules t r user old =
+unfoldable pub standingRules : Terms → Request → PlatMode → Option Value → List (Rule × Bool)
+standingRules t r mode old =
     (Standing, onSome old (λ v. rule7 (t .runtime) (r .attributes) (v .attributes)) false)
     ∷ (Descriptor, rule8 (r .attributes) (r .bytes))
-    ∷ (Verdict, rule9 (wantedOf t r user old) (r .verdict))
-    ∷ (Stamp, rule10 (r .attributes) (wantedOf t r user old) (stampToStore r) old)
+    ∷ (Verdict, rule9 (wantedOf t r mode old) (r .verdict))
+    ∷ (Mode, rule24Set (requestKey r))
+    ∷ (Stamp, rule10 (r .attributes) (wantedOf t r mode old) (stampToStore r) old)
     ∷ []
 
 unfoldable pub resultRules : Request → Option Value → List (Rule × Bool)
@@ -225,7 +243,7 @@ resultRules r old = (Absent, rule11 (changeOf r old) old) ∷ (DataSize, rule12 
 unfoldable pub itemRules : Terms → Request → List Value → List (Rule × Bool)
 itemRules t r vs =
     requestRules t r
-    ++ standingRules t r (userMode vs) (find (requestKey r) vs)
+    ++ standingRules t r (modeOf vs) (find (requestKey r) vs)
     ++ resultRules r (find (requestKey r) vs)
 
 -- the rules for its name, over the value that stands
@@ -242,7 +260,7 @@ setBroken modem s r img =
     (imageRules img
     ++ itemRules (termsOf modem s (requestKey r)) r (valuesOf img)
     ++ settingRules (limitsFor (s .setup) (requestKey r)) r (find (requestKey r) (valuesOf img))
-    ++ roomRules (termsOf modem s (requestKey r)) (regionSize img) (changeIn r (valuesOf img) ∷ []) (valuesOf img))
+    ++ roomRules (termsOf modem s (requestKey r)) (regionSize img) (changesOf r (valuesOf img)) (valuesOf img))
 
 -- 02 (l), "Each item is checked in turn as if those before it stood": by all rules of a set but room, those for its name among them, before the next item
 abbrev pub limitsOn : Session → Request → List Limit
@@ -268,6 +286,21 @@ profileBroken modem s file img =
     firstBroken
     (profileRules modem s file img
     ++ ((Room, rule13 (termsFor modem s) (regionSize img) (changesIn (itemsIn file) (valuesOf img)) (valuesOf img)) ∷ []))
+
+-- 02 (j), "A mode request meets 1, 2, 22, 6 (PlatMode, and PK if lost), 24, 13": of 2 or 3. "PlatMode is ours", so the modem's meets 22
+unfoldable pub modeRules : Bool → Session → ℕ → List ℕ → List (Rule × Bool)
+modeRules modem s m img =
+    imageRules img
+    ++ ((Side, rule22 (s .setup .modem .vendor) modem keyMode)
+    ∷ (Locked, rule6Mode s (modeChanges m (valuesOf img)))
+    ∷ (Mode, rule24 (modeChanges m (valuesOf img)))
+    ∷ [])
+
+unfoldable pub modeBroken : Bool → Session → ℕ → List ℕ → Option Rule
+modeBroken modem s m img =
+    firstBroken
+    (modeRules modem s m img
+    ++ ((Room, rule13 (termsFor modem s) (regionSize img) (modeChanges m (valuesOf img)) (valuesOf img)) ∷ []))
 
 -- "at runtime, values without RT are absent to get and next-name"
 unfoldable pub seen : Bool → List Value → List Value

@@ -78,7 +78,8 @@ changePlan img (put v) = putPlan img v
 unfoldable pub foldedPlan : List ℕ → List Change → Plan
 foldedPlan img cs = cond (all isNothing cs) (make [] []) (compactPlan img (steps cs (valuesOf img)))
 
--- of changes one after another: several are folded in so, and a single one where it must be; else it is made as above
+-- of changes one after another: several are folded in so, 02 (j), "where mode and PK change together it is one compaction", and a single one where it must be; else it is
+-- made as above, "A mode alone is stored as a set stores"
 abbrev pub changesPlan : Bool → List ℕ → List Change → Plan
 changesPlan fold img [] = make [] []
 changesPlan fold img (c ∷ []) = cond fold (foldedPlan img (c ∷ [])) (changePlan img c)

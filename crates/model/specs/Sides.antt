@@ -8,15 +8,16 @@ use Rattle.model.specs.declared.Setup.{Setup}
 use Rattle.model.specs.declared.Session.{Session}
 use Rattle.model.specs.Lists.{same, keep, range}
 use Rattle.model.specs.Image.{regionHeaderSize}
-use Rattle.model.specs.Name.{Key, wellNamed, recordName}
+use Rattle.model.specs.Name.{Key, sameKey, wellNamed, recordName}
 use Rattle.model.specs.Entry.{Value, keyOf}
 use Rattle.model.specs.Session.{countedLocks, lockAt}
-use Rattle.model.specs.Request.{isKeyName}
+use Rattle.model.specs.Request.{isKeyName, keyMode}
 use Rattle.model.specs.Change.{recordSizes, otherSizes}
 
--- "All names under one vendor GUID, named in the session, are the modem's; the rest are ours, key names and error records always included.": by that GUID
+-- "All names under one vendor GUID, named in the session, are the modem's; the rest are ours, key names and error records always included.": by that GUID;
+-- 02 (j), "PlatMode is ours, like the key names."
 unfoldable pub modemName : List ℕ → Key → Bool
-modemName guid k = same (k .vendor) guid && not (isKeyName k) && not (recordName k)
+modemName guid k = same (k .vendor) guid && not (isKeyName k) && not (sameKey k keyMode) && not (recordName k)
 
 -- a name is a side's own
 unfoldable pub owns : List ℕ → Bool → Key → Bool

@@ -78,10 +78,14 @@ returns-24 c = rw (c .enum-told24 .given .1)
 returns-25 : tie.Need-returns-25
 returns-25 c = rw (c .enum-told25 .given .1)
 
+returns-26 : tie.Need-returns-26
+returns-26 c = rw (c .enum-told26 .given .1)
+
 pub number-spec : {M : Type 1} → statement M
 number-spec =
     tie.close
     (tie.spec
+    (λ c. search needs)
     (λ c. search needs)
     (λ c. search needs)
     (λ c. search needs)
@@ -131,4 +135,5 @@ number-spec =
     returns-22
     returns-23
     returns-24
-    returns-25)
+    returns-25
+    returns-26)
