@@ -29,8 +29,8 @@ use Rattle.model.specs.Book.{Call, set, profile, callBroken, Kind, reads, write
 use Rattle.model.specs.Beside.{EachItem, changedKeys, putValues, withoutAll}
 use Rattle.model.proofs.Stores.{stores-append, applyAll-append}
 use Rattle.model.proofs.Tests.{or-split}
-use Rattle.model.proofs.Looking.{find-changed}
-use Rattle.model.proofs.Requests.{set-length, set-ready, unbroken}
+use Rattle.model.proofs.Looking.{find-changes}
+use Rattle.model.proofs.Requests.{set-length, set-ready, set-apart, unbroken}
 use Rattle.model.proofs.Alone.{changes-alone}
 use Rattle.model.proofs.Folding.{items-folded}
 use Rattle.model.proofs.Profiles.{profile-length, profile-ready, profile-apart, profile-items, items-tried}
@@ -72,7 +72,7 @@ set-leaves m s r img long e w =
     kept-all (set m s r) img (valuesOf img) (set-kept m s r img (valuesOf img) e long holds) w
 
 pub set-done : SetDone
-unfolding entered steps regionSize
+unfolding entered regionSize
 set-done m s r img x count long h =
     let accepted = call-accepted (set m s r) img x count h in
     let left : LeftReady (blocks img) (set m s r) (valuesOf img) (imageAfter x (setPlan m s r img) img) =
@@ -92,7 +92,7 @@ kind-ready reads img n a = ready-of img (a .0) (a .1)
 kind-ready (writes fold changes) img n a = ready-of img (a .long) (a .ready)
 kind-ready (startsUp setup) img n a = absurd (n setup refl)
 
-call-leaves : (c : Call) (img : List ℕ) → Sized c → ((u : Setup) → kindOf c ≢ startsUp u) → callBroken c img ≡ none → (w : ℕ)
+pub call-leaves : (c : Call) (img : List ℕ) → Sized c → ((u : Setup) → kindOf c ≢ startsUp u) → callBroken c img ≡ none → (w : ℕ)
     → LeftReady (blocks img) c (valuesOf img) (applyAll (storesOf w (planOf c img)) img)
 call-leaves c img sized n e w =
     let holds = ready-holds img (kind-ready (kindOf c) img n (accepted c img sized e)) in
@@ -145,11 +145,11 @@ tried m s r img accepted = unbroken _ 21 accepted
 -- a set that breaks no rule, all its stores made, with every w
 pub settings-kept : (m : Bool) (s : Session) (r : Request) (img : List ℕ) → length (r .vendor) ≡ 16 → setBroken m s r img ≡ none → (w : ℕ)
     → forbidden (limitsFor (s .setup) (requestKey r)) (find (requestKey r) (valuesOf (applyAll (storesOf w (setPlan m s r img)) img))) ≡ false
-unfolding entered steps
+unfolding entered
 settings-kept m s r img long accepted w =
     let vs = valuesOf img in
     let left : find (requestKey r) (valuesOf (applyAll (storesOf w (setPlan m s r img)) img)) ≡ leaves (changeIn r vs) (find (requestKey r) vs) =
-    ap (find (requestKey r)) (set-leaves m s r img long accepted w .held) ∙ find-changed r vs in
+    ap (find (requestKey r)) (set-leaves m s r img long accepted w .held) ∙ find-changes r vs (set-apart m s r img accepted) in
     rw left (none-forbids (limitsFor (s .setup) (requestKey r)) (changeIn r vs) (find (requestKey r) vs) (tried m s r img accepted))
 
 pub sets-keep-settings : SetsKeepSettings

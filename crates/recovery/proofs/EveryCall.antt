@@ -16,12 +16,12 @@ use Rattle.model.specs.Profile.{itemsIn}
 use Rattle.model.specs.Change.{Change}
 use Rattle.model.specs.Stores.{Bytes}
 use Rattle.model.specs.Set.{refuse}
-use Rattle.model.specs.Book.{Call, set, get, next, startUp, several, profile, callBroken, Kind, reads, writes, startsUp, kindOf, doing, planOf, Sized}
+use Rattle.model.specs.Book.{Call, set, get, next, startUp, several, profile, mode, callBroken, Kind, reads, writes, startsUp, kindOf, doing, planOf, Sized}
 use Rattle.model.proofs.Changes.{EachPut, Fitting}
-use Rattle.model.proofs.Requests.{set-length, set-ready, set-fitting, get-ready, gets-ready, next-ready, startUp-length, startUp-ready}
+use Rattle.model.proofs.Requests.{set-length, set-ready, set-fitting, mode-length, mode-ready, mode-fitting, get-ready, gets-ready, next-ready, startUp-length, startUp-ready}
 use Rattle.model.proofs.Files.{file-read}
 use Rattle.model.proofs.Profiles.{profile-length, profile-ready, profile-fitting}
-use Rattle.recovery.proofs.ByteLists.{Bytewise, bytes-take, bytes-drop, image-values, put-bytes, items-bytes}
+use Rattle.recovery.proofs.ByteLists.{Bytewise, bytes-take, bytes-drop, image-values, set-bytes, request-bytes, items-bytes}
 
 pub plan-accepted : (c : Call) (img : List ℕ) → callBroken c img ≡ none → planOf c img ≡ doing (kindOf c) img
 unfolding planOf
@@ -50,7 +50,7 @@ accepted (set m s r) img sized e = record {
   long = set-length m s r img e;
   ready = set-ready m s r img e;
   fitting = set-fitting m s r img e (sized .2);
-  bytewise = λ bytes. (λ v c. put-bytes r (valuesOf img) v c (image-values img bytes) (sized .0) (sized .1) (sized .3), tt);
+  bytewise = λ bytes. set-bytes r (valuesOf img) (image-values img bytes) (sized .0) (sized .1) (sized .3);
 }
 accepted (get m s k buffer) img sized e = get-ready m s k buffer img e
 accepted (next m s k buffer) img sized e = next-ready m s k buffer img e
@@ -63,3 +63,9 @@ accepted (profile m s file) img sized e =
       fitting = profile-fitting m s file img e;
       bytewise = λ bytes. items-bytes (itemsIn file) (valuesOf img) (file-read Bytes bytes-take bytes-drop file sized) (image-values img bytes);
     }
+accepted (mode m s to) img sized e = record {
+  long = mode-length m s to img e;
+  ready = mode-ready m s to img e;
+  fitting = mode-fitting m s to img e;
+  bytewise = λ bytes. request-bytes to (valuesOf img);
+}

@@ -102,6 +102,7 @@ no-rule-zero rule.TimeBased = refl
 no-rule-zero rule.Setting = refl
 no-rule-zero rule.Side = refl
 no-rule-zero rule.Worn = refl
+no-rule-zero rule.Mode = refl
 no-rule-zero rule.File = refl
 no-rule-zero rule.Twice = refl
 
@@ -230,7 +231,7 @@ host-keeps-the-book u start part content book p begun hosting again = (
 
 -- ---- rules for settings: rule 0 tells that none is broken
 
-told-unbroken : (c : Call) (part content : List ℕ) (p : HostPlan) → Told (planOf c part) content p → p .rule ≡ 0 → callBroken c part ≡ none
+pub told-unbroken : (c : Call) (part content : List ℕ) (p : HostPlan) → Told (planOf c part) content p → p .rule ≡ 0 → callBroken c part ≡ none
 told-unbroken c part content p t zero = go (callBroken c part) refl
   where
     go : (o : Option Rule) → callBroken c part ≡ o → callBroken c part ≡ none

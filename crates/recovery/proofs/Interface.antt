@@ -78,7 +78,7 @@ pub move-begins : (start : List ℕ) (from : Layout) (source target : List ℕ) 
 move-begins start from source target m =
     moved-in (record { form = from; source = source; target = target; accepted = accepted-move from authenticated source target (m .0); left = m .1 })
 
-begun-begins : (start : List ℕ) → Begun start → Begins start
+pub begun-begins : (start : List ℕ) → Begun start → Begins start
 unfolding planOf startUpPlan
 begun-begins start (by-start-up before bytes setup x stores up) =
     started (record { setup = setup; before = before; bytes = bytes; context = x; stores = stores; finished = sym (up .0); left = up .1 })

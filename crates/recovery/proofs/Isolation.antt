@@ -24,11 +24,11 @@ use Rattle.model.specs.Entry.{Value, keyOf}
 use Rattle.model.specs.Region.{valuesOf, entries, tailAt, find}
 use Rattle.model.specs.Compact.{compactTo, compactOn}
 use Rattle.model.specs.Session.{countedPhase, inBoot, atRuntime, isYes, customMode, countedReserve, shareOf, reserveOf, reserved, countedLocks, locked, lockAt, withLock, lockedSession, withPhase, movedTo, kept, freshSession}
-use Rattle.model.specs.Request.{Request, requestKey, runtimeAccess}
+use Rattle.model.specs.Request.{Request, requestKey, runtimeAccess, keyMode}
 use Rattle.model.specs.Profile.{itemsIn}
-use Rattle.model.specs.Change.{Change, nothing, remove, put, isNothing, changeIn, changesIn, step, steps}
+use Rattle.model.specs.Change.{Change, nothing, remove, put, isNothing, changesOf, modeChanges, changesIn, step, steps}
 use Rattle.model.specs.Sides.{owns, view, sideSizes, locksOf}
-use Rattle.model.specs.Rules.{firstBroken, rule3, rule3Next, rule6, rule11Read, rule14, rule15, rule16, rule22, rule22Next, termsIf, termsOf, setBroken, profileBroken, seen, valueToGet, nextOf, valueToName, valueNamed, gotBytes, namedBytes, getSpace, getBroken, getsBroken, nextBroken, lockBroken}
+use Rattle.model.specs.Rules.{firstBroken, rule3, rule3Next, rule6, rule11Read, rule14, rule15, rule16, rule22, rule22Next, termsIf, termsOf, setBroken, profileBroken, modeBroken, seen, valueToGet, nextOf, valueToName, valueNamed, gotBytes, namedBytes, getSpace, getBroken, getsBroken, nextBroken, lockBroken}
 use Rattle.model.specs.Stores.{Write, stores, reach}
 use Rattle.model.specs.Set.{Plan, refuse, make, fitsTail, putPlan, changePlan, foldedPlan, changesPlan, tailTo, tailOn, deleteTo}
 use Rattle.model.specs.StartUp.{startUpStores, startUpPlan}
@@ -40,7 +40,7 @@ use Rattle.model.proofs.Failing.{ended-done}
 use Rattle.model.proofs.Values.{keep-twice}
 use Rattle.model.proofs.Requests.{unbroken, set-own}
 use Rattle.model.proofs.Profiles.{profile-items}
-use Rattle.recovery.specs.Tenants.{World, Asked, sets, reads, names, reads-each, profiles, callOf, Event, calls, locks, moves, Fitting, planIn, leave, answer, Handed, no-more, replied, each, handed, reply, toItsEnd, butStores, Told, told, History, begun, then, isOf, asked, heard, sees, finishedStartUp, NoInterference}
+use Rattle.recovery.specs.Tenants.{World, Asked, sets, reads, names, reads-each, profiles, modes, callOf, Event, calls, locks, moves, Fitting, planIn, leave, answer, Handed, no-more, replied, each, handed, reply, toItsEnd, butStores, Told, told, History, begun, then, isOf, asked, heard, sees, finishedStartUp, NoInterference}
 use Rattle.recovery.proofs.StartingUp.{Ready, ready-of}
 use Rattle.recovery.proofs.EveryCall.{plan-accepted, plan-refused}
 use Rattle.recovery.proofs.Done.{call-done, writes-not, reads-not}
@@ -48,8 +48,8 @@ use Rattle.recovery.proofs.Claims.{refusals-change-nothing, startUp-lea
 use Rattle.recovery.proofs.Views.{AllAbout, find-view, view-steps, view-steps-other, not-other, all-other}
 use Rattle.recovery.proofs.Shares.{Within, KeepsTo, within-of, steps-within}
 use Rattle.recovery.proofs.Owned.{item-own}
-use Rattle.recovery.proofs.Usable.{set-keeps, profile-keeps}
-use Rattle.recovery.proofs.Judging.{Says, image-passed, set-pair, profile-pair, change-same, items-changes}
+use Rattle.recovery.proofs.Usable.{set-keeps, profile-keeps, mode-own, mode-keeps}
+use Rattle.recovery.proofs.Judging.{Says, image-passed, set-pair, profile-pair, mode-pair, changes-same, modes-same, items-changes}
 use Rattle.recovery.proofs.Locking.{Listed, lock-more, locks-more, more-listed, fresh-listed, fresh-none}
 
 -- ---- answers of calls that run to their end
@@ -146,30 +146,32 @@ module _ (x : Context) (c : Call) (img : List ℕ) (ran : toItsEnd (outcome x (p
 
 -- ---- what a side's call changes
 
-abbrev changesAsked : Bool → Session → Asked → List Value → List Change
+abbrev pub changesAsked : Bool → Session → Asked → List Value → List Change
 changesAsked m s a vs = changesBy (kindOf (callOf m s a)) vs
 
-entered-asked : (m : Bool) (s : Session) (a : Asked) (vs : List Value) → entered (callOf m s a) vs ≡ steps (changesAsked m s a vs) vs
+pub entered-asked : (m : Bool) (s : Session) (a : Asked) (vs : List Value) → entered (callOf m s a) vs ≡ steps (changesAsked m s a vs) vs
 unfolding entered
 entered-asked m s a vs = refl
 
 pub no-start : (m : Bool) (s : Session) (a : Asked) (u : Setup) → kindOf (callOf m s a) ≢ startsUp u
-no-start m s (sets r) u = writes-not false (λ vs. changeIn r vs ∷ []) u
+no-start m s (sets r) u = writes-not false (changesOf r) u
 no-start m s (reads k buffer) u = reads-not u
 no-start m s (names k buffer) u = reads-not u
 no-start m s (reads-each ks buffer) u = reads-not u
 no-start m s (profiles file) u = writes-not true (changesIn (itemsIn file)) u
+no-start m s (modes to) u = writes-not false (modeChanges to) u
 
 -- it keeps to the shares
 no-changes : (u : Setup) (m : Bool) (vs : List Value) → KeepsTo u m [] vs
 no-changes u m vs = record { own = tt; few = λ e. absurd (false≢true e); room = λ e. absurd (false≢true e) }
 
-asked-keeps : (m : Bool) (s : Session) (a : Asked) (img : List ℕ) → Sized (callOf m s a) → callBroken (callOf m s a) img ≡ none → KeepsTo (s .setup) m (changesAsked m s a (valuesOf img)) (valuesOf img)
+pub asked-keeps : (m : Bool) (s : Session) (a : Asked) (img : List ℕ) → Sized (callOf m s a) → callBroken (callOf m s a) img ≡ none → KeepsTo (s .setup) m (changesAsked m s a (valuesOf img)) (valuesOf img)
 asked-keeps m s (sets r) img z e = set-keeps m s r img e
 asked-keeps m s (reads k buffer) img z e = no-changes (s .setup) m (valuesOf img)
 asked-keeps m s (names k buffer) img z e = no-changes (s .setup) m (valuesOf img)
 asked-keeps m s (reads-each ks buffer) img z e = no-changes (s .setup) m (valuesOf img)
 asked-keeps m s (profiles file) img z e = profile-keeps m s file img e
+asked-keeps m s (modes to) img z e = mode-keeps m s to img e
 
 -- ---- a world of a start-up
 
@@ -447,17 +449,20 @@ module _ (u : Setup) (modem : Bool) (v w : World) (a : Good u v) (b : Good u w) 
   say : Says u modem (v .session) (w .session)
   say = record { here = a .given; there = b .given; terms = terms-alike; room = room-alike }
 
-  -- a set, and a profile, break the same rule in both
+  -- a set, a profile and a mode request break the same rule in both
   set-alike : (r : Request) → length (r .vendor) ≡ 16 → setBroken modem (v .session) r (v .image) ≡ setBroken modem (w .session) r (w .image)
   set-alike r long = set-pair u modem (v .session) (w .session) say (v .image) (w .image) (a .ready) (b .ready) (a .within) (b .within) (l .seen) r long
 
   profile-alike : (file : List ℕ) → profileBroken modem (v .session) file (v .image) ≡ profileBroken modem (w .session) file (w .image)
   profile-alike file = profile-pair u modem (v .session) (w .session) say (v .image) (w .image) (a .ready) (b .ready) (a .within) (b .within) (l .seen) file
 
+  mode-alike : (to : ℕ) → modeBroken modem (v .session) to (v .image) ≡ modeBroken modem (w .session) to (w .image)
+  mode-alike to = mode-pair u modem (v .session) (w .session) say (v .image) (w .image) (a .ready) (b .ready) (a .within) (b .within) (l .seen) to
+
   -- and a call makes the same changes, where it is accepted
   changes-alike : (c : Asked) → Sized (callOf modem (v .session) c) → callBroken (callOf modem (v .session) c) (v .image) ≡ none
       → changesAsked modem (v .session) c (valuesOf (v .image)) ≡ changesAsked modem (w .session) c (valuesOf (w .image))
-  changes-alike (sets r) z e = ap (λ (d : Change). d ∷ []) (change-same g modem (valuesOf (v .image)) (valuesOf (w .image)) (l .seen) r (named-own r e))
+  changes-alike (sets r) z e = changes-same g modem (valuesOf (v .image)) (valuesOf (w .image)) (l .seen) r (named-own r e)
     where
       named-own : (r : Request) → setBroken modem (v .session) r (v .image) ≡ none → owns g modem (requestKey r) ≡ true
       named-own r e =
@@ -468,6 +473,9 @@ module _ (u : Setup) (modem : Bool) (v w : World) (a : Good u v) (b : Good u w) 
   changes-alike (reads-each ks buffer) z e = refl
   changes-alike (profiles file) z e =
       items-changes u modem (v .session) (w .session) say (itemsIn file) (valuesOf (v .image)) (valuesOf (w .image)) (l .seen) (profile-items modem (v .session) file (v .image) e)
+  changes-alike (modes to) z e =
+      let o : owns g modem keyMode ≡ true = ap (λ (q : Setup). owns (q .modem .vendor) modem keyMode) (sym (a .given)) ∙ mode-own modem (v .session) to (v .image) e in
+      modes-same g modem (valuesOf (v .image)) (valuesOf (w .image)) (l .seen) to o
 
 -- ---- gets
 
@@ -749,6 +757,7 @@ module _ (u : Setup) (modem : Bool) (v w : World) (a : Good u v) (b : Good u w) 
   call-alike (names k buffer) f = named-alike u modem v w a b l k buffer .0
   call-alike (reads-each ks buffer) f = many-alike u modem v w a b l ks buffer .0
   call-alike (profiles file) f = profile-alike u modem v w a b l file
+  call-alike (modes to) f = mode-alike u modem v w a b l to
 
   handed-alike : (c : Asked) → handed modem (v .session) c (v .image) ≡ handed modem (w .session) c (w .image)
   handed-alike (sets r) = refl
@@ -756,6 +765,7 @@ module _ (u : Setup) (modem : Bool) (v w : World) (a : Good u v) (b : Good u w) 
   handed-alike (names k buffer) = ap replied (named-alike u modem v w a b l k buffer .1)
   handed-alike (reads-each ks buffer) = ap each (many-alike u modem v w a b l ks buffer .1)
   handed-alike (profiles file) = refl
+  handed-alike (modes to) = refl
 
   told-own : (c : Asked) (x y : Context) → Fitting (calls modem c) → toItsEnd (answer x (calls modem c) v) ≡ true → toItsEnd (answer y (calls modem c) w) ≡ true
       → told x (calls modem c) v ≡ told y (calls modem c) w

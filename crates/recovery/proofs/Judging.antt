@@ -1,6 +1,6 @@
--- A side's call is judged by what the side sees: its rules look up names of its own, and PK for key names, which are ours; room by the side's own sum, and for error records, which
--- are ours, by theirs, since where shares are kept to all values fit. So it breaks the same rule, and makes the same changes, over any two lists of values of which the side sees the
--- same.
+-- A side's call is judged by what the side sees: its rules look up names of its own, and PK and PlatMode for key names, which are ours; room by the side's own
+-- sum, and for error records, which are ours, by theirs, since where shares are kept to all values fit. So it breaks the same rule, and makes the same changes,
+-- over any two lists of values of which the side sees the same.
 -- Assumes nothing.
 use Prim.Native.Nat.{ℕ, _+_, _≤_}
 use native.Mathlib.Omega.{arith}
@@ -10,40 +10,41 @@ use mathlib.Core.List.{List, [], _∷_, _++_}
 use mathlib.Core.Option.{Option, none, some}
 use lib.ListN.{length}
 use lib.Dec.{ltb}
-use borrow.Author.Tests.{ltb-false, le-ltb}
+use borrow.Author.Tests.{ltb-false, le-ltb, not-false}
 use Rattle.model.specs.Layout.{authenticated}
 use Rattle.model.specs.declared.Setup.{Setup}
 use Rattle.model.specs.declared.Session.{Session}
 use Rattle.model.specs.declared.Terms.{Terms}
 use Rattle.model.specs.declared.Rule.{Rule}
-use Rattle.model.specs.declared.Rule.the-variants.{Name, Side, Room, RecordSpace, File, Twice}
-use Rattle.model.specs.Lists.{all, keep, any, isSome, orElse}
+use Rattle.model.specs.declared.Rule.the-variants.{Name, Locked, Side, Mode, Room, RecordSpace, File, Twice}
+use Rattle.model.specs.Lists.{all, keep, any, orElse}
 use Rattle.model.specs.Name.{Key, sameKey, recordName}
 use Rattle.model.specs.Image.{regionSize, region}
 use Rattle.model.specs.Entry.{Value, keyOf}
 use Rattle.model.specs.Region.{valuesOf, valuesIn, values, entries, find}
 use Rattle.model.specs.Session.{shareOf, reserved}
-use Rattle.model.specs.Request.{Request, requestKey, isKeyName, keyPK, userMode}
+use Rattle.model.specs.Request.{Request, requestKey, isKeyName, keyPK, userMode, keyMode, auditMode, deployedMode, modeValue, storesMode, modeOf}
 use Rattle.model.specs.Profile.{itemsIn}
 use Rattle.model.specs.Limits.{limitsFor}
-use Rattle.model.specs.Change.{Change, nothing, remove, put, changeIn, changesIn, without, step, steps, entrySizes, entrySizesIn, spaceOf, isErrorRecord, recordSizes, otherSizes}
+use Rattle.model.specs.Change.{Change, nothing, remove, put, changeIn, withoutMode, besidePK, changesOf, modeChanges, changesIn, without, step, steps, entrySizes, entrySizesIn, spaceOf, isErrorRecord, recordSizes, otherSizes}
 use Rattle.model.specs.Sides.{owns, view, sideSizes}
-use Rattle.model.specs.Rules.{firstBroken, rule1, rule2In, rule3, rule6, rule13, rule18, rule22, rule25, rule26, puts, termsIf, termsFor, termsOf, imageRulesIn, requestRules, itemRules, settingRules, roomRules, setBroken, itemsRules, profileRules, profileBroken}
+use Rattle.model.specs.Rules.{firstBroken, rule1, rule2In, rule3, rule6, rule6Mode, rule13, rule18, rule22, rule24, rule25, rule26, puts, termsIf, termsFor, termsOf, imageRulesIn, requestRules, itemRules, settingRules, roomRules, setBroken, itemsRules, profileRules, profileBroken, modeRules, modeBroken}
 use Rattle.model.specs.Beside.{Valid}
-use Rattle.model.proofs.Tests.{and-split}
+use Rattle.model.proofs.Tests.{and-split, key-eq}
 use Rattle.model.proofs.Parts.{parts-region}
 use Rattle.model.proofs.Chunks.{region-chunked}
 use Rattle.model.proofs.Encode.{AllValid, sound-valid}
 use Rattle.model.proofs.Changes.{EachPut}
-use Rattle.model.proofs.Looking.{items-alike}
-use Rattle.model.proofs.Requests.{broken-append, image-valid, item-valid}
+use Rattle.model.proofs.Looking.{items-alike, mode-alike}
+use Rattle.model.proofs.Joint.{mode-valid, beside-puts, mode-puts}
+use Rattle.model.proofs.Requests.{unbroken, broken-append, image-valid, item-valid}
 use Rattle.model.proofs.Files.{file-form, file-vendors}
 use Rattle.model.proofs.Profiles.{first-own, others-kept, items-valid}
 use Rattle.recovery.proofs.Compaction.{clean-sound}
 use Rattle.recovery.proofs.StartingUp.{Ready, ready-is}
-use Rattle.recovery.proofs.Views.{About, AllAbout, find-view, view-step, view-steps, record-ours, ours-only, ours-own, key-ours, pk-ours}
+use Rattle.recovery.proofs.Views.{About, AllAbout, find-view, view-step, view-steps, record-ours, ours-only, ours-own, key-ours, mode-ours, with-mode, with-pk}
 use Rattle.recovery.proofs.Shares.{Within, within-fits, steps-within}
-use Rattle.recovery.proofs.Owned.{change-about, item-own, items-about, items-unrecorded}
+use Rattle.recovery.proofs.Owned.{change-about, item-own, changes-about, mode-about, items-about, items-unrecorded, mode-unrecorded}
 use Rattle.recovery.proofs.Usable.{few-kept}
 
 -- ---- error records are ours
@@ -197,6 +198,10 @@ parts-passed : (img : List ℕ) → Ready img → (xs ys zs : List (Rule × Bool
 unfolding imageRulesIn firstBroken rule1 rule2In
 parts-passed img i xs ys zs = let r = ready-is img i in rw (r .0, r .1)
 
+two-passed : (img : List ℕ) → Ready img → (xs ys : List (Rule × Bool)) → firstBroken (imageRulesIn authenticated img ++ xs ++ ys) ≡ orElse (firstBroken xs) (firstBroken ys)
+unfolding imageRulesIn firstBroken rule1 rule2In
+two-passed img i xs ys = let r = ready-is img i in rw (r .0, r .1) (broken-append xs ys)
+
 three-parts : (xs ys zs : List (Rule × Bool)) → firstBroken (xs ++ ys ++ zs) ≡ orElse (orElse (firstBroken xs) (firstBroken ys)) (firstBroken zs)
 three-parts xs ys zs = broken-append (xs ++ ys) zs ∙ ap (λ (o : Option Rule). orElse o (firstBroken zs)) (broken-append xs ys)
 
@@ -222,16 +227,45 @@ module _ (g : List ℕ) (m : Bool) (vs ws : List Value) (same : view g m vs ≡ 
   pub looked : (k : Key) → owns g m k ≡ true → find k vs ≡ find k ws
   looked k o = sym (find-view g m k vs o) ∙ ap (find k) same ∙ find-view g m k ws o
 
-  -- who owns a key name sees PK, and so the mode
-  key-modes : (k : Key) → owns g m k ≡ true → isKeyName k ≡ true → userMode vs ≡ userMode ws
-  unfolding userMode
-  key-modes k o named =
-      let mine : owns g m keyPK ≡ true = subst (λ (x : Bool). owns g x keyPK ≡ true) (sym (ours-only g m k o (key-ours g k named))) (pk-ours g) in
-      ap isSome (looked keyPK mine)
+  -- who owns PlatMode, or a key name, sees the mode
+  pub modes-seen : owns g m keyMode ≡ true → modeOf vs ≡ modeOf ws
+  modes-seen o = mode-alike vs ws (looked keyPK (with-pk g m o)) (looked keyMode o)
 
-  pub change-same : (r : Request) → owns g m (requestKey r) ≡ true → changeIn r vs ≡ changeIn r ws
+  key-modes : (k : Key) → owns g m k ≡ true → isKeyName k ≡ true → modeOf vs ≡ modeOf ws
+  key-modes k o named = modes-seen (subst (λ (x : Bool). owns g x keyMode ≡ true) (sym (ours-only g m k o (key-ours g k named))) (mode-ours g))
+
+  change-same : (r : Request) → owns g m (requestKey r) ≡ true → changeIn r vs ≡ changeIn r ws
   unfolding changeIn
   change-same r o = rw (looked (requestKey r) o)
+
+  -- PlatMode's change beside one of an own name
+  beside-same : (c : Change) → About g m c true → besidePK c vs ≡ besidePK c ws
+  unfolding besidePK userMode storesMode
+  beside-same nothing o = refl
+  beside-same (remove k) o = go (sameKey k keyPK) refl
+    where
+      go : (t : Bool) → sameKey k keyPK ≡ t → cond t (withoutMode vs) [] ≡ cond t (withoutMode ws) []
+      go true e = rw (looked keyMode (with-mode g m (ap (owns g m) (sym (key-eq k keyPK e)) ∙ o)))
+      go false e = refl
+  beside-same (put v) o = go (sameKey (keyOf v) keyPK) refl
+    where
+      go : (t : Bool) → sameKey (keyOf v) keyPK ≡ t
+          → cond (t && not (userMode vs)) (cond (storesMode auditMode vs) (put (modeValue deployedMode) ∷ []) (withoutMode vs)) []
+          ≡ cond (t && not (userMode ws)) (cond (storesMode auditMode ws) (put (modeValue deployedMode) ∷ []) (withoutMode ws)) []
+      go true e =
+          let p : owns g m keyPK ≡ true = ap (owns g m) (sym (key-eq (keyOf v) keyPK e)) ∙ o in
+          rw (looked keyPK p, looked keyMode (with-mode g m p))
+      go false e = refl
+
+  pub changes-same : (r : Request) → owns g m (requestKey r) ≡ true → changesOf r vs ≡ changesOf r ws
+  unfolding changesOf
+  changes-same r o =
+      ap (λ (c : Change). c ∷ besidePK c vs) (change-same r o)
+      ∙ ap (λ (cs : List Change). changeIn r ws ∷ cs) (beside-same (changeIn r ws) (change-about g m true r ws o))
+
+  pub modes-same : (to : ℕ) → owns g m keyMode ≡ true → modeChanges to vs ≡ modeChanges to ws
+  unfolding modeChanges
+  modes-same to o = rw (modes-seen o)
 
   view-after : (c : Change) → About g m c true → view g m (step c vs) ≡ view g m (step c ws)
   view-after c o = view-step g m c vs o ∙ ap (step c) same ∙ sym (view-step g m c ws o)
@@ -356,26 +390,29 @@ module _ (u : Setup) (m : Bool) (s q : Session) (say : Says u m s q) where
           ∙ sym (room-seen m q foreign barred jmg j cs valid (about-there cs own) y (sym few-pair ∙ few))
 
     -- ---- a set
-    set-valid : (r : Request) → length (r .vendor) ≡ 16 → firstBroken (itemRules (termsOf m s (requestKey r)) r hs) ≡ none → EachPut Valid (changeIn r hs ∷ [])
+    set-valid : (r : Request) → length (r .vendor) ≡ 16 → firstBroken (itemRules (termsOf m s (requestKey r)) r hs) ≡ none → EachPut Valid (changesOf r hs)
+    unfolding changesOf
     set-valid r long kept =
-        let ready = ready-is img i in
-        (λ v c. item-valid (termsOf m s (requestKey r)) r hs kept (image-valid img (ready .0) (ready .1)) v c long, tt)
+        let ready = ready-is img i in (
+          λ v c. item-valid (termsOf m s (requestKey r)) r hs kept (image-valid img (ready .0) (ready .1)) v c long,
+          beside-puts Valid (mode-valid deployedMode) (changeIn r hs) hs,
+        )
 
     set-room : (r : Request) → length (r .vendor) ≡ 16 → firstBroken (itemRules (termsOf m s (requestKey r)) r hs) ≡ none
-        → firstBroken (roomRules (termsOf m s (requestKey r)) (regionSize img) (changeIn r hs ∷ []) hs)
-        ≡ firstBroken (roomRules (termsOf m q (requestKey r)) (regionSize jmg) (changeIn r js ∷ []) js)
+        → firstBroken (roomRules (termsOf m s (requestKey r)) (regionSize img) (changesOf r hs) hs)
+        ≡ firstBroken (roomRules (termsOf m q (requestKey r)) (regionSize jmg) (changesOf r js) js)
     unfolding roomRules firstBroken termsOf
     set-room r long kept =
         let k = requestKey r in
         let o = kept-own r hs kept in
-        let cs : List Change = changeIn r hs ∷ [] in
+        let cs = changesOf r hs in
         let foreign = rule22 (s .setup .modem .vendor) m k in
         let barred = rule6 s k in
         let valid = set-valid r long kept in
-        let own : AllAbout G m cs true = (change-about G m true r hs o, tt) in
+        let own = changes-about G m hs r o in
         let theirs : termsIf m q foreign barred ≡ termsIf m q (rule22 (q .setup .modem .vendor) m k) (rule6 q k) = sym (say .room foreign barred) ∙ say .terms k o in
         by (rule18 (termsIf m s foreign barred) cs hs) refl (few-pair foreign barred cs valid own) (room-pair foreign barred cs valid own)
-        ∙ ap₂ (λ (t : Terms) (c : Change). judged t (c ∷ [])) theirs (change-same G m hs js same r o)
+        ∙ ap₂ judged theirs (changes-same G m hs js same r o)
       where
         judged : Terms → List Change → Option Rule
         judged t ds = cond (rule18 t ds js) (some RecordSpace) (cond (rule13 t (regionSize jmg) ds js) (some Room) none)
@@ -393,8 +430,8 @@ module _ (u : Setup) (m : Bool) (s q : Session) (say : Says u m s q) where
         let its = itemRules (termsOf m q k) r js in
         let named = settingRules (limitsFor (s .setup) k) r (find k hs) in
         let names = settingRules (limitsFor (q .setup) k) r (find k js) in
-        let room = roomRules (termsOf m s k) (regionSize img) (changeIn r hs ∷ []) hs in
-        let rooms = roomRules (termsOf m q k) (regionSize jmg) (changeIn r js ∷ []) js in
+        let room = roomRules (termsOf m s k) (regionSize img) (changesOf r hs) hs in
+        let rooms = roomRules (termsOf m q k) (regionSize jmg) (changesOf r js) js in
         parts-passed img i mine named room
         ∙ three-parts mine named room
         ∙ or-else (orElse (firstBroken mine) (firstBroken named)) (orElse (firstBroken its) (firstBroken names)) (firstBroken room) (firstBroken rooms)
@@ -434,3 +471,56 @@ module _ (u : Setup) (m : Bool) (s q : Session) (say : Says u m s q) where
         (λ e. ap (λ (b : Bool). firstBroken ((Room, b) ∷ [])) (profile-room file (none-second (firstBroken form) (firstBroken mine) e)))
         ∙ sym (three-parts form its rooms)
         ∙ sym (parts-passed jmg j form its rooms)
+
+    -- ---- a mode request, which puts none either
+    -- its own rules, in a session
+    abbrev before : Session → List Change → List (Rule × Bool)
+    before z cs = (Side, rule22 (z .setup .modem .vendor) m keyMode) ∷ (Locked, rule6Mode z cs) ∷ (Mode, rule24 cs) ∷ []
+
+    before-foreign : (z : Session) (cs : List Change) → owns (z .setup .modem .vendor) m keyMode ≡ false → firstBroken (before z cs) ≡ some Side
+    unfolding firstBroken rule22
+    before-foreign z cs o = rw o
+
+    locked-pair : (k : Key) → owns G m k ≡ true → rule6 s k ≡ rule6 q k
+    unfolding termsOf
+    locked-pair k o = ap (λ (t : Terms). t .barred) (say .terms k o)
+
+    before-pair : (to : ℕ) → firstBroken (before s (modeChanges to hs)) ≡ firstBroken (before q (modeChanges to js))
+    unfolding rule22 rule6Mode
+    before-pair to = go (owns G m keyMode) refl
+      where
+        go : (x : Bool) → owns G m keyMode ≡ x → firstBroken (before s (modeChanges to hs)) ≡ firstBroken (before q (modeChanges to js))
+        go false o = before-foreign s (modeChanges to hs) (own-here keyMode false o) ∙ sym (before-foreign q (modeChanges to js) (own-there keyMode false o))
+        go true o =
+            let said : before s (modeChanges to hs) ≡ before q (modeChanges to hs) =
+            rw (own-here keyMode true o, own-there keyMode true o, locked-pair keyMode o, locked-pair keyPK (with-pk G m o)) in
+            ap firstBroken said ∙ ap (λ (cs : List Change). firstBroken (before q cs)) (modes-same G m hs js same to o)
+
+    mode-room : (to : ℕ) → owns G m keyMode ≡ true
+        → rule13 (termsFor m s) (regionSize img) (modeChanges to hs) hs ≡ rule13 (termsFor m q) (regionSize jmg) (modeChanges to js) js
+    unfolding termsFor rule18
+    mode-room to o =
+        let cs = modeChanges to hs in
+        let valid = mode-puts Valid (mode-valid auditMode) (mode-valid deployedMode) to hs in
+        let few : rule18 (termsIf m s false false) cs hs ≡ false =
+        ap (λ (b : Bool). b && ltb (s .setup .records) (recordSizes (steps cs hs))) (mode-unrecorded to hs) in
+        room-pair false false cs valid (mode-about G m hs to o) few
+        ∙ ap (λ (ds : List Change). rule13 (termsIf m q false false) (regionSize jmg) ds js) (modes-same G m hs js same to o)
+
+    own-kept : (to : ℕ) → firstBroken (before s (modeChanges to hs)) ≡ none → owns G m keyMode ≡ true
+    unfolding rule22
+    own-kept to e =
+        ap (λ (z : Setup). owns (z .modem .vendor) m keyMode) (sym (say .here))
+        ∙ not-false (owns (s .setup .modem .vendor) m keyMode) (unbroken (before s (modeChanges to hs)) 22 e)
+
+    pub mode-pair : (to : ℕ) → modeBroken m s to img ≡ modeBroken m q to jmg
+    unfolding modeBroken modeRules
+    mode-pair to =
+        let mine = before s (modeChanges to hs) in
+        let its = before q (modeChanges to js) in
+        let room : List (Rule × Bool) = (Room, rule13 (termsFor m s) (regionSize img) (modeChanges to hs) hs) ∷ [] in
+        let rooms : List (Rule × Bool) = (Room, rule13 (termsFor m q) (regionSize jmg) (modeChanges to js) js) ∷ [] in
+        two-passed img i mine room
+        ∙ or-else (firstBroken mine) (firstBroken its) (firstBroken room) (firstBroken rooms) (before-pair to)
+        (λ e. ap (λ (b : Bool). firstBroken ((Room, b) ∷ [])) (mode-room to (own-kept to e)))
+        ∙ sym (two-passed jmg j its rooms)

@@ -64,6 +64,10 @@ pub mod Host
 pub mod HostShares
 -- And its calls of two sides are a history
 pub mod HostUses
+-- The platform's mode: it makes the paper's steps, and changes together with PK or not at all
+pub mod Modes
+-- How audit and deployed are left: by a set of PK with its verdict
+pub mod Leaving
 -- What a query tells; and the other side alters nothing of it
 pub mod Query
 pub mod QueryApart

@@ -19,7 +19,7 @@ use Rattle.model.specs.Entry.{Value, keyOf, plainSize, entrySize}
 use Rattle.model.specs.Region.{valuesOf, find}
 use Rattle.model.specs.Request.{Request, requestKey}
 use Rattle.model.specs.Limits.{limitsFor}
-use Rattle.model.specs.Change.{put, changeIn, step, steps, spaceOf, isErrorRecord, recordSizes, otherSizes}
+use Rattle.model.specs.Change.{Change, put, changeIn, changesOf, step, steps, spaceOf, isErrorRecord, recordSizes, otherSizes}
 use Rattle.model.specs.Sides.{owns, view, sideSizes}
 use Rattle.model.specs.Rules.{firstBroken, rule13, rule18, termsOf, termsFor, imageRules, itemRules, settingRules, roomRules, setBroken}
 use Rattle.model.specs.Query.{recordShare, remainingFor}
@@ -117,9 +117,17 @@ module _ (t : Terms) (size : ℕ) (vs : List Value) (v : Value) (new : find (key
           let k = ltb-false size (spaceOf (step (put v) vs)) g in
           absurd (omega (arith, words, h, f, k, side-now false e, all-after))
 
+-- a set's only change is its own
+only-put : (r : Request) (vs : List Value) (v : Value) → changesOf r vs ≡ put v ∷ [] → changeIn r vs ≡ put v
+unfolding changesOf
+only-put r vs v h = first-of h
+  where
+    first-of : {c d : Change} {cs : List Change} → c ∷ cs ≡ d ∷ [] → c ≡ d
+    first-of e = cc
+
 pub query-tells-room : QueryTellsRoom
 unfolding remainingFor changeIn setBroken roomRules rule18 rule13 steps termsOf termsFor
-query-tells-room m s r img v asked new kept = (
+query-tells-room m s r img v only new kept = (
   λ h. judged ∙ fits t (regionSize img) vs v absent own named (isErrorRecord v) refl h,
   λ h. subst (λ (o : Option Rule). (o ≡ some Room) ⊎ (o ≡ some RecordSpace)) (sym judged) (lacks t (regionSize img) vs v absent own named (isErrorRecord v) refl h),
 )
@@ -129,6 +137,9 @@ query-tells-room m s r img v asked new kept = (
 
     vs : List Value
     vs = valuesOf img
+
+    asked : changeIn r vs ≡ put v
+    asked = only-put r vs v only
 
     key : keyOf v ≡ requestKey r
     key = put-named r (find (requestKey r) vs) v asked
@@ -153,5 +164,5 @@ query-tells-room m s r img v asked new kept = (
         (imageRules img
         ++ itemRules t r vs
         ++ settingRules (limitsFor (s .setup) (requestKey r)) r (find (requestKey r) vs))
-        (roomRules t (regionSize img) (changeIn r vs ∷ []) vs)
-        ∙ rw (kept, asked)
+        (roomRules t (regionSize img) (changesOf r vs) vs)
+        ∙ rw (kept, only)

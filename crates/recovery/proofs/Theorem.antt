@@ -28,7 +28,7 @@ use Rattle.model.specs.Region.{entries, tailAt, tail, values, valuesOf, sound, 
 use Rattle.model.specs.Work.{wellFormed, endsInFC, idle, pending, readyForStartUp, readyIn}
 use Rattle.model.specs.Request.{Request}
 use Rattle.model.specs.Profile.{itemsIn}
-use Rattle.model.specs.Change.{Change, nothing, remove, put, isNothing, changeIn, changesIn, step, steps, without}
+use Rattle.model.specs.Change.{Change, nothing, remove, put, isNothing, changesOf, changesIn, step, steps, without}
 use Rattle.model.specs.Sides.{allotted}
 use Rattle.model.specs.Rules.{setBroken, profileBroken, startUpBroken}
 use Rattle.model.specs.Stores.{Store, Write, write, clear, stores, run, mark, applyAll, after, reach, Cut}
@@ -278,7 +278,7 @@ call-kept c img K sized e holds = from-kind c img K e (kind-kept (kindOf c) img 
 pub set-kept : (m : Bool) (s : Session) (r : Request) (img : List ℕ) (K : List Value) → setBroken m s r img ≡ none → length (r .vendor) ≡ 16 → {b : ℕ} → Holding b K img → CallKept (set m s r) img K
 set-kept m s r img K e long holds =
     let ready = ready-of img (set-length m s r img e) (set-ready m s r img e) in
-    from-kind (set m s r) img K e (writes-kept false (λ vs. changeIn r vs ∷ []) img K ready (set-fitting m s r img e long) holds)
+    from-kind (set m s r) img K e (writes-kept false (changesOf r) img K ready (set-fitting m s r img e long) holds)
 
 -- of a profile likewise
 pub profile-kept : (m : Bool) (s : Session) (file img : List ℕ) (K : List Value) → profileBroken m s file img ≡ none → {b : ℕ} → Holding b K img → CallKept (profile m s file) img K

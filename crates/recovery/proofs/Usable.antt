@@ -4,10 +4,10 @@ use Prim.Native.Nat.{ℕ, _+_, _*_, _≤_}
 use native.Mathlib.Omega.{arith}
 use mathlib.Core.Path.{_≡_, refl, sym, ap, _∙_, subst}
 use mathlib.Core.Bool.{Bool, true, false, not, cond, _&&_, _||_, true≢false}
-use mathlib.Core.List.{List, [], _∷_}
+use mathlib.Core.List.{List, []}
 use mathlib.Core.Option.{Option, none, some}
 use lib.Dec.{ltb}
-use borrow.Author.Tests.{ltb-false}
+use borrow.Author.Tests.{ltb-false, not-false}
 use Rattle.model.specs.declared.Setup.{Setup}
 use Rattle.model.specs.declared.Session.{Session}
 use Rattle.model.specs.declared.Context.{Context}
@@ -18,16 +18,16 @@ use Rattle.model.specs.Entry.{Value}
 use Rattle.model.specs.Region.{valuesOf}
 use Rattle.model.specs.Work.{readyForCall}
 use Rattle.model.specs.Session.{shareOf, reserved}
-use Rattle.model.specs.Request.{Request, requestKey}
+use Rattle.model.specs.Request.{Request, requestKey, keyMode}
 use Rattle.model.specs.Profile.{itemsIn}
-use Rattle.model.specs.Change.{Change, changeIn, changesIn, steps, spaceOf, isErrorRecord, recordSizes}
-use Rattle.model.specs.Sides.{sideSizes, allotted}
-use Rattle.model.specs.Rules.{puts, rule6, rule13, rule18, rule22, termsIf, termsFor, termsOf, imageRulesIn, requestRules, standingRules, resultRules, itemRules, settingRules, roomRules, setBroken, profileBroken}
+use Rattle.model.specs.Change.{Change, changesOf, modeChanges, changesIn, steps, spaceOf, isErrorRecord, recordSizes}
+use Rattle.model.specs.Sides.{owns, sideSizes, allotted}
+use Rattle.model.specs.Rules.{puts, rule6, rule13, rule18, rule22, termsIf, termsFor, termsOf, imageRulesIn, requestRules, standingRules, resultRules, itemRules, settingRules, roomRules, setBroken, profileBroken, modeRules, modeBroken}
 use Rattle.model.specs.Set.{Plan, refuse}
 use Rattle.model.specs.Answers.{outcome, madeOf, pageOf, decided}
-use Rattle.model.specs.Book.{Call, set, get, next, startUp, several, profile, Sized, callBroken, planOf, entered, counts, bookAfter, Run, begin, ran, cut, Begins}
+use Rattle.model.specs.Book.{Call, set, get, next, startUp, several, profile, mode, Sized, callBroken, planOf, entered, counts, bookAfter, Run, begin, ran, cut, Begins}
 use Rattle.model.proofs.Tests.{or-split}
-use Rattle.model.proofs.Requests.{unbroken, set-length, set-ready, set-own}
+use Rattle.model.proofs.Requests.{unbroken, set-length, set-ready, set-own, mode-length, mode-ready}
 use Rattle.model.proofs.Files.{file-form}
 use Rattle.model.proofs.Profiles.{profile-length, profile-ready, profile-items, profile-room}
 use Rattle.recovery.specs.Claims.{SameShares, InShares, AllInShares, SharesKept}
@@ -36,7 +36,7 @@ use Rattle.recovery.proofs.EveryCall.{plan-refused}
 use Rattle.recovery.proofs.StartingUp.{ready-of}
 use Rattle.recovery.proofs.Theorem.{ready-values, run-holds, book-cond}
 use Rattle.recovery.proofs.Shares.{Within, KeepsTo, within-of, within-is, steps-within}
-use Rattle.recovery.proofs.Owned.{change-about, item-own, items-about, items-unrecorded}
+use Rattle.recovery.proofs.Owned.{item-own, changes-about, mode-about, items-about, items-unrecorded, mode-unrecorded}
 use Rattle.recovery.proofs.Claims.{startUp-never-refused}
 
 -- ---- a call that breaks no rule keeps to the shares of its session
@@ -56,16 +56,16 @@ module _ (m : Bool) (s : Session) (foreign barred : Bool) (cs : List Change) (vs
   unfolding rule18
   few-kept h e = ltb-false (s .setup .records) (recordSizes (steps cs vs)) (rw e at h)
 
-pub set-keeps : (m : Bool) (s : Session) (r : Request) (img : List ℕ) → setBroken m s r img ≡ none → KeepsTo (s .setup) m (changeIn r (valuesOf img) ∷ []) (valuesOf img)
+pub set-keeps : (m : Bool) (s : Session) (r : Request) (img : List ℕ) → setBroken m s r img ≡ none → KeepsTo (s .setup) m (changesOf r (valuesOf img)) (valuesOf img)
 unfolding setBroken imageRulesIn itemRules requestRules standingRules resultRules settingRules roomRules termsOf
 set-keeps m s r img e =
     let foreign = rule22 (s .setup .modem .vendor) m (requestKey r) in
     let barred = rule6 s (requestKey r) in
-    let cs : List Change = changeIn r (valuesOf img) ∷ [] in
+    let cs = changesOf r (valuesOf img) in
     let f : rule18 (termsIf m s foreign barred) cs (valuesOf img) ≡ false = unbroken _ 18 e in
     let h : rule13 (termsIf m s foreign barred) (regionSize img) cs (valuesOf img) ≡ false = unbroken _ 13 e in
     record {
-      own = (change-about (s .setup .modem .vendor) m true r (valuesOf img) (item-own m s r (valuesOf img) (set-own m s r img e)), tt);
+      own = changes-about (s .setup .modem .vendor) m (valuesOf img) r (item-own m s r (valuesOf img) (set-own m s r img e));
       few = few-kept m s foreign barred cs (valuesOf img) f;
       room = room-kept m s foreign barred cs (valuesOf img) (regionSize img) h;
     }
@@ -80,6 +80,23 @@ profile-keeps m s file img e =
       own = items-about m s (itemsIn file) (valuesOf img) (profile-items m s file img e);
       few = λ h. absurd (true≢false (sym h ∙ items-unrecorded (itemsIn file) (valuesOf img) (file-form file)));
       room = room-kept m s false false cs (valuesOf img) (regionSize img) (profile-room m s file img e);
+    }
+
+-- and neither does a mode request, which is ours
+pub mode-own : (m : Bool) (s : Session) (to : ℕ) (img : List ℕ) → modeBroken m s to img ≡ none → owns (s .setup .modem .vendor) m keyMode ≡ true
+unfolding modeBroken modeRules imageRulesIn rule22
+mode-own m s to img e = not-false (owns (s .setup .modem .vendor) m keyMode) (unbroken _ 22 e)
+
+pub mode-keeps : (m : Bool) (s : Session) (to : ℕ) (img : List ℕ) → modeBroken m s to img ≡ none
+    → KeepsTo (s .setup) m (modeChanges to (valuesOf img)) (valuesOf img)
+unfolding modeBroken modeRules imageRulesIn termsFor
+mode-keeps m s to img e =
+    let cs = modeChanges to (valuesOf img) in
+    let h : rule13 (termsIf m s false false) (regionSize img) cs (valuesOf img) ≡ false = unbroken _ 13 e in
+    record {
+      own = mode-about (s .setup .modem .vendor) m (valuesOf img) to (mode-own m s to img e);
+      few = λ h. absurd (true≢false (sym h ∙ mode-unrecorded to (valuesOf img)));
+      room = room-kept m s false false cs (valuesOf img) (regionSize img) h;
     }
 
 -- ---- the book of a run keeps to the shares
@@ -118,13 +135,15 @@ entered-within : {b : ℕ} (u : Setup) (c : Call) (img : List ℕ) (K : List Val
     → Within u (regionSize img) K → Within u (regionSize img) (entered c K)
 unfolding entered steps
 entered-within u (set m s r) img K sized shares e holds w =
-    changed-within u s m (λ vs. changeIn r vs ∷ []) img K shares (set-length m s r img e) (set-ready m s r img e) (set-keeps m s r img e) holds w
+    changed-within u s m (changesOf r) img K shares (set-length m s r img e) (set-ready m s r img e) (set-keeps m s r img e) holds w
 entered-within u (get m s k buffer) img K sized shares e holds w = w
 entered-within u (next m s k buffer) img K sized shares e holds w = w
 entered-within u (startUp setup) img K sized shares e holds w = w
 entered-within u (several m s ks buffer) img K sized shares e holds w = w
 entered-within u (profile m s file) img K sized shares e holds w =
     changed-within u s m (changesIn (itemsIn file)) img K shares (profile-length m s file img e) (profile-ready m s file img e) (profile-keeps m s file img e) holds w
+entered-within u (mode m s to) img K sized shares e holds w =
+    changed-within u s m (modeChanges to) img K shares (mode-length m s to img e) (mode-ready m s to img e) (mode-keeps m s to img e) holds w
 
 -- of any call, by what the book is fed: nothing of one that is refused
 module _ {b : ℕ} (u : Setup) (c : Call) (img : List ℕ) (K : List Value) (sized : Sized c) (shares : InShares u c) (holds : Holding b K img) (w : Within u (regionSize img) K) where

@@ -11,7 +11,7 @@ use Rattle.model.specs.Name.{Key, sameKey, recordName}
 use Rattle.model.specs.Entry.{Value, keyOf}
 use Rattle.model.specs.Region.{find}
 use Rattle.model.specs.Change.{Change, nothing, remove, put, without, step, steps}
-use Rattle.model.specs.Request.{isKeyName, keyPK}
+use Rattle.model.specs.Request.{isKeyName, keyPK, keyMode}
 use Rattle.model.proofs.Tests.{key-eq, key-refl}
 use Rattle.model.proofs.Values.{keep-append, keep-twice}
 use Rattle.model.specs.Sides.{modemName, owns, view}
@@ -132,23 +132,33 @@ pub all-other : (guid : List ℕ) (modem : Bool) (cs : List Change) → AllAbout
 all-other guid modem [] o = tt
 all-other guid modem (c ∷ cs) o = (about-other guid modem c (o .0), all-other guid modem cs (o .1))
 
--- key names and error records are ours
+-- key names, PlatMode and error records are ours
 pub key-ours : (guid : List ℕ) (k : Key) → isKeyName k ≡ true → modemName guid k ≡ false
 unfolding modemName
 key-ours guid k named = rw named (go (same (k .vendor) guid))
   where
-    go : (a : Bool) → (a && false && not (recordName k)) ≡ false
+    go : (a : Bool) → (a && false && not (sameKey k keyMode) && not (recordName k)) ≡ false
     go true = refl
     go false = refl
 
-pub record-ours : (guid : List ℕ) (k : Key) → recordName k ≡ true → modemName guid k ≡ false
+pub mode-name-ours : (guid : List ℕ) → modemName guid keyMode ≡ false
 unfolding modemName
-record-ours guid k named = rw named (go (same (k .vendor) guid) (isKeyName k))
+mode-name-ours guid = rw (key-refl keyMode) (go (same (keyMode .vendor) guid) (isKeyName keyMode))
   where
-    go : (a b : Bool) → (a && not b && false) ≡ false
+    go : (a b : Bool) → (a && not b && false && not (recordName keyMode)) ≡ false
     go true true = refl
     go true false = refl
     go false b = refl
+
+pub record-ours : (guid : List ℕ) (k : Key) → recordName k ≡ true → modemName guid k ≡ false
+unfolding modemName
+record-ours guid k named = rw named (go (same (k .vendor) guid) (isKeyName k) (sameKey k keyMode))
+  where
+    go : (a b c : Bool) → (a && not b && not c && false) ≡ false
+    go true true c = refl
+    go true false true = refl
+    go true false false = refl
+    go false b c = refl
 
 pub ours-only : (guid : List ℕ) (modem : Bool) (k : Key) → owns guid modem k ≡ true → modemName guid k ≡ false → modem ≡ false
 unfolding owns
@@ -162,3 +172,14 @@ ours-own guid k h = ap not h
 pub pk-ours : (guid : List ℕ) → owns guid false keyPK ≡ true
 unfolding isKeyName
 pk-ours guid = ours-own guid keyPK (key-ours guid keyPK (rw (key-refl keyPK)))
+
+pub mode-ours : (guid : List ℕ) → owns guid false keyMode ≡ true
+mode-ours guid = ours-own guid keyMode (mode-name-ours guid)
+
+-- so who owns PK owns PlatMode, and the other way round
+pub with-mode : (guid : List ℕ) (modem : Bool) → owns guid modem keyPK ≡ true → owns guid modem keyMode ≡ true
+unfolding isKeyName
+with-mode guid modem o = rw (ours-only guid modem keyPK o (key-ours guid keyPK (rw (key-refl keyPK)))) (mode-ours guid)
+
+pub with-pk : (guid : List ℕ) (modem : Bool) → owns guid modem keyMode ≡ true → owns guid modem keyPK ≡ true
+with-pk guid modem o = rw (ours-only guid modem keyMode o (mode-name-ours guid)) (pk-ours guid)

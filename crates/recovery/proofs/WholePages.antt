@@ -7,36 +7,36 @@ use native.Mathlib.Numerals.{add-one}
 use native.Mathlib.Omega.{arith}
 use mathlib.Core.Path.{_≡_, refl, sym, ap, _∙_, subst}
 use mathlib.Core.Logic.{inl, inr}
-use mathlib.Core.Bool.{Bool, true, false, cond}
+use mathlib.Core.Bool.{Bool, true, false, cond, false≢true}
 use mathlib.Core.List.{List, [], _∷_, _++_}
 use mathlib.Core.Option.{none}
 use lib.ListN.{length, getD, set}
 use lib.Seq.{sets, set-getD, getD-set-other}
 use lib.Dec.{eqb, leb}
-use borrow.Author.Tests.{eqb-true, leb-false, le-leb, lt-ltb}
+use borrow.Author.Tests.{eqb-true, leb-false, le-leb, lt-ltb, not-true}
 use Rattle.model.specs.declared.Session.{Session}
 use Rattle.model.specs.Layout.{authenticated}
 use Rattle.model.specs.Lists.{all, allFF}
 use Rattle.model.specs.Image.{block, blocks, rightLength, regionSize, region, work, spare}
 use Rattle.model.specs.Entry.{Value}
 use Rattle.model.specs.Region.{entries, values, valuesOf, valuesIn, sound, clean, tail}
-use Rattle.model.specs.Work.{recordSpace, usedRecords, idle, pending}
+use Rattle.model.specs.Work.{recordSpace, usedRecords, idle, pending, readyForCall}
 use Rattle.model.specs.Request.{Request}
 use Rattle.model.specs.Profile.{itemsIn}
-use Rattle.model.specs.Change.{Change, put, isNothing, changeIn, changesIn, step, steps, spaceOf}
-use Rattle.model.specs.Rules.{setBroken, profileBroken}
+use Rattle.model.specs.Change.{Change, nothing, remove, put, isNothing, changesOf, modeChanges, changesIn, step, steps, spaceOf}
+use Rattle.model.specs.Rules.{setBroken, profileBroken, modeBroken}
 use Rattle.model.specs.Stores.{Store, page, erase, Write, write, header, clear, pages, stores, storesOne, apply, applyAll, leftBy, leftByOne, run, mark, erases, Every, widthOf}
 use Rattle.model.specs.Compact.{encode, allUsed, nextRecord, fillSpare, finish, compactTo, compactOn}
 use Rattle.model.specs.Set.{make, changePlan, putPlan, fitsTail, compactPlan, foldedPlan, changesPlan}
 use Rattle.model.specs.Answers.{storesOf}
 use Rattle.model.specs.StartUp.{resume, tidySpare, tidyWork, tidyTail, andThen, startUpStores}
-use Rattle.model.specs.Book.{setPlan, profilePlan, planOf, isRecord}
+use Rattle.model.specs.Book.{setPlan, profilePlan, modePlan, planOf, isRecord, inPlace}
 use Rattle.model.proofs.Parts.{Parts, right-parts, parts-blocks, parts-size, parts-region, parts-work, parts-spare}
 use Rattle.model.proofs.Chunks.{region-chunked}
 use Rattle.model.proofs.Encode.{AllValid, encode-length, sound-valid, sound-fits, put-valid}
 use Rattle.model.proofs.WorkBlock.{work-last}
 use Rattle.model.proofs.Changes.{Fitting, steps-valid}
-use Rattle.model.proofs.Requests.{set-length, set-ready, put-is-valid, put-fits}
+use Rattle.model.proofs.Requests.{set-length, set-ready, set-fitting, mode-length, mode-ready, mode-fitting}
 use Rattle.model.proofs.Profiles.{profile-length, profile-ready, profile-fitting}
 use Rattle.model.proofs.Stores.{applyAll-append, stores-append, stores-mark, pages-sets, one-left, every-map}
 use Rattle.recovery.proofs.Cuts.{every-append}
@@ -44,7 +44,7 @@ use Rattle.recovery.proofs.Compaction.{mul-add-one, clean-sound}
 use Rattle.recovery.proofs.StartingUp.{Ready, ready-of, pending-parts}
 use Rattle.recovery.proofs.BitsOfSets.{clean-chunked}
 use Rattle.recovery.proofs.Chip.{blocks-whole}
-use Rattle.recovery.specs.Chip.{WholePage, WholeOrRecord, InWholePages, WholePagesStored, StateBlank, StatesBlank, StoresLeave}
+use Rattle.recovery.specs.Chip.{WholePage, WholeOrRecord, InWholePages, compacts, WholePagesStored, StateBlank, StatesBlank, StoresLeave}
 
 -- ---- whole pages
 
@@ -176,25 +176,44 @@ changes-whole n img [] valid f = tt
 changes-whole n img (c ∷ []) valid f = folded-whole n img (c ∷ []) valid f
 changes-whole n img (c ∷ d ∷ cs) valid f = folded-whole n img (c ∷ d ∷ cs) valid f
 
+-- changes of which a single one is not folded in, where they are compacted
+compacts-whole : (n : ℕ) (img : List ℕ) (cs : List Change) → AllValid authenticated (valuesOf img) → Fitting cs (valuesOf img) (regionSize img)
+    → compacts img cs ≡ true → Every (WholeOrRecord (widthOf n) img) (storesOf (widthOf n) (changesPlan false img cs))
+unfolding inPlace changePlan putPlan storesOf steps
+compacts-whole n img [] valid f h = absurd (false≢true h)
+compacts-whole n img (nothing ∷ []) valid f h = absurd (false≢true h)
+compacts-whole n img (remove k ∷ []) valid f h = absurd (false≢true h)
+compacts-whole n img (put v ∷ []) valid f h =
+    rw (not-true (fitsTail (region img) v) h)
+    (compaction-whole n img (step (put v) (valuesOf img)) (put-valid authenticated v (valuesOf img) (f .valid .0 v refl) valid) (f .room))
+compacts-whole n img (c ∷ d ∷ cs) valid f h = folded-whole n img (c ∷ d ∷ cs) valid f
+
 pub whole-pages-stored : WholePagesStored
-unfolding planOf changePlan putPlan storesOf
-whole-pages-stored n img = (of-set, tidy-whole n img, resume-whole n img, of-profile)
+unfolding planOf
+whole-pages-stored n img = (of-set, tidy-whole n img, resume-whole n img, of-profile, of-mode)
   where
-    of-set : (m : Bool) (s : Session) (r : Request) (v : Value) → length (r .vendor) ≡ 16 → setBroken m s r img ≡ none → changeIn r (valuesOf img) ≡ put v
-        → fitsTail (region img) v ≡ false → Every (WholeOrRecord (widthOf n) img) (storesOf (widthOf n) (setPlan m s r img))
-    of-set m s r v long accepted asked short =
-        let i = ready-of img (set-length m s r img accepted) (set-ready m s r img accepted) in
-        let valid = values-valid img (i .parts) (i .whole) (clean-sound (i .r) (i .cleaned)) .0 in
-        rw (accepted, asked, short)
-        (compaction-whole n img (step (put v) (valuesOf img)) (put-valid authenticated v (valuesOf img) (put-is-valid m s r img accepted v asked long) valid)
-        (put-fits m s r img accepted v asked))
+    ready-valid : rightLength img ≡ true → readyForCall img ≡ true → AllValid authenticated (valuesOf img)
+    ready-valid long ready =
+        let i = ready-of img long ready in
+        values-valid img (i .parts) (i .whole) (clean-sound (i .r) (i .cleaned)) .0
+
+    of-set : (m : Bool) (s : Session) (r : Request) → length (r .vendor) ≡ 16 → setBroken m s r img ≡ none → compacts img (changesOf r (valuesOf img)) ≡ true
+        → Every (WholeOrRecord (widthOf n) img) (storesOf (widthOf n) (setPlan m s r img))
+    of-set m s r long accepted h =
+        let valid = ready-valid (set-length m s r img accepted) (set-ready m s r img accepted) in
+        rw accepted (compacts-whole n img (changesOf r (valuesOf img)) valid (set-fitting m s r img accepted long) h)
 
     of-profile : (m : Bool) (s : Session) (file : List ℕ) → profileBroken m s file img ≡ none
         → Every (WholeOrRecord (widthOf n) img) (storesOf (widthOf n) (profilePlan m s file img))
     of-profile m s file accepted =
-        let i = ready-of img (profile-length m s file img accepted) (profile-ready m s file img accepted) in
-        let valid = values-valid img (i .parts) (i .whole) (clean-sound (i .r) (i .cleaned)) .0 in
+        let valid = ready-valid (profile-length m s file img accepted) (profile-ready m s file img accepted) in
         rw accepted (changes-whole n img (changesIn (itemsIn file) (valuesOf img)) valid (profile-fitting m s file img accepted))
+
+    of-mode : (m : Bool) (s : Session) (to : ℕ) → modeBroken m s to img ≡ none → compacts img (modeChanges to (valuesOf img)) ≡ true
+        → Every (WholeOrRecord (widthOf n) img) (storesOf (widthOf n) (modePlan m s to img))
+    of-mode m s to accepted h =
+        let valid = ready-valid (mode-length m s to img accepted) (mode-ready m s to img accepted) in
+        rw accepted (compacts-whole n img (modeChanges to (valuesOf img)) valid (mode-fitting m s to img accepted) h)
 
 -- ---- what writes leave
 

@@ -1,24 +1,21 @@
 -- 02 (i): what the chip is asked to do. Each claim is a type.
 use Prim.Native.Nat.{ℕ, _+_, _%_, _≤_}
 use mathlib.Core.Path.{_≡_}
-use mathlib.Core.Bool.{Bool, true, false}
+use mathlib.Core.Bool.{Bool, true, false, not}
 use mathlib.Core.Logic.{_⊎_}
 use mathlib.Core.List.{List, [], _∷_}
 use mathlib.Core.Option.{none}
 use lib.ListN.{length, getD}
 use Rattle.model.specs.declared.Session.{Session}
 use Rattle.model.specs.Image.{rightLength, region}
-use Rattle.model.specs.Entry.{Value}
 use Rattle.model.specs.Region.{sound, valuesOf}
-use Rattle.model.specs.Work.{pending}
 use Rattle.model.specs.Request.{Request}
-use Rattle.model.specs.Change.{put, changeIn}
-use Rattle.model.specs.Rules.{setBroken, profileBroken}
+use Rattle.model.specs.Change.{Change, changesOf, modeChanges}
+use Rattle.model.specs.Rules.{setBroken, profileBroken, modeBroken}
 use Rattle.model.specs.Stores.{Store, page, erase, Write, write, header, clear, stores, applyAll, leftBy, leftByOne, mark, byte, Every, widthOf}
-use Rattle.model.specs.Set.{fitsTail}
 use Rattle.model.specs.Answers.{storesOf}
 use Rattle.model.specs.StartUp.{resume, tidyTail, startUpStores}
-use Rattle.model.specs.Book.{setPlan, profilePlan, isRecord}
+use Rattle.model.specs.Book.{setPlan, profilePlan, modePlan, isRecord, inPlace}
 
 -- "The new flash stores up to w bytes at a time, within one page of w": whatever is written
 abbrev pub OnePage : ℕ → Store → Type 0
@@ -40,21 +37,31 @@ WholeOrRecord w img (erase b) = Unit {0}
 abbrev pub InWholePages : ℕ → List ℕ → List Write → Type 0
 InWholePages n img ws = Every (WholeOrRecord (widthOf n) img) (stores (widthOf n) ws)
 
--- there are four: a set's, where its entry does not fit in the tail; a start-up's with no change; the one that a start-up resumes; and a profile's, if something differs
+-- changes that are compacted: one whose entry does not fit in the tail; 02 (j), "where mode and PK change together it is one compaction"
+abbrev pub compacts : List ℕ → List Change → Bool
+compacts img [] = false
+compacts img (c ∷ []) = not (inPlace img c)
+compacts img (c ∷ d ∷ cs) = true
+
+-- there are five: a set's and a mode request's, where their changes are compacted; a start-up's with no change; the one that a start-up resumes; and a
+-- profile's, if something differs
 abbrev pub WholePagesStored : Type 0
 WholePagesStored =
     (n : ℕ) (img : List ℕ)
-    → ((m : Bool) (s : Session) (r : Request) (v : Value)
+    → ((m : Bool) (s : Session) (r : Request)
     → length (r .vendor) ≡ 16
     → setBroken m s r img ≡ none
-    → changeIn r (valuesOf img) ≡ put v
-    → fitsTail (region img) v ≡ false
+    → compacts img (changesOf r (valuesOf img)) ≡ true
     → Every (WholeOrRecord (widthOf n) img) (storesOf (widthOf n) (setPlan m s r img)))
     × (rightLength img ≡ true → sound (region img) ≡ true → InWholePages n img (tidyTail img))
     × (rightLength img ≡ true → InWholePages n img (resume img))
     × ((m : Bool) (s : Session) (file : List ℕ)
     → profileBroken m s file img ≡ none
     → Every (WholeOrRecord (widthOf n) img) (storesOf (widthOf n) (profilePlan m s file img)))
+    × ((m : Bool) (s : Session) (to : ℕ)
+    → modeBroken m s to img ≡ none
+    → compacts img (modeChanges to (valuesOf img)) ≡ true
+    → Every (WholeOrRecord (widthOf n) img) (storesOf (widthOf n) (modePlan m s to img)))
 
 -- what is written leaves the same for every w, where the state of each header that is written is blank, as it is in a blank tail
 abbrev pub StateBlank : Write → List ℕ → Type 0

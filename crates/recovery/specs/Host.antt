@@ -5,6 +5,7 @@ use Prim.Native.Nat.{ℕ, suc}
 use mathlib.Core.Path.{_≡_}
 use mathlib.Core.Bool.{Bool, true, false, cond, _&&_}
 use mathlib.Core.List.{List}
+use mathlib.Core.Option.{some}
 use lib.ListN.{length, take}
 use lib.Dec.{eqb, leb, ltb}
 use Rattle.model.specs.declared.Layout.{Layout}
@@ -16,18 +17,18 @@ use Rattle.model.specs.Image.{regionSize}
 use Rattle.model.specs.Entry.{Value}
 use Rattle.model.specs.Region.{valuesOf, find}
 use Rattle.model.specs.Session.{freshSession}
-use Rattle.model.specs.Request.{Request, requestKey}
+use Rattle.model.specs.Request.{Request, requestKey, modeOf}
 use Rattle.model.specs.Profile.{itemsIn}
 use Rattle.model.specs.Limits.{limitsFor}
 use Rattle.model.specs.Sides.{allotted}
 use Rattle.model.specs.Stores.{Bytes, stores, applyAll, Cut}
 use Rattle.model.specs.StartUp.{startUpPlan}
 use Rattle.model.specs.Answers.{Outcome, done, refused}
-use Rattle.model.specs.Book.{Call, set, profile, planOf, Sized, bookAfter}
-use Rattle.model.specs.Beside.{EachItem}
+use Rattle.model.specs.Book.{Call, set, profile, mode, planOf, Sized, bookAfter}
+use Rattle.model.specs.Beside.{EachItem, modeNamed}
 use Rattle.plan.specs.declared.HostPlan.{HostPlan}
 use Rattle.plan.specs.Told.{expandNumbers, Told}
-use Rattle.recovery.specs.Claims.{forbidden, InShares}
+use Rattle.recovery.specs.Claims.{WithPK, forbidden, InShares}
 use Rattle.recovery.specs.Interface.{MoveReturned, InSession, Apart}
 
 -- A start-up was planned over these bytes, given what it is given: the plan and the content tell what the definitions plan. Shares and H are asked before any store; the rest
@@ -36,8 +37,9 @@ use Rattle.recovery.specs.Interface.{MoveReturned, InSession, Apart}
 abbrev pub StartUpPlanned : Setup → List ℕ → List ℕ → HostPlan → Type 0
 StartUpPlanned setup part content p = Told (startUpPlan setup part) content p
 
--- A call was planned over these bytes. `vs_plan_set` and `vs_plan_profile` ensure it of their own arguments. They and `vs_plan_start_up` require nothing, so such a plan
--- exists for every set, every profile and every start-up, on any part. A get, next-name or many-get has no planning function: as a step its plan is its refusal, or operations without a store.
+-- A call was planned over these bytes. `vs_plan_set`, `vs_plan_profile` and `vs_plan_mode` ensure it of their own arguments. They and `vs_plan_start_up`
+-- require nothing, so such a plan exists for every set, every profile, every mode request and every start-up, on any part. A get, next-name or many-get has no
+-- planning function: as a step its plan is its refusal, or operations without a store.
 abbrev pub PlannedFor : Call → List ℕ → List ℕ → HostPlan → Type 0
 PlannedFor c part content p = Told (planOf c part) content p
 
@@ -56,7 +58,7 @@ decidingDone w k content p =
 -- * the power fails: of the stores told the first k are complete and the next may be begun, as `Cut` says, and the book moves if the deciding operation was complete
 --   ("or had that store complete"). A host that gives a plan up between two stores is of this kind too, and so is one whose part fails at a store, because a byte
 --   there has died: the stores before it are complete, and of its own bits none or some are cleared.
--- `bookAfter` moves the book for a set ("only a set .. changes it") and a profile only.
+-- `bookAfter` moves the book for a set ("only a set .. changes it"), a profile and a mode request only.
 pub data Hosting (start : List ℕ) : List ℕ → List Value → Type 0 where
   none-yet : Hosting start start (valuesOf start)
   carried-out : {part : List ℕ}
@@ -120,6 +122,30 @@ HostSharesKept =
     → AllPlannedInShares u hosting
     → StartUpPlanned u part content p
     → (allotted u (regionSize part) book ≡ true) × (p .rule ≡ 0)
+
+-- 02 (j), of a host: a mode request that was planned with rule 0 told, and carried out, has come to the mode that it names. On whatever bytes, and for every w.
+abbrev pub HostModeReached : Type 0
+HostModeReached =
+    (m : Bool) (s : Session) (to : ℕ) (part content : List ℕ) (p : HostPlan)
+    → PlannedFor (mode m s to) part content p
+    → p .rule ≡ 0
+    → (w : ℕ)
+    → modeNamed to ≡ some (modeOf (valuesOf (carriedOut w content p part)))
+
+-- And after any call of which the first k stores are complete, all of them among others, and the next may be begun, a start-up that is told rule 0, carried
+-- out, leaves PK and PlatMode both as they were in the book, or both as they are with the call entered.
+abbrev pub HostModeWithPK : Type 0
+HostModeWithPK =
+    (setup : Setup) (start part part′ content again : List ℕ) (book : List Value) (c : Call) (p up : HostPlan) (w k : ℕ)
+    → HostBegun start
+    → Hosting start part book
+    → Sized c
+    → PlannedFor c part content p
+    → Cut (stores w (expandNumbers content (p .ops))) k part part′
+    → StartUpPlanned setup part′ again up
+    → up .rule ≡ 0
+    → (v : ℕ)
+    → WithPK c book (valuesOf (carriedOut v again up part′))
 
 -- 02 (e), of a host: what a set leaves under its name that was planned in a session with rule 0 told, and carried out, no rule forbids that the session's start-up was
 -- given for that name. On whatever bytes, and for every w.

@@ -2,7 +2,9 @@
 use Prim.Native.Nat.{ℕ}
 use mathlib.Core.Path.{_≡_}
 use mathlib.Core.Bool.{Bool, true, false, cond}
+use mathlib.Core.Logic.{_⊎_}
 use mathlib.Core.List.{List, [], _∷_}
+use mathlib.Core.Option.{some}
 use lib.ListN.{length}
 use Rattle.model.specs.declared.Layout.{Layout}
 use Rattle.model.specs.declared.Setup.{Setup}
@@ -15,19 +17,20 @@ use Rattle.model.specs.Name.{Key}
 use Rattle.model.specs.Entry.{Value}
 use Rattle.model.specs.Region.{valuesOf, find}
 use Rattle.model.specs.Session.{freshSession, movedTo}
-use Rattle.model.specs.Request.{Request, requestKey}
+use Rattle.model.specs.Request.{Request, requestKey, modeOf}
 use Rattle.model.specs.Profile.{itemsIn}
 use Rattle.model.specs.Limits.{limitsFor}
 use Rattle.model.specs.Stores.{Bytes, Cut}
 use Rattle.model.specs.Answers.{Outcome, done, answerOf, outcome, imageAfter, madeOf, pageOf, storesOf, decided, lockOutcome, lockSession}
 use Rattle.model.specs.Move.{moveAnswer, imageMoved}
-use Rattle.model.specs.Book.{Call, set, startUp, profile, planOf, Sized, counts, bookAfter}
-use Rattle.model.specs.Beside.{EachItem}
-use Rattle.recovery.specs.Claims.{forbidden}
+use Rattle.model.specs.Book.{Call, set, startUp, profile, mode, planOf, Sized, counts, bookAfter}
+use Rattle.model.specs.Beside.{EachItem, modeNamed}
+use Rattle.recovery.specs.Claims.{WithPK, forbidden}
 use Rattle.recovery.specs.Tenants.{World, Asked, callOf, Event, calls, locks, moves, Fitting, no-more, handed, Told, toItsEnd, butStores, isOf, sees}
 
 -- A call of the interface has returned: its arguments, its context, the image before and after, and the answer. `engine::write::set`, `engine::items::profile`,
--- `engine::read::get` and `next_name` and `engine::many::get_many`, which are lent the image shared, and `engine::start::start_up` ensure it of their own arguments, in every session that says what they are given.
+-- `engine::modes::mode`, `engine::read::get` and `next_name` and `engine::many::get_many`, which are lent the image shared, and `engine::start::start_up`
+-- ensure it of their own arguments, in every session that says what they are given.
 abbrev pub Returned : Call → Context → List ℕ → List ℕ → Answer → Type 0
 Returned c x img img′ a = (answerOf a ≡ outcome x (planOf c img) img) × (img′ ≡ imageAfter x (planOf c img) img)
 
@@ -81,6 +84,25 @@ InterfaceKeepsTheBook =
     → Calls start img book
     → Returned (startUp setup) x img img′ (Done stores)
     → valuesOf img′ ≡ book
+
+-- 02 (j), through the interface: a mode request that returned done has come to the mode that it names.
+abbrev pub InterfaceModeReached : Type 0
+InterfaceModeReached =
+    (m : Bool) (s : Session) (to : ℕ) (x : Context) (img img′ : List ℕ) (stores : ℕ)
+    → Returned (mode m s to) x img img′ (Done stores)
+    → modeNamed to ≡ some (modeOf (valuesOf img′))
+
+-- And after any call that returned, or was cut by a power failure, a start-up that returns done leaves PK and PlatMode both as they were in the book, or both
+-- as they are with the call entered.
+abbrev pub InterfaceModeWithPK : Type 0
+InterfaceModeWithPK =
+    (start img img′ left : List ℕ) (book : List Value) (c : Call) (x y : Context) (setup : Setup) (stores : ℕ)
+    → Begun start
+    → Calls start img book
+    → Sized c
+    → ((a : Answer) × Returned c x img img′ a) ⊎ ((k : ℕ) × Cut (storesOf (pageOf x) (planOf c img)) k img img′)
+    → Returned (startUp setup) y img′ left (Done stores)
+    → WithPK c book (valuesOf left)
 
 -- The sessions of a start-up: the one that it makes, whatever its answer (and `vs_session_new` from the same setup), and those that calls make of it: moved to a phase, or
 -- asked for a lock, refused or not.

@@ -15,7 +15,7 @@ use Rattle.model.specs.Name.{Key}
 use Rattle.model.specs.Entry.{Value, keyOf}
 use Rattle.model.specs.Region.{recordBit, valuesOf}
 use Rattle.model.specs.Session.{atRuntime, reserved, freshSession, movedTo}
-use Rattle.model.specs.Request.{Request}
+use Rattle.model.specs.Request.{Request, modeOf}
 use Rattle.model.specs.Change.{Change, steps, spaceOf, isErrorRecord}
 use Rattle.model.specs.Sides.{owns, view, allotted}
 use Rattle.model.specs.Rules.{puts, rule13, rule18, termsIf, termsFor}
@@ -23,20 +23,22 @@ use Rattle.model.specs.Query.{storageFor, remainingFor, largestFor, queryOutcom
 use Rattle.model.specs.Set.{Plan}
 use Rattle.model.specs.StartUp.{startUpPlan}
 use Rattle.model.specs.Answers.{Outcome, done, stopped, refused, outcome, imageAfter, Reply, Gots, getReply, getsReply, nextReply, lockOutcome, lockSession}
-use Rattle.model.specs.Book.{Call, set, get, next, several, profile, Sized, planOf}
+use Rattle.model.specs.Book.{Call, set, get, next, several, profile, mode, Sized, planOf}
 
 -- a session in use, and its image
 pub record World : Type 0 where
   pub session : Session
   pub image : List ℕ
 
--- what a side asks in it of the image: a set, with deletes and appends among them; a get, with the caller's buffer; a next-name; a many-get; a profile
+-- what a side asks in it of the image: a set, with deletes and appends among them; a get, with the caller's buffer; a next-name; a many-get; a profile; a
+-- mode request
 pub data Asked : Type 0 where
   sets : Request → Asked
   reads : Key → List ℕ → Asked
   names : Key → List ℕ → Asked
   reads-each : List Key → List ℕ → Asked
   profiles : List ℕ → Asked
+  modes : ℕ → Asked
 
 -- it is a call of that side in that session
 abbrev pub callOf : Bool → Session → Asked → Call
@@ -45,6 +47,7 @@ callOf m s (reads k buffer) = get m s k buffer
 callOf m s (names k buffer) = next m s k buffer
 callOf m s (reads-each ks buffer) = several m s ks buffer
 callOf m s (profiles file) = profile m s file
+callOf m s (modes to) = mode m s to
 
 -- what happens in it: a side's call; a side's lock; or the phase is moved, which is neither side's: "with the phase given"
 pub data Event : Type 0 where
@@ -86,6 +89,7 @@ handed m s (reads k buffer) img = replied (getReply m s k buffer img)
 handed m s (names k buffer) img = replied (nextReply m s k buffer img)
 handed m s (reads-each ks buffer) img = each (getsReply m s ks buffer img)
 handed m s (profiles file) img = no-more
+handed m s (modes to) img = no-more
 
 unfoldable pub reply : Event → World → Handed
 reply (calls m a) w = handed m (w .session) a (w .image)
@@ -150,6 +154,15 @@ NoInterference =
     → asked modem h ≡ asked modem g
     → (heard modem h ≡ heard modem g) × (sees setup modem v ≡ sees setup modem w)
 
+-- 02 (j), "PlatMode is ours, like the key names": no call of the modem that is done changes the platform's mode, whatever its GUID and whatever image it began
+-- on. Arguments are bytes.
+abbrev pub ModemKeepsMode : Type 0
+ModemKeepsMode =
+    (s : Session) (a : Asked) (img : List ℕ) (x : Context) (count : ℕ)
+    → Sized (callOf true s a)
+    → outcome x (planOf (callOf true s a) img) img ≡ done count
+    → modeOf (valuesOf (imageAfter x (planOf (callOf true s a) img) img)) ≡ modeOf (valuesOf img)
+
 -- what a query, which is no call of 01, would tell a side: its answer, and the three numbers that it gives, by the attributes asked of
 abbrev pub queried : Bool → ℕ → World → Outcome × ℕ × ℕ × ℕ
 queried modem a w = (
@@ -185,7 +198,8 @@ allOurs u vs = all (λ v. owns (u .modem .vendor) false (keyOf v) && not (isErro
 abbrev pub rule13Alone : Session → ℕ → List Change → List Value → Bool
 rule13Alone s size cs vs = any (puts (λ v. true)) cs && ltb size (spaceOf (steps cs vs) + reserved false s)
 
--- So over values that are ours and no error records our sets and profiles of such values meet 13 just where 01 says, and not 18, and no start-up on them meets 22 if they fit.
+-- So over values that are ours and no error records our sets, profiles and mode requests of such values meet 13 just where 01 says, and not 18, and no start-up
+-- on them meets 22 if they fit.
 abbrev pub AsIn01 : Type 0
 AsIn01 =
     (s : Session) (size : ℕ)
