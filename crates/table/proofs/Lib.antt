@@ -31,3 +31,5 @@ pub mod Tenants
 pub mod Many
 -- 02 (l): profiles
 pub mod Profiles
+-- 02 (j): modes
+pub mod Modes

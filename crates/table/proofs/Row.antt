@@ -225,6 +225,40 @@ described stamp =
     ++ (0x18 ∷ 0x00 ∷ 0x00 ∷ 0x00 ∷ 0x00 ∷ 0x02 ∷ 0xF1 ∷ 0x0E ∷ [])
     ++ (0x9D ∷ 0xD2 ∷ 0xAF ∷ 0x4A ∷ 0xDF ∷ 0x68 ∷ 0xEE ∷ 0x49 ∷ 0x8A ∷ 0xA9 ∷ 0x34 ∷ 0x7D ∷ 0x37 ∷ 0x56 ∷ 0x65 ∷ 0xA7 ∷ [])
 
+-- 1 June 2024, 12:30, and a second; PK with that stamp: 60 + 6 + 4 bytes, and 2 of padding
+abbrev pub june : ℕ → List ℕ
+june second = (0xE8 ∷ 0x07 ∷ 0x06 ∷ 0x01 ∷ 0x0C ∷ 0x1E ∷ second ∷ []) ++ zeros 9
+
+abbrev pub pkHeader : ℕ → List ℕ
+pkHeader second = behindState 0x27 (june second) 0x06 0x00 0x04 0x00 platform
+
+abbrev pub pkEntry : ℕ → ℕ → ℕ → List ℕ
+pkEntry state second b = startId ++ (state ∷ []) ++ pkHeader second ++ pk ++ four b ++ ff 2
+
+-- PK stands, stamped at second 5, so that the mode is user: 28 to 100
+abbrev pub user : List ℕ
+user = image (header ++ pkEntry 0x3F 5 0x70 ++ ff 3996)
+
+-- PK is set in a session, with presence and verdict
+abbrev pub pkWith : Session → ℕ → ℕ → ℕ → List ℕ → ℕ → Call
+pkWith s presence attributes second bytes verdict =
+    set false s (record { name = pk; vendor = platform; attributes = attributes; bytes = described (june second) ++ bytes; presence = presence; verdict = verdict })
+
+-- 02 (j): PlatMode, 18 bytes; its entry with a byte of data: 79 bytes and 1 of padding
+abbrev pub platMode : List ℕ
+platMode =
+    0x50 ∷ 0x00 ∷ 0x6C ∷ 0x00 ∷ 0x61 ∷ 0x00 ∷ 0x74 ∷ 0x00 ∷ 0x4D ∷ 0x00 ∷ 0x6F ∷ 0x00 ∷ 0x64 ∷ 0x00 ∷ 0x65 ∷ 0x00 ∷ 0x00 ∷ 0x00 ∷ []
+
+abbrev pub modeHeader : List ℕ
+modeHeader = behindState 0x07 (zeros 16) 0x12 0x00 0x01 0x00 platform
+
+abbrev pub modeEntry : ℕ → ℕ → List ℕ
+modeEntry state m = startId ++ (state ∷ []) ++ modeHeader ++ platMode ++ (m ∷ []) ++ ff 1
+
+-- a 3 without a PK, which counts as absent: 28 to 108
+abbrev pub strayThree : List ℕ
+strayThree = image (header ++ modeEntry 0x3F 3 ++ ff 3988)
+
 -- the error records' GUID, and HwErrRec with four characters behind it: 26 bytes
 abbrev pub errors : List ℕ
 errors =

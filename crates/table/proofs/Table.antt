@@ -8,7 +8,7 @@ use lib.ListN.{replicate}
 use Rattle.model.specs.Answers.{done}
 use Rattle.model.specs.Book.{Call, set, startUp}
 use Rattle.table.proofs.Pieces.{store, clear}
-use Rattle.table.proofs.Row.{Row, Holds, HoldAll, end, _and_, computed, refuses, plain, boot, ff, zeros, header, image, empty, guid, rate, four, behindState, startId, rateHeader, rateEntry, setting, rateStands, platform, pk, described}
+use Rattle.table.proofs.Row.{Row, Holds, HoldAll, end, _and_, computed, refuses, plain, boot, ff, zeros, header, image, empty, guid, rate, four, behindState, startId, rateHeader, rateEntry, setting, rateStands, platform, pk, described, june, pkHeader, pkEntry, user}
 use Rattle.table.proofs.Held.{held}
 
 -- ---- "New: 75 stores; entry 28 to 104 with padding."
@@ -308,25 +308,11 @@ fullReplaced-holds = held fullReplaced refl refl tt tt refl refl
 
 -- ---- "Equal stamps in user mode, the wanted verdict given: 10."
 
--- 1 June 2024, 12:30, and a second
-abbrev stamp : ℕ → List ℕ
-stamp second = (0xE8 ∷ 0x07 ∷ 0x06 ∷ 0x01 ∷ 0x0C ∷ 0x1E ∷ second ∷ []) ++ zeros 9
-
 abbrev descriptor : ℕ → List ℕ
-descriptor second = described (stamp second)
-
--- PK stands, stamped at second 5: 60 + 6 + 4 bytes, and 2 of padding
-abbrev pkHeader : ℕ → List ℕ
-pkHeader second = behindState 0x27 (stamp second) 0x06 0x00 0x04 0x00 platform
-
-abbrev pkEntry : ℕ → ℕ → ℕ → List ℕ
-pkEntry state second b = startId ++ (state ∷ []) ++ pkHeader second ++ pk ++ four b ++ ff 2
-
-abbrev userMode : List ℕ
-userMode = image (header ++ pkEntry 0x3F 5 0x70 ++ ff 3996)
+descriptor second = described (june second)
 
 abbrev equalStamps : Row
-equalStamps = refuses userMode 100 (settingPK 0x27 (descriptor 5 ++ four 0x71) 1) 10
+equalStamps = refuses user 100 (settingPK 0x27 (descriptor 5 ++ four 0x71) 1) 10
 
 equalStamps-holds : Holds equalStamps
 unfolding computed
@@ -335,7 +321,7 @@ equalStamps-holds = held equalStamps refl refl tt tt refl refl
 -- a second later it is done, so that nothing but the stamp was in the way
 abbrev laterStamp : Row
 laterStamp = record {
-  image = userMode;
+  image = user;
   call = settingPK 0x27 (descriptor 6 ++ four 0x71) 1;
   answer = done 73;
   stores = store 30 (0x3E ∷ [])
