@@ -8,7 +8,7 @@ ghost use Rattle.model.specs.Image.{regionHeaderIn};
 ghost use Rattle.model.specs.Region.{rightHeaderIn};
 ghost use Rattle.model.specs.Name.{keyed, sameKey, recordVendor, recordFront, isDigit, digits, recordName};
 ghost use Rattle.model.specs.Sides.{modemName, owns};
-ghost use Rattle.model.specs.Request.{globalVendor, databaseVendor, certificate, keyPK, keyKEK, keydb, keydbx, keydbt, isDatabase, isKeyName};
+ghost use Rattle.model.specs.Request.{globalVendor, databaseVendor, certificate, keyPK, keyKEK, keydb, keydbx, keydbt, isDatabase, isKeyName, keyMode};
 ghost use Rattle.layout.specs.Digits.{digitAt};
 use model::Layout;
 
@@ -74,6 +74,12 @@ fn dbt_name() -> [u8; 8]
     ensures { λ r. ⌜ r ≡ keydbt .name ⌝ }
 {
     *b"d\0b\0t\0\0\0"
+}
+
+pub fn mode_name() -> [u8; 18]
+    ensures { λ r. ⌜ r ≡ keyMode .name ⌝ }
+{
+    *b"P\0l\0a\0t\0M\0o\0d\0e\0\0\0"
 }
 
 fn low_byte(x: usize) -> u8
@@ -194,6 +200,15 @@ pub fn is_key_name(name: &[u8], vendor: &[u8; 16]) -> bool
     is_database(name, vendor)
 }
 
+// Whether a name and vendor are PlatMode's.
+pub fn is_mode(name: &[u8], vendor: &[u8; 16]) -> bool
+    ensures { λ r. ⌜ r ≡ sameKey (keyed (now (name .entry)) (now (vendor .entry))) keyMode ⌝ }
+{
+    let key = mode_name();
+    let of = global_vendor();
+    is_key(name, vendor, &key, &of)
+}
+
 // Whether a byte is one of 0 to 9 and A to F.
 fn is_digit(c: u8) -> bool
     ensures { λ r. ⌜ r ≡ isDigit c ⌝ }
@@ -263,7 +278,7 @@ pub fn is_record_name(name: &[u8], vendor: &[u8]) -> bool
     false
 }
 
-// Whether a name is the modem's, whose vendor GUID is given: all names under it are, but key names and those of error records.
+// Whether a name is the modem's, whose vendor GUID is given: all names under it are, but key names, PlatMode and those of error records.
 fn is_modems(guid: &[u8; 16], name: &[u8], vendor: &[u8]) -> bool
     ensures { λ r. ⌜ r ≡ modemName (now (guid .entry)) (keyed (now (name .entry)) (now (vendor .entry))) ⌝ }
 {
@@ -271,6 +286,9 @@ fn is_modems(guid: &[u8; 16], name: &[u8], vendor: &[u8]) -> bool
         return false;
     }
     if is_key_name(name, guid) {
+        return false;
+    }
+    if is_mode(name, guid) {
         return false;
     }
     !is_record_name(name, guid)

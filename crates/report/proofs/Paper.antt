@@ -16,11 +16,11 @@ use Rattle.model.specs.Region.{rightLive, undoubled, added, replacing, standing
 use Rattle.model.specs.Work.{records, usedFirst, spareLast, wellFormed, lastUsed, endsInFC, idle, readyIn}
 use Rattle.model.specs.declared.Setup.{Setup}
 use Rattle.model.specs.Session.{inBoot, atRuntime, customMode, reserved, lockAt, locked, noLocks, noSizes, kept, freshSession}
-use Rattle.model.specs.Request.{Request, globalVendor, databaseVendor, keyPK, keyKEK, keydb, keydbx, keydbt, isDatabase, isKeyName, userMode, keyVerdicts, otherVerdicts, wantedVerdicts, rightDescriptor, properOf, stampToStore, later}
+use Rattle.model.specs.Request.{Request, globalVendor, databaseVendor, keyPK, keyKEK, keydb, keydbx, keydbt, isDatabase, isKeyName, keyMode, keyVerdicts, otherVerdicts, wantedVerdicts, rightDescriptor, properOf, stampToStore, later}
 use Rattle.model.specs.Limits.{limitsIn}
-use Rattle.model.specs.Change.{deletes, emptyAppend, equalTo, newData, laterOf, newStamp, newValue, changeOf, without, step, steps, changeIn, entrySizesIn, spaceIn, recordSizes, otherSizes}
+use Rattle.model.specs.Change.{deletes, emptyAppend, equalTo, newData, laterOf, newStamp, newValue, changeOf, without, step, steps, changeIn, besidePK, changesOf, entrySizesIn, spaceIn, recordSizes, otherSizes}
 use Rattle.model.specs.Sides.{modemName, owns, view, sideSizes}
-use Rattle.model.specs.Rules.{firstBroken, rule1, rule3, rule4, rule5, rule6, unlikeStored, rule7, rule8, rule9, rule10, rule11, rule12, rule13, rule17, rule18, rule21, rule22, termsOf, requestRules, standingRules, resultRules, itemRules, settingRules, roomRules, setBroken, imageRulesIn, rule2In}
+use Rattle.model.specs.Rules.{firstBroken, rule1, rule3, rule4, rule5, rule6, unlikeStored, rule7, rule8, rule9, rule10, rule11, rule12, rule13, rule17, rule18, rule21, rule22, rule24Set, termsOf, requestRules, standingRules, resultRules, itemRules, settingRules, roomRules, setBroken, imageRulesIn, rule2In}
 use Rattle.model.specs.Stores.{apply, applyAll, after, pages, stores, storesOne}
 use Rattle.model.specs.Set.{leftover, entryStores, tailTo, tailOn, fitsTail, putPlan, changePlan}
 use Rattle.model.specs.Answers.{storesOf}
@@ -64,7 +64,7 @@ unfolding same allFF block blocks rightLength regionSize region work spare signa
 empty-text = refl
 
 rate-text : varlistText rateStore ≡ ascii "region 4096 used 104 live 1\n0102030405060708090A0B0C0D0E0F10 52004100540045000000 07 4\n"
-unfolding same allFF block blocks rightLength regionSize region work spare signature regionHeaderIn zeroEnded wellNamed recordVendor recordFront digits recordName headerFieldsIn readHeaderIn headerFront headerRestIn extraBytes placed walk walkEnd entriesIn tailAtIn tailIn rightHeaderIn rightLive undoubled soundIn cleanIn added replacing standing isValue values valuesIn find records usedFirst spareLast wellFormed lastUsed endsInFC idle readyIn inBoot atRuntime customMode reserved lockAt locked noLocks noSizes kept freshSession limitsIn globalVendor databaseVendor keyPK keyKEK keydb keydbx keydbt isDatabase isKeyName userMode keyVerdicts otherVerdicts wantedVerdicts rightDescriptor properOf stampToStore later deletes emptyAppend equalTo newData laterOf newStamp newValue changeOf without step steps changeIn entrySizesIn spaceIn recordSizes otherSizes modemName owns view sideSizes firstBroken rule1 rule2In rule3 rule4 rule5 rule6 unlikeStored rule7 rule8 rule9 rule10 rule11 rule12 rule13 rule17 rule18 rule21 rule22 imageRulesIn termsOf requestRules standingRules resultRules itemRules settingRules roomRules setBroken apply applyAll after pages stores storesOne leftover entryStores tailTo tailOn fitsTail putPlan changePlan planOf storesOf emptyStore setRate oldSetup ascii digit hexOf leading decimalOf field summaryLine keyText entryLine valueLine valueLines refusedLine storeText listText rateStore
+unfolding same allFF block blocks rightLength regionSize region work spare signature regionHeaderIn zeroEnded wellNamed recordVendor recordFront digits recordName headerFieldsIn readHeaderIn headerFront headerRestIn extraBytes placed walk walkEnd entriesIn tailAtIn tailIn rightHeaderIn rightLive undoubled soundIn cleanIn added replacing standing isValue values valuesIn find records usedFirst spareLast wellFormed lastUsed endsInFC idle readyIn inBoot atRuntime customMode reserved lockAt locked noLocks noSizes kept freshSession limitsIn globalVendor databaseVendor keyPK keyKEK keydb keydbx keydbt isDatabase isKeyName keyMode keyVerdicts otherVerdicts wantedVerdicts rightDescriptor properOf stampToStore later deletes emptyAppend equalTo newData laterOf newStamp newValue changeOf without step steps changeIn besidePK changesOf entrySizesIn spaceIn recordSizes otherSizes modemName owns view sideSizes firstBroken rule1 rule2In rule3 rule4 rule5 rule6 unlikeStored rule7 rule8 rule9 rule10 rule11 rule12 rule13 rule17 rule18 rule21 rule22 rule24Set imageRulesIn termsOf requestRules standingRules resultRules itemRules settingRules roomRules setBroken apply applyAll after pages stores storesOne leftover entryStores tailTo tailOn fitsTail putPlan changePlan planOf storesOf emptyStore setRate oldSetup ascii digit hexOf leading decimalOf field summaryLine keyText entryLine valueLine valueLines refusedLine storeText listText rateStore
 rate-text = refl
 
 none-text : varlistText [] ≡ ascii "refused 1\n"

@@ -11,6 +11,7 @@ use lib.ListN.{length}
 use Rattle.model.specs.declared.Layout.{Layout}
 use Rattle.model.specs.Layout.{headerLength}
 use Rattle.model.specs.Lists.{keep, first, orElse}
+use Rattle.model.specs.Image.{regionHeaderSize}
 use Rattle.model.specs.Region.{entriesIn, isEntry, isValue, added, replacing, standing}
 use Rattle.model.specs.Name.{Key}
 use Rattle.model.specs.Walk as walk
@@ -104,13 +105,14 @@ module _ (y : Layout) where
 
   pub record Stands (r : List ℕ) (o : Option walk.Entry) (a : ℕ) (e : numbers.Entry) : Type 0 where
     pub entry : o ≡ some (entryAs y r a e)
+    pub low : regionHeaderSize ≤ a
     pub fits : a + headerLength y ≤ length r
 
   module _ (r : List ℕ) (k : Key) (a : ℕ) (e : numbers.Entry) where
     stands : (f : walk.Entry → Bool) → foundOf (first f (fromIn y r 28)) ≡ At a e → Stands r (first f (fromIn y r 28)) a e
     stands f p =
         let m = found-kept r f a e 28 p in
-        record { entry = m .entry; fits = at-entry refl (m .turn) .fits }
+        record { entry = m .entry; low = m .from-here; fits = at-entry refl (m .turn) .fits }
 
     pub added-stands : foundOf (added k (entriesIn y r)) ≡ At a e → Stands r (added k (entriesIn y r)) a e
     unfolding added entriesIn fromIn
@@ -128,10 +130,10 @@ module _ (y : Layout) where
             → Stands r (orElse (added k (entriesIn y r)) (replacing k (entriesIn y r))) a e
         go (some x) q p =
             let s = added-stands (ap foundOf q ∙ p) in
-            record { entry = ap (λ (o : Option walk.Entry). orElse o (replacing k (entriesIn y r))) (s .entry); fits = s .fits }
+            record { entry = ap (λ (o : Option walk.Entry). orElse o (replacing k (entriesIn y r))) (s .entry); low = s .low; fits = s .fits }
         go none q p =
             let s = replacing-stands p in
-            record { entry = ap (λ (o : Option walk.Entry). orElse o (replacing k (entriesIn y r))) q ∙ s .entry; fits = s .fits }
+            record { entry = ap (λ (o : Option walk.Entry). orElse o (replacing k (entriesIn y r))) q ∙ s .entry; low = s .low; fits = s .fits }
 
 -- no value is left where a search for the next one finds nothing
 pub record None (y : Layout) (r : List ℕ) (at : ℕ) : Type 0 where
