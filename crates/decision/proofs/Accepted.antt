@@ -1,4 +1,4 @@
--- What a decision says to the caller. It names a rule just where one of rules 3 to 13, 17, 18, 21 and 22 is broken; over an image that breaks neither 1 nor 2 that is
+-- What a decision says to the caller. It names a rule just where one of rules 3 to 13, 17, 18, 21, 22 and 24 is broken; over an image that breaks neither 1 nor 2 that is
 -- the answer of the set. Where it names none, it is the kind of the change, and every test is false: so a value to delete stands, and a value to put is small
 -- enough and fits. The same of a profile.
 -- Assumes nothing.
@@ -21,7 +21,7 @@ use Rattle.model.specs.Entry.{Value}
 use Rattle.model.specs.Region.{maxData, valuesOf, find}
 use Rattle.model.specs.Request.{Request, requestKey}
 use Rattle.model.specs.Limits.{Limit}
-use Rattle.model.specs.Change.{Change, nothing, remove, put, isNothing, newValue, changeOf, changeIn}
+use Rattle.model.specs.Change.{Change, nothing, remove, put, isNothing, newValue, changeOf, changeIn, changesOf}
 use Rattle.model.specs.Rules.{firstBroken, rule3, rule8, rule12, rule13, imageRules, requestRules, standingRules, resultRules, itemRules, settingRules, roomRules}
 use Rattle.model.specs.Beside.{itemsAlone, changesAlone}
 use Rattle.model.proofs.Looking.{change-cases}
@@ -49,7 +49,7 @@ rules-broken t ls q img h =
     let i : List (Rule × Bool) = imageRules img in
     let a : List (Rule × Bool) = itemRules t q vs in
     let b : List (Rule × Bool) = settingRules ls q (find (requestKey q) vs) in
-    let d : List (Rule × Bool) = roomRules t (regionSize img) (changeIn q vs ∷ []) vs in
+    let d : List (Rule × Bool) = roomRules t (regionSize img) (changesOf q vs) vs in
     ap firstBroken (ap (λ (xs : List (Rule × Bool)). xs ++ d) (append-assoc i a b) ∙ append-assoc i (a ++ b) d)
     ∙ broken-append i (a ++ b ++ d)
     ∙ ap (λ (o : Option Rule). orElse o (firstBroken (a ++ b ++ d))) h
@@ -57,7 +57,7 @@ rules-broken t ls q img h =
 
 -- ---- the change
 
-decided-none : (o : Option Rule) (d k : Decision) → decided o d ≡ k → brokenOf k ≡ none → (o ≡ none) × (d ≡ k)
+pub decided-none : (o : Option Rule) (d k : Decision) → decided o d ≡ k → brokenOf k ≡ none → (o ≡ none) × (d ≡ k)
 decided-none none d k h b = (refl, h)
 decided-none (some rule) d k h b =
     let e : some rule ≡ none = ap brokenOf h ∙ b in
@@ -85,7 +85,7 @@ module _ (t : Terms) (q : Request) (vs : List Value) where
   abbrev pub new : Value
   new = newValue q (find (requestKey q) vs)
 
-  -- by rules 3 to 12, 17 and 22
+  -- by rules 3 to 12, 17, 22 and 24
   pub item-small : itemOf t q vs ≡ Put → length (new .bytes) ≤ maxData
   unfolding itemOf itemRules requestRules standingRules resultRules rule12 changeIn
   item-small h =
@@ -106,14 +106,14 @@ module _ (ls : List Limit) (t : Terms) (q : Request) (size : ℕ) (vs : List Val
   kind-of : (k : Decision) → brokenOf k ≡ none → decisionOf ls t q size vs ≡ k → kindOf (changeIn q vs) ≡ k
   unfolding decisionOf
   kind-of k b h =
-      decided-none (firstBroken (itemRules t q vs ++ settingRules ls q (find (requestKey q) vs) ++ roomRules t size (changeIn q vs ∷ []) vs)) (kindOf (changeIn q vs)) k h b .1
+      decided-none (firstBroken (itemRules t q vs ++ settingRules ls q (find (requestKey q) vs) ++ roomRules t size (changesOf q vs) vs)) (kindOf (changeIn q vs)) k h b .1
 
   -- a value is put where its descriptor is right
   pub put-formed : decisionOf ls t q size vs ≡ Put → rule8 (q .attributes) (q .bytes) ≡ false
   unfolding decisionOf itemRules requestRules standingRules
   put-formed h =
       unbroken _ 8
-      (decided-none (firstBroken (itemRules t q vs ++ settingRules ls q (find (requestKey q) vs) ++ roomRules t size (changeIn q vs ∷ []) vs)) (kindOf (changeIn q vs)) Put h refl .0)
+      (decided-none (firstBroken (itemRules t q vs ++ settingRules ls q (find (requestKey q) vs) ++ roomRules t size (changesOf q vs) vs)) (kindOf (changeIn q vs)) Put h refl .0)
 
   pub nothing-change : decisionOf ls t q size vs ≡ Nothing → changeIn q vs ≡ nothing
   nothing-change h = kind-nothing (changeIn q vs) (kind-of Nothing refl h)

@@ -1,4 +1,4 @@
--- The decision by the parts in which it is judged. Rules 3, 22, 4, 5, 17 and 6 look at no more of a request than its name and attributes; rules 7 to 10 look at the
+-- The decision by the parts in which it is judged. Rules 3, 22, 4, 5, 17 and 6 look at no more of a request than its name and attributes; rules 7 to 10 and 24 look at the
 -- value that stands by its entry, and at the stamp only where rule 8 is kept; the rest goes by what the set asks for, by the
 -- rules for its name, and by room last.
 -- Assumes nothing.
@@ -13,16 +13,17 @@ use lib.Dec.{ltb}
 use Rattle.model.specs.Layout.{authenticated}
 use Rattle.model.specs.declared.Terms.{Terms}
 use Rattle.model.specs.declared.Rule.{Rule}
-use Rattle.model.specs.declared.Rule.the-variants.{Standing, Descriptor, Verdict, Stamp, Absent, DataSize, Setting}
+use Rattle.model.specs.declared.PlatMode.{PlatMode}
+use Rattle.model.specs.declared.Rule.the-variants.{Standing, Descriptor, Verdict, Mode, Stamp, Absent, DataSize, Setting}
 use Rattle.model.specs.Lists.{isEmpty, isSome, onSome, orElse}
 use Rattle.model.specs.Name.{Key, sameKey}
 use Rattle.model.specs.Entry.{Value, keyOf, headerSize, rounded, entrySize}
 use Rattle.model.specs.Walk as walk
 use Rattle.model.specs.Region.{maxData, recordBit, sound, entries, values, standing, find}
-use Rattle.model.specs.Request.{Request, requestKey, timeBased, appends, withoutAppend, keyPK, userMode, wantedVerdicts, properAt, dataProper, stampToStore, later}
-use Rattle.model.specs.Change.{Change, nothing, remove, put, deletes, emptyAppend, equalTo, newData, laterOf, newStamp, newValue, changeOf, changeIn, step, steps, isErrorRecord, recordSizes}
+use Rattle.model.specs.Request.{Request, requestKey, timeBased, appends, withoutAppend, modeOf, wantedVerdicts, properAt, dataProper, stampToStore, later}
+use Rattle.model.specs.Change.{Change, nothing, remove, put, deletes, emptyAppend, equalTo, newData, laterOf, newStamp, newValue, changeOf, changeIn, besidePK, changesOf, step, steps, isErrorRecord, recordSizes}
 use Rattle.model.specs.Sides.{owns, sideSizes}
-use Rattle.model.specs.Rules.{firstBroken, rule7, rule8, rule9, rule10, rule11, rule12, rule13, rule18, rule21, wantedOf, requestRules, standingRules, resultRules, itemRules, settingRules, roomRules}
+use Rattle.model.specs.Rules.{firstBroken, rule7, rule8, rule9, rule10, rule11, rule12, rule13, rule18, rule21, rule24Set, wantedOf, requestRules, standingRules, resultRules, itemRules, settingRules, roomRules}
 use Rattle.model.specs.Limits.{Limit}
 use Rattle.model.proofs.Looking.{change-cases}
 use Rattle.model.proofs.Tests.{key-eq}
@@ -40,13 +41,14 @@ use Rattle.policy.specs.Descriptor.{stampOf}
 use Rattle.policy.proofs.Descriptor.{stamp-right, proper-drop}
 use Rattle.decision.specs.declared.Decision.{Decision}
 use Rattle.decision.specs.declared.Decision.the-variants.{Broken, Nothing, Remove, Put}
-use Rattle.decision.specs.Decision.{requestOf, kindOf, decided, itemOf, triedOf, decisionOf}
+use Rattle.decision.specs.Decision.{requestOf, kindOf, decided, itemOf, triedOf, decisionOf, besideBy}
 use Rattle.decision.specs.declared.NewValue.{NewValue}
 use Rattle.decision.specs.declared.Sums.{Sums}
-use Rattle.decision.specs.Parts.{onFound, valueAt, stands, standingBy, notLater, verdictBy, equalBy, kindBy, keptData, stampOver, stampKept, valueBy, leavesBy, newSize, classedBy, oldSums, OldCounts, sumsAfter, roomBy, roomAfter, resultBy, outcomeBy, limitedBy, roomedBy}
+use Rattle.decision.specs.Parts.{onFound, valueAt, stands, modeBy, offsetOf, besideFound, deploysBy, standingBy, notLater, verdictBy, equalBy, kindBy, keptData, stampOver, stampKept, valueBy, leavesBy, newSize, classedBy, oldSums, OldCounts, sumsAfter, roomBy, roomAfter, resultBy, outcomeBy, limitedBy, roomedBy}
 use Rattle.decision.proofs.Broken.{later-broken}
 use Rattle.decision.proofs.Classes.{Class, recordsClass, ownClass, othersClass, all-classes}
-use Rattle.decision.proofs.Old.{stands-some, old-value, mode-standing, stamp-read}
+use Rattle.decision.proofs.Old.{stands-some, old-value, mode-found, stamp-read}
+use Rattle.decision.proofs.Together.{beside-none, beside-here}
 use Rattle.model.proofs.Space.{sizeIf, sizeOf, old-counts, put-sizes}
 
 -- rules 3, 22, 4, 5, 17 and 6
@@ -159,14 +161,13 @@ room-rules : (t : Terms) (size : ℕ) (v : Value) (vs : List Value)
 unfolding roomRules rule18 rule13 steps roomBy
 room-rules t size v vs = rw (all-classes (t .vendor) (t .modem) (step (put v) vs), or-false (isErrorRecord v), or-false (not (isErrorRecord v)))
 
-room-cases : (o : Option Rule) (c : Change) (full : Option Rule) (t : Terms) (size : ℕ) (vs : List Value)
+room-cases : (c : Change) (full : Option Rule) (t : Terms) (size : ℕ) (vs : List Value)
     → ((v : Value) → c ≡ put v → firstBroken (roomRules t size (put v ∷ []) vs) ≡ full)
-    → decided (orElse o (firstBroken (roomRules t size (c ∷ []) vs))) (kindOf c) ≡ roomedBy (decided o (kindOf c)) full
+    → decided (firstBroken (roomRules t size (c ∷ []) vs)) (kindOf c) ≡ roomedBy (kindOf c) full
 unfolding firstBroken roomRules rule18 rule13 steps roomedBy
-room-cases (some rule) c full t size vs h = refl
-room-cases none nothing full t size vs h = refl
-room-cases none (remove k) full t size vs h = refl
-room-cases none (put v) full t size vs h = ap (λ (x : Option Rule). onSome x (λ rule. Broken rule) Put) (h v refl)
+room-cases nothing full t size vs h = refl
+room-cases (remove k) full t size vs h = refl
+room-cases (put v) full t size vs h = ap (λ (x : Option Rule). onSome x (λ rule. Broken rule) Put) (h v refl)
 
 module _ (t : Terms) (q : Request) (r : List ℕ) (sounds : sound r ≡ true) (old : Found) (h : old ≡ foundOf (standing (requestKey q) (entries r))) where
   abbrev vs : List Value
@@ -179,34 +180,35 @@ module _ (t : Terms) (q : Request) (r : List ℕ) (sounds : sound r ≡ true) (o
   there = stands-some r old ∙ ap isSome value
 
   abbrev wanted : List ℕ
-  wanted = wantedVerdicts (t .custom) (q .presence) (isSome (standing keyPK (entries r))) (requestKey q) (q .attributes) (stands old)
+  wanted = wantedVerdicts (t .custom) (q .presence) (modeBy r) (requestKey q) (q .attributes) (stands old)
 
-  wanted-here : wantedOf t q (userMode vs) (find (requestKey q) vs) ≡ wanted
+  wanted-here : wantedOf t q (modeOf vs) (find (requestKey q) vs) ≡ wanted
   wanted-here =
-      ap₂ (λ (m s : Bool). wantedVerdicts (t .custom) (q .presence) m (requestKey q) (q .attributes) s) (sym (mode-standing r sounds)) (sym there)
+      ap₂ (λ (m : PlatMode) (s : Bool). wantedVerdicts (t .custom) (q .presence) m (requestKey q) (q .attributes) s) (sym (mode-found r sounds)) (sym there)
 
   later-here : rule8 (q .attributes) (q .bytes) ≡ false
       → onSome (find (requestKey q) vs) (λ v. not (later (stampToStore q) (v .stamp))) false ≡ notLater r old (stampOf (q .attributes) (q .bytes))
   later-here k = ap (λ (o : Option Value). onSome o (λ v. not (later (stampToStore q) (v .stamp))) false) (sym value) ∙ stamp-numbers r q k old h
 
-  -- rules 7 to 10, by the parts in which they are judged
+  -- rules 7 to 10 and 24, by the parts in which they are judged
   abbrev parts : List (Rule × Bool)
   parts =
       standingBy (t .runtime) (q .attributes) (q .bytes) old
-      ++ verdictBy r old (q .attributes) wanted (q .verdict) (stampOf (q .attributes) (q .bytes))
+      ++ verdictBy r old (requestKey q) (q .attributes) wanted (q .verdict) (stampOf (q .attributes) (q .bytes))
 
-  standing-here : firstBroken (standingRules t q (userMode vs) (find (requestKey q) vs)) ≡ firstBroken parts
+  standing-here : firstBroken (standingRules t q (modeOf vs) (find (requestKey q) vs)) ≡ firstBroken parts
   unfolding standingRules standingBy verdictBy rule10
   standing-here =
       let o : Option Value = find (requestKey q) vs in
-      let w : List ℕ = wantedOf t q (userMode vs) o in
+      let w : List ℕ = wantedOf t q (modeOf vs) o in
       let seven : onSome o (λ v. rule7 (t .runtime) (q .attributes) (v .attributes)) false ≡ onFound old (λ at e. rule7 (t .runtime) (q .attributes) (e .attributes)) false =
       ap (λ (x : Option Value). onSome x (λ v. rule7 (t .runtime) (q .attributes) (v .attributes)) false) (sym value) ∙ standing-numbers r q (t .runtime) old in
       let ten : rule8 (q .attributes) (q .bytes) ≡ false
       → rule10 (q .attributes) w (stampToStore q) o ≡ (not (appends (q .attributes)) && not (isEmpty wanted) && notLater r old (stampOf (q .attributes) (q .bytes))) =
       (λ k. ap₂ (λ (x : List ℕ) (b : Bool). not (appends (q .attributes)) && not (isEmpty x) && b) wanted-here (later-here k)) in
       later-broken
-      ((Standing, onSome o (λ v. rule7 (t .runtime) (q .attributes) (v .attributes)) false) ∷ (Descriptor, rule8 (q .attributes) (q .bytes)) ∷ (Verdict, rule9 w (q .verdict)) ∷ [])
+      ((Standing, onSome o (λ v. rule7 (t .runtime) (q .attributes) (v .attributes)) false) ∷ (Descriptor, rule8 (q .attributes) (q .bytes)) ∷ (Verdict, rule9 w (q .verdict))
+      ∷ (Mode, rule24Set (requestKey q)) ∷ [])
       Stamp (rule10 (q .attributes) w (stampToStore q) o)
       (not (appends (q .attributes)) && not (isEmpty wanted) && notLater r old (stampOf (q .attributes) (q .bytes))) (λ k. ten (unbroken _ 8 k))
       ∙ rw (seven, ap (λ (x : List ℕ). rule9 x (q .verdict)) wanted-here)
@@ -235,13 +237,13 @@ module _ (t : Terms) (q : Request) (r : List ℕ) (sounds : sound r ≡ true) (o
       (ap (λ (x : Option Value). onSome x (λ v. equalTo a (dataProper q) (v .attributes) (v .bytes)) false) (sym value) ∙ equal-numbers r q old)
       ∙ ap (resultBy (stands old) (kindBy r old a (dataProper q))) (sym new-size)
 
-  -- rules 3 to 12, 17 and 22, and the change
+  -- rules 3 to 12, 17, 22 and 24, and the change
   item-here : itemOf t q vs
       ≡ decided (firstBroken (requestRules t q)) (decided (firstBroken parts) (outcomeBy r old (q .attributes) (dataProper q) its-size))
   unfolding itemOf itemRules
   item-here =
       let a : List (Rule × Bool) = requestRules t q in
-      let b : List (Rule × Bool) = standingRules t q (userMode vs) (find (requestKey q) vs) in
+      let b : List (Rule × Bool) = standingRules t q (modeOf vs) (find (requestKey q) vs) in
       let c : List (Rule × Bool) = resultRules q (find (requestKey q) vs) in
       let end : Decision = outcomeBy r old (q .attributes) (dataProper q) its-size in
       ap (λ (o : Option Rule). decided o (kindOf (changeIn q vs))) (broken-append (a ++ b) c)
@@ -372,17 +374,37 @@ module _ (t : Terms) (q : Request) (r : List ℕ) (sounds : sound r ≡ true) (o
       ∙ limited-cases (firstBroken a) b c
       ∙ ap (λ (f : Bool). limitedBy f (decided (firstBroken a) (kindOf c))) (sym (forbidden-here ls))
 
-  pub decision-here : (ls : List Limit)
+  -- what was decided before room, and room after it: of a rule broken before, nothing more is asked
+  pub decision-cases : (ls : List Limit) (full : Option Rule)
+      → (firstBroken (itemRules t q vs ++ settingRules ls q (find (requestKey q) vs)) ≡ none → triedOf ls t q vs ≡ kindOf (changeIn q vs)
+      → decided (firstBroken (roomRules t (length r) (changesOf q vs) vs)) (kindOf (changeIn q vs)) ≡ roomedBy (kindOf (changeIn q vs)) full)
+      → decisionOf ls t q (length r) vs ≡ roomedBy (triedOf ls t q vs) full
+  unfolding decisionOf triedOf roomedBy
+  decision-cases ls full f =
+      let a : List (Rule × Bool) = itemRules t q vs ++ settingRules ls q (find (requestKey q) vs) in
+      ap (λ (o : Option Rule). decided o (kindOf (changeIn q vs))) (broken-append a (roomRules t (length r) (changesOf q vs) vs)) ∙ go (firstBroken a) refl
+    where
+      go : (o : Option Rule) → firstBroken (itemRules t q vs ++ settingRules ls q (find (requestKey q) vs)) ≡ o
+          → decided (orElse o (firstBroken (roomRules t (length r) (changesOf q vs) vs))) (kindOf (changeIn q vs)) ≡ roomedBy (decided o (kindOf (changeIn q vs))) full
+      go (some rule) e = refl
+      go none e = f e (ap (λ (o : Option Rule). decided o (kindOf (changeIn q vs))) e)
+
+  -- with no change of PlatMode
+  pub decision-alone : (ls : List Limit) → besideFound r (triedOf ls t q vs) old (requestKey q) ≡ found.Nothing
       → decisionOf ls t q (length r) vs
       ≡ roomedBy (triedOf ls t q vs) (firstBroken (roomAfter t r old mine (recordBit (q .attributes)) size))
-  unfolding decisionOf triedOf
-  decision-here ls =
+  unfolding changesOf
+  decision-alone ls h′ =
       let c : Change = changeIn q vs in
-      let a : List (Rule × Bool) = itemRules t q vs ++ settingRules ls q (find (requestKey q) vs) in
       let full : Option Rule = firstBroken (roomAfter t r old mine (recordBit (q .attributes)) size) in
-      ap (λ (o : Option Rule). decided o (kindOf c)) (broken-append a (roomRules t (length r) (c ∷ []) vs))
-      ∙ room-cases (firstBroken a) c full t (length r) vs
-      (λ v e. ap (λ (w : Value). firstBroken (roomRules t (length r) (put w ∷ []) vs)) (puts-new v e) ∙ sym room-here)
+      decision-cases ls full
+      (λ e k.
+      let f = sym (ap (λ (d : Decision). besideFound r d old (requestKey q)) k) ∙ h′ in
+      let alone : besidePK c vs ≡ [] =
+      sym (beside-here r sounds q old h) ∙ ap (λ (x : Found). besideBy (offsetOf x) (deploysBy r (kindOf c) x)) f ∙ beside-none (deploysBy r (kindOf c) found.Nothing) in
+      rw alone
+      (room-cases c full t (length r) vs
+      (λ v e. ap (λ (w : Value). firstBroken (roomRules t (length r) (put w ∷ []) vs)) (puts-new v e) ∙ sym room-here)))
 
   -- ---- the value to put
 

@@ -6,15 +6,16 @@ use native.Mathlib.Omega.{arith}
 use mathlib.Core.Path.{_≡_, refl, ap, _∙_, fun-ext}
 use mathlib.Core.Bool.{Bool, true, false, not, cond, _&&_}
 use mathlib.Core.List.{List}
+use lib.ListN.{length}
 use Rattle.model.specs.Layout.{authenticated}
 use Rattle.model.specs.Image.{regionHeaderSize}
 use Rattle.model.specs.Entry.{Value, keyOf}
 use Rattle.model.specs.Region.{entries, values, tailAt}
-use Rattle.model.specs.Change.{spaceOf, isErrorRecord, recordSizes, otherSizes}
+use Rattle.model.specs.Change.{spaceOf, spaceIn, isErrorRecord, recordSizes, otherSizes}
 use Rattle.model.specs.Sides.{owns, sideSizes}
 use Rattle.model.proofs.Space.{sizes, all-sizes, side-sizes}
 use Rattle.values.proofs.Counting.{owns-not, sides-split}
-use Rattle.values.proofs.Sizes.{sizes-before-tail}
+use Rattle.values.proofs.Sizes.{sizes-within, sizes-before-tail}
 use Rattle.decision.specs.declared.Sums.{Sums}
 use Rattle.decision.specs.Parts.{classedBy}
 
@@ -31,6 +32,11 @@ module _ (guid : List ℕ) (m : Bool) where
   pub classes-before-tail : (r : List ℕ)
       → 28 + recordSizes (values (entries r)) + sideSizes guid m (values (entries r)) + sideSizes guid (not m) (values (entries r)) ≤ tailAt r
   classes-before-tail r = omega (arith, sizes-before-tail r, both-sides (values (entries r)))
+
+  -- the side's own take little more than the region
+  pub own-within : (r : List ℕ) → sideSizes guid m (values (entries r)) ≤ length r + 3
+  unfolding spaceIn
+  own-within r = omega (arith, all-classes (values (entries r)), sizes-within authenticated r)
 
 -- a value counts in one of them
 pub classed-once : (error own : Bool) (size : ℕ) → classedBy error own size .records + classedBy error own size .own + classedBy error own size .others ≡ size

@@ -5,6 +5,10 @@ pub mod Broken
 pub mod Old
 -- The sizes of the values by class
 pub mod Classes
+-- Those of some values after changes, and room by them
+pub mod Changing
+-- PlatMode's change that goes with one of PK
+pub mod Together
 -- Room after the tail
 pub mod AfterTail
 -- The decision by the parts in which it is judged
@@ -17,3 +21,9 @@ pub mod Weighing
 pub mod Passing
 -- Room for all items
 pub mod RoomOfItems
+-- Room where PK and PlatMode change together
+pub mod JointRoom
+-- The decision where they do
+pub mod JointDecision
+-- A mode request, by the mode
+pub mod Transitions

@@ -9,21 +9,20 @@ use mathlib.Core.Bool.{Bool, true, false, not, cond, _&&_, _||_, or-false, true�
 use mathlib.Core.List.{List, [], _∷_, _++_}
 use mathlib.Core.Option.{Option, none, some}
 use lib.ListN.{length}
-use lib.Dec.{eqb, ltb}
+use lib.Dec.{eqb}
 use borrow.Author.Tests.{eqb-true, eqb-false, eq-eqb, ne-eqb, not-false}
 use Rattle.model.specs.Layout.{authenticated}
 use Rattle.model.specs.declared.Terms.{Terms}
 use Rattle.model.specs.declared.Rule.{Rule}
-use Rattle.model.specs.declared.Rule.the-variants.{Room, RecordSpace}
+use Rattle.model.specs.declared.Rule.the-variants.{Room}
 use Rattle.model.specs.Lists.{any, all, among, isSome, onSome, orElse}
-use Rattle.model.specs.Image.{regionHeaderSize}
 use Rattle.model.specs.Name.{Key, sameKey}
 use Rattle.model.specs.Entry.{Value, keyOf, entrySize}
 use Rattle.model.specs.Region.{recordBit, sound, entries, values, find}
 use Rattle.model.specs.Request.{Request, requestKey, withoutAppend, runtimeAccess}
 use Rattle.model.specs.Profile.{itemAttributes, sharesName}
 use Rattle.model.specs.Limits.{Limit}
-use Rattle.model.specs.Change.{Change, nothing, remove, put, isNothing, newValue, changeOf, changeIn, step, steps, isErrorRecord, recordSizes}
+use Rattle.model.specs.Change.{Change, nothing, remove, put, isNothing, newValue, changeOf, changeIn, step, steps, isErrorRecord}
 use Rattle.model.specs.Sides.{owns, sideSizes}
 use Rattle.model.specs.Rules.{firstBroken, rule7, rule11, rule13, rule22, unlikeStored, requestRules, standingRules, resultRules, itemRules, settingRules, puts}
 use Rattle.model.specs.Beside.{EachItem, itemsAlone, changesAlone}
@@ -32,20 +31,19 @@ use Rattle.model.proofs.Alone.{InForm, form-cases, form-plain}
 use Rattle.model.proofs.Changes.{steps-distinct}
 use Rattle.model.proofs.Chunks.{sound-parts}
 use Rattle.model.proofs.Encode as encode
-use Rattle.model.proofs.Looking.{change-cases, find-step, other-change}
+use Rattle.model.proofs.Looking.{change-cases, change-own, find-step, other-change}
 use Rattle.model.proofs.Requests.{none-append, broken-append, unbroken, record-append}
-use Rattle.model.proofs.Space.{sizeIf, sizeOf, sizes, without-sizes, old-counts, put-sizes}
+use Rattle.model.proofs.Space.{sizeOf, sizes}
 use Rattle.model.proofs.Values as listing
 use Rattle.session.specs.Said.{termsWith}
 use Rattle.session.specs.declared.Locks.{Locks}
 use Rattle.decision.specs.declared.Decision.the-variants.{Broken, Nothing, Put}
-use Rattle.decision.specs.declared.Sums.{Sums}
 use Rattle.decision.specs.Decision.{decided}
 use Rattle.decision.specs.Parts.{roomBy}
 use Rattle.decision.specs.Profile.{toldOf, weighedOf, goneSize, comesSize, goneSizes, comesSizes, foldedSums, roomedOf}
 use Rattle.decision.proofs.Broken.{kept-here, none-here}
-use Rattle.decision.proofs.Classes.{Class, recordsClass, ownClass, othersClass, all-classes}
-use Rattle.decision.proofs.Assembled.{sumsOf}
+use Rattle.decision.proofs.Classes.{Class, recordsClass, ownClass, othersClass}
+use Rattle.decision.proofs.Changing.{goneIf, comesIf, step-sizes, Moved, moved-room}
 use Rattle.decision.proofs.Passing.{comes-none}
 
 -- ---- the sizes of some values, after changes of different names
@@ -67,34 +65,20 @@ agree-step q (x ∷ rs) ws vs h a =
     (find-step (requestKey x) (changeIn q vs) ws other ∙ a .0, agree-step q rs ws vs (s .1) (a .1))
 
 module _ (p : Value → Bool) where
-  -- of these, what a change takes out by what is there, and what it adds
-  abbrev goneIf : Change → Option Value → ℕ
-  goneIf c old = cond (isNothing c) 0 (sizeOf p old)
-
-  abbrev comesIf : Change → ℕ
-  comesIf nothing = 0
-  comesIf (remove k) = 0
-  comesIf (put v) = sizeIf p v
-
+  -- of some values, what changes take out, and what they add
   abbrev allGone : List Request → List Value → ℕ
   allGone [] vs = 0
-  allGone (q ∷ rs) vs = goneIf (changeIn q vs) (find (requestKey q) vs) + allGone rs vs
+  allGone (q ∷ rs) vs = goneIf p (changeIn q vs) (find (requestKey q) vs) + allGone rs vs
 
   abbrev allCome : List Change → ℕ
   allCome [] = 0
-  allCome (c ∷ cs) = comesIf c + allCome cs
+  allCome (c ∷ cs) = comesIf p c + allCome cs
 
   change-sizes : (q : Request) (vs ws : List Value) → encode.Distinct ws → find (requestKey q) ws ≡ find (requestKey q) vs
-      → sizes p (step (changeIn q vs) ws) + goneIf (changeIn q vs) (find (requestKey q) vs) ≡ sizes p ws + comesIf (changeIn q vs)
-  unfolding changeIn step newValue
+      → sizes p (step (changeIn q vs) ws) + goneIf p (changeIn q vs) (find (requestKey q) vs) ≡ sizes p ws + comesIf p (changeIn q vs)
+  unfolding changeIn
   change-sizes q vs ws d e =
-      let k : Key = requestKey q in
-      let old : Option Value = find k vs in
-      let same : sizeOf p (find k ws) ≡ sizeOf p old = ap (sizeOf p) e in
-      change-cases (λ (c : Change). sizes p (step c ws) + goneIf c old ≡ sizes p ws + comesIf c) q old
-      (omega (arith, same, without-sizes p k ws d))
-      refl
-      (omega (arith, same, put-sizes p (newValue q old) ws d, old-counts p k ws d))
+      rw (← e) (step-sizes p (requestKey q) (changeOf q (find (requestKey q) ws)) ws (change-own q (find (requestKey q) ws)) d)
 
   steps-sizes : (rs : List Request) (vs ws : List Value) → sharesName rs ≡ false → encode.Distinct ws → Agree rs ws vs
       → sizes p (steps (changesAlone rs vs) ws) + allGone rs vs ≡ sizes p ws + allCome (changesAlone rs vs)
@@ -325,27 +309,12 @@ module _ (t : Terms) (told : Key → Terms) (limits : Key → List Limit) (r : L
     pub gone-counts : gone ≤ sideSizes (t .vendor) (t .modem) vs + comes
     gone-counts = omega (arith, own-after)
 
-    sums-after : foldedSums t r gone comes ≡ sumsOf t (steps cs vs)
-    unfolding foldedSums
-    sums-after =
-        let own : sideSizes (t .vendor) (t .modem) vs + comes - gone ≡ sideSizes (t .vendor) (t .modem) (steps cs vs) = omega (arith, own-after) in
-        let records : recordSizes vs ≡ recordSizes (steps cs vs) = omega (arith, class-after t vs (recordsClass (t .vendor) (t .modem)) distinct rs fine apart) in
-        let others : sideSizes (t .vendor) (not (t .modem)) vs ≡ sideSizes (t .vendor) (not (t .modem)) (steps cs vs) =
-        omega (arith, class-after t vs (othersClass (t .vendor) (t .modem)) distinct rs fine apart) in
-        rw (own, records, others)
-
-    room-asked : any (puts (λ v. true)) cs ≡ true
-        → firstBroken (roomBy t (length r) false (foldedSums t r gone comes)) ≡ firstBroken ((Room, rule13 t (length r) cs vs) ∷ [])
-    unfolding roomBy rule13
-    room-asked e =
-        ap (λ (s : Sums). firstBroken (roomBy t (length r) false s)) sums-after
-        ∙ kept-here RecordSpace false ((Room, full) ∷ []) refl
-        ∙ ap (λ (b : Bool). firstBroken ((Room, b) ∷ [])) (sym (rw (any-plain t vs rs fine, e, all-classes (t .vendor) (t .modem) (steps cs vs))))
-      where
-        full : Bool
-        full =
-            ltb (t .share) (sideSizes (t .vendor) (t .modem) (steps cs vs) + t .reserve)
-            || ltb (length r) (regionHeaderSize + recordSizes (steps cs vs) + sideSizes (t .vendor) (t .modem) (steps cs vs) + sideSizes (t .vendor) (not (t .modem)) (steps cs vs))
+    moved : Moved t r cs gone comes
+    moved = record {
+      own = own-after;
+      records = omega (arith, class-after t vs (recordsClass (t .vendor) (t .modem)) distinct rs fine apart);
+      others = omega (arith, class-after t vs (othersClass (t .vendor) (t .modem)) distinct rs fine apart);
+    }
 
     room-unasked : any (puts (λ v. true)) cs ≡ false → rule13 t (length r) cs vs ≡ false
     unfolding rule13
@@ -363,7 +332,7 @@ module _ (t : Terms) (told : Key → Terms) (limits : Key → List Limit) (r : L
         go : (b : Bool) → any (puts (λ v. true)) cs ≡ b
             → cond (eqb comes 0) (cond (eqb gone 0) Nothing Put) (decided (firstBroken (roomBy t (length r) false (foldedSums t r gone comes))) Put)
             ≡ decided (firstBroken ((Room, rule13 t (length r) cs vs) ∷ [])) (cond (all isNothing cs) Nothing Put)
-        go true e = rw (none-comes cs ∙ ap not e, some-changes cs e) (ap (λ (o : Option Rule). decided o Put) (room-asked e))
+        go true e = rw (none-comes cs ∙ ap not e, some-changes cs e) (ap (λ (o : Option Rule). decided o Put) (moved-room t r cs gone comes moved (any-plain t vs rs fine ∙ e) e))
         go false e =
             rw (none-comes cs ∙ ap not e, none-gone t vs rs fine e)
             (sym (ap (λ (o : Option Rule). decided o (cond (all isNothing cs) Nothing Put)) (kept-here Room (rule13 t (length r) cs vs) [] (room-unasked e) ∙ none-here)))

@@ -4,22 +4,25 @@ use mathlib.Core.Bool.{Bool, true, false, not, cond, _&&_, _||_}
 use mathlib.Core.List.{List, [], _∷_, _++_}
 use mathlib.Core.Option.{Option, none, some}
 use lib.ListN.{length, drop}
-use lib.Dec.{ltb}
+use lib.Dec.{eqb, ltb}
+use Rattle.model.specs.declared.PlatMode.{PlatMode}
+use Rattle.model.specs.declared.PlatMode.the-variants as mode
 use Rattle.model.specs.declared.Rule.{Rule}
 use Rattle.model.specs.declared.Terms.{Terms}
-use Rattle.model.specs.declared.Rule.the-variants.{Standing, Descriptor, Verdict, Stamp, Absent, DataSize, Room, RecordSpace, Setting}
-use Rattle.model.specs.Lists.{isEmpty, onSome}
+use Rattle.model.specs.declared.Rule.the-variants.{Standing, Descriptor, Verdict, Mode, Stamp, Absent, DataSize, Room, RecordSpace, Setting}
+use Rattle.model.specs.Lists.{isEmpty, same, onSome}
+use Rattle.model.specs.Name.{Key, sameKey}
 use Rattle.model.specs.Image.{regionHeaderSize}
 use Rattle.model.specs.Entry.{Value, entrySize}
 use Rattle.model.specs.Walk.{entryValue}
-use Rattle.model.specs.Region.{maxData, recordBit, entries, values}
-use Rattle.model.specs.Request.{timeBased, appends, later}
+use Rattle.model.specs.Region.{maxData, recordBit, entries, values, standing}
+use Rattle.model.specs.Request.{keyPK, keyMode, auditMode, deployedMode, timeBased, appends, later}
 use Rattle.model.specs.Change.{deletes, emptyAppend, equalTo, laterOf, recordSizes}
 use Rattle.model.specs.Sides.{sideSizes}
-use Rattle.model.specs.Rules.{rule7, rule8, rule9}
+use Rattle.model.specs.Rules.{rule7, rule8, rule9, rule24Set}
 use Rattle.layout.specs.declared.Entry as numbers
 use Rattle.region.specs.Walk.{entryAt, stampAt}
-use Rattle.values.specs.Found.{oldData}
+use Rattle.values.specs.Found.{foundOf, oldData}
 use Rattle.values.specs.declared.Found.{Found}
 use Rattle.values.specs.declared.Found.the-variants as found
 use Rattle.policy.specs.Descriptor.{stampIn}
@@ -48,6 +51,46 @@ valueAt r old = onFound old (λ at e. some (entryValue (entryAt r at e))) none
 abbrev pub stands : Found → Bool
 stands old = onFound old (λ at e. true) false
 
+-- the byte that is stored under PlatMode is this one, by what was found there
+unfoldable pub storesBy : List ℕ → ℕ → Found → Bool
+storesBy r m there = onFound there (λ at e. eqb (e .attributes) 0x07 && same (entryAt r at e .bytes) (m ∷ [])) false
+
+-- what stands under PK and under PlatMode, and the platform's mode by these
+abbrev pub foundPK : List ℕ → Found
+foundPK r = foundOf (standing keyPK (entries r))
+
+abbrev pub foundMode : List ℕ → Found
+foundMode r = foundOf (standing keyMode (entries r))
+
+unfoldable pub modeBy : List ℕ → PlatMode
+modeBy r =
+    cond
+    (stands (foundPK r))
+    (cond (storesBy r deployedMode (foundMode r)) mode.Deployed mode.User)
+    (cond (storesBy r auditMode (foundMode r)) mode.Audit mode.Setup)
+
+-- the offset of what was found; 0, where no entry is, if nothing was
+abbrev pub offsetOf : Found → ℕ
+offsetOf there = onFound there (λ at e. at) 0
+
+-- a set takes out the value of its name, or puts one where none stands
+abbrev pub movesBy : Decision → Found → Bool
+movesBy (Broken rule) old = false
+movesBy Nothing old = false
+movesBy Remove old = true
+movesBy Put old = not (stands old)
+
+-- what was found of PlatMode that changes with it: where it is PK that comes or goes
+unfoldable pub besideFound : List ℕ → Decision → Found → Key → Found
+besideFound r what old k = cond (movesBy what old && sameKey k keyPK) (foundMode r) found.Nothing
+
+-- a 3 comes in the place of what was found of PlatMode: PK comes in audit mode
+abbrev pub deploysBy : List ℕ → Decision → Found → Bool
+deploysBy r (Broken rule) there = false
+deploysBy r Nothing there = false
+deploysBy r Remove there = false
+deploysBy r Put there = storesBy r auditMode there
+
 -- rules 7 and 8, by whether the phase is runtime, attributes, data and what stands
 unfoldable pub standingBy : Bool → ℕ → List ℕ → Found → List (Rule × Bool)
 standingBy runtime a bytes old =
@@ -57,10 +100,11 @@ standingBy runtime a bytes old =
 unfoldable pub notLater : List ℕ → Found → List ℕ → Bool
 notLater r old stamp = onFound old (λ at e. not (later stamp (stampIn (stampAt r at)))) false
 
--- rules 9 and 10, by what stands, attributes, the verdicts of which one is wanted, the verdict given and the stamp; 10 does not concern appends
-unfoldable pub verdictBy : List ℕ → Found → ℕ → List ℕ → ℕ → List ℕ → List (Rule × Bool)
-verdictBy r old a wanted verdict stamp =
+-- rules 9, 24 and 10, by what stands, the name, attributes, the verdicts of which one is wanted, the verdict given and the stamp; 10 does not concern appends
+unfoldable pub verdictBy : List ℕ → Found → Key → ℕ → List ℕ → ℕ → List ℕ → List (Rule × Bool)
+verdictBy r old k a wanted verdict stamp =
     (Verdict, rule9 wanted verdict)
+    ∷ (Mode, rule24Set k)
     ∷ (Stamp, not (appends a) && not (isEmpty wanted) && notLater r old stamp)
     ∷ []
 

@@ -181,7 +181,7 @@ fn weigh_items(
 }
 
 // The sums after the items, of which those that go and come are the side's own.
-fn after(said: Terms, region: &[u8], gone: usize, comes: usize) -> Sums
+pub(crate) fn after(said: Terms, region: &[u8], gone: usize, comes: usize) -> Sums
     requires { ⌜ (length (now region) ≤ 28672) × (comes ≤ 2 ^ 16)
         × (gone ≤ sideSizes (said .vendor) (said .modem) (values (entries (now region))) + comes) ⌝ }
     ensures { λ r. ⌜ (r ≡ foldedSums said (now (region .entry)) gone comes) × (r .records + r .own + r .others < 2 ^ 63) ⌝ }

@@ -1,28 +1,32 @@
-// The decision on a set over a sound region: the first broken of rules 3 to 13, 17, 18, 21 and 22, or what the set does to the values. That on a profile is in `items`.
+// The decision on a set over a sound region: the first broken of rules 3 to 13, 17, 18, 21, 22 and 24, or what the set does to the values. That on a profile is in `items`.
 ghost use mathlib.Core.Path.{_≡_};
+ghost use mathlib.Core.Logic.{_≢_};
 ghost use mathlib.Core.Bool.{true, cond};
 ghost use mathlib.Core.List.{[], _++_};
+ghost use mathlib.Core.Option.{none};
 ghost use Prim.Native.Nat.{_≤_};
 ghost use lib.ListN.{length};
-ghost use Rattle.model.specs.Lists.{isSome};
 ghost use Rattle.model.specs.Name.{keyed};
 ghost use Rattle.model.specs.Region.{sound, entries, values, tailAt, added, replacing, standing, find};
-ghost use Rattle.model.specs.Request.{keyPK, wantedVerdicts, properOf};
+ghost use Rattle.model.specs.Request.{wantedVerdicts, properOf};
 ghost use Rattle.model.specs.Limits.{limitsIn};
-ghost use Rattle.model.specs.Change.{newValue};
-ghost use Rattle.model.specs.Rules.{firstBroken};
+ghost use Rattle.model.specs.Change.{newValue, changeIn, besidePK};
+ghost use Rattle.model.specs.Rules.{firstBroken, rule22};
 ghost use Rattle.values.specs.Found.{foundOf, elseFound, oldData};
 ghost use Rattle.policy.specs.Descriptor.{stampOf};
-ghost use Rattle.decision.specs.Decision.{requestOf, itemOf, triedOf, decisionOf};
-ghost use Rattle.decision.specs.Parts.{judgedOf, stands, standingBy, verdictBy, newSize, valueBy};
+ghost use Rattle.decision.specs.Decision.{requestOf, itemOf, triedOf, decisionOf, brokenOf, besideBy};
+ghost use Rattle.decision.specs.Parts.{judgedOf, stands, foundMode, modeBy, offsetOf, standingBy, verdictBy, newSize, valueBy};
 use model::Rule;
 use model::Terms;
 use values::Found;
 use values::Places;
 use values::lookup;
 
+mod beside;
 mod change;
 pub mod items;
+mod joint;
+pub mod modes;
 mod rules;
 
 // The first broken rule, or what a set does: nothing, remove the value that stands, put a new one.
@@ -48,11 +52,21 @@ pub struct NewValue {
     pub own: usize,
 }
 
-// A change by numbers: what it is, the places of the name's entries, which it marks or leaves out, and the value that it puts, if it puts one.
+// A change by numbers: what it is, the places of the name's entries, which it marks or leaves out, and the value that it puts, if it puts one. Where PlatMode changes with
+// it, `beside` is the offset of its entry, else 0; and `deploys` says whether a 3 comes in its place.
 pub struct Decided {
     pub what: Decision,
     pub places: Places,
     pub value: NewValue,
+    pub beside: usize,
+    pub deploys: bool,
+}
+
+// What a set comes to, and what of PlatMode changes with it, as above.
+struct Joined {
+    what: Decision,
+    beside: usize,
+    deploys: bool,
 }
 
 // Rounded entry sizes by class: of the error records; and of the other values those of the side that asks, and those of the other side.
@@ -99,7 +113,7 @@ pub struct Weighed {
     pub stores: [bool; 8],
 }
 
-// Rules 7 to 10: the mode is looked up, and the stamp read, only where 7 and 8 are kept.
+// Rules 7 to 10 and 24: the mode is looked up, and the stamp read, only where 7 and 8 are kept.
 fn judge_standing(
     t: Terms,
     region: &[u8],
@@ -112,9 +126,8 @@ fn judge_standing(
     verdict: u32,
 ) -> Judged
     ensures { λ r. ⌜ r ≡ judgedOf (firstBroken (standingBy (t .runtime) attributes (now (bytes .entry)) old
-        ++ verdictBy (now (region .entry)) old attributes
-        (wantedVerdicts (t .custom) presence (isSome (standing keyPK (entries (now (region .entry)))))
-        (keyed (now (name .entry)) (now (vendor .entry))) attributes (stands old))
+        ++ verdictBy (now (region .entry)) old (keyed (now (name .entry)) (now (vendor .entry))) attributes
+        (wantedVerdicts (t .custom) presence (modeBy (now (region .entry))) (keyed (now (name .entry)) (now (vendor .entry))) attributes (stands old))
         verdict (stampOf attributes (now (bytes .entry))))) ⌝ }
 {
     let j = rules::standing(t.runtime, attributes, bytes, old);
@@ -130,13 +143,13 @@ fn judge_standing(
                 change::stands(old),
             );
             let stamp = policy::stamp(attributes, bytes);
-            rules::verdict(region, old, attributes, w, verdict, &stamp)
+            rules::verdict(region, old, name, vendor, attributes, w, verdict, &stamp)
         }
         Judged::Breaks(_) => j,
     }
 }
 
-// Rules 3 to 12, 17 and 22 in their order, then the change. `size` is that of the data that a value to put would have.
+// Rules 3 to 12, 17, 22 and 24 in their order, then the change. `size` is that of the data that a value to put would have.
 fn judge(
     t: Terms,
     region: &[u8],
@@ -180,7 +193,7 @@ fn judge(
     }
 }
 
-// Rules 3 to 12, 17, 22 and 21, by what is there of the name. Whether 21 is broken is asked first, and reported in its place.
+// Rules 3 to 12, 17, 22, 24 and 21, by what is there of the name. Whether 21 is broken is asked first, and reported in its place.
 fn before_room(
     t: Terms,
     limits: &[u8],
@@ -209,7 +222,7 @@ fn before_room(
     Tried { what, size }
 }
 
-// What a set comes to, by what is there of its name: room is asked last.
+// What a set comes to, by what is there of its name: room is asked last, of both changes where PlatMode changes too.
 fn decide_over(
     t: Terms,
     limits: &[u8],
@@ -220,28 +233,54 @@ fn decide_over(
     vendor: &[u8; 16],
     asking: Asking,
     bytes: &[u8],
-) -> Decision
+) -> Joined
     requires { ⌜ sound (now region) ≡ true ⌝ }
     requires { ⌜ length (now region) ≤ 28672 ⌝ }
     requires { ⌜ (tail ≡ tailAt (now region)) × (tail ≤ length (now region)) ⌝ }
+    requires { ⌜ t .foreign ≡ rule22 (t .vendor) (t .modem) (keyed (now name) (now vendor)) ⌝ }
     requires { ⌜ old ≡ foundOf (standing (keyed (now name) (now vendor)) (entries (now region))) ⌝ }
-    ensures { λ r. ⌜ r ≡ decisionOf (limitsIn (now (limits .entry)) (t .rules) (keyed (now (name .entry)) (now (vendor .entry)))) t
+    ensures { λ r. ⌜ (r .what ≡ decisionOf (limitsIn (now (limits .entry)) (t .rules) (keyed (now (name .entry)) (now (vendor .entry)))) t
         (requestOf (now (name .entry)) (now (vendor .entry)) (asking .attributes) (now (bytes .entry)) (asking .presence) (asking .verdict))
-        (length (now (region .entry))) (values (entries (now (region .entry)))) ⌝ }
+        (length (now (region .entry))) (values (entries (now (region .entry)))))
+        × (brokenOf (r .what) ≡ none → besideBy (r .beside) (r .deploys)
+        ≡ besidePK
+        (changeIn (requestOf (now (name .entry)) (now (vendor .entry)) (asking .attributes) (now (bytes .entry)) (asking .presence) (asking .verdict))
+        (values (entries (now (region .entry)))))
+        (values (entries (now (region .entry)))))
+        × (r .beside ≢ 0 → r .beside ≡ offsetOf (foundMode (now (region .entry)))) ⌝ }
 {
     let tried = before_room(t, limits, region, old, name, vendor, asking, bytes);
     let what = tried.what;
-    change::roomed(
-        what,
-        t,
-        region,
-        tail,
-        old,
-        name,
-        vendor,
-        asking.attributes,
-        tried.size,
-    )
+    let there = beside::found(what, region, old, name, vendor);
+    match there {
+        Found::At(at, _) => {
+            let deploys = beside::deploys(what, region, there);
+            let what = beside::roomed(what, t, region, old, there, deploys, name.len(), tried.size);
+            Joined {
+                what,
+                beside: at,
+                deploys,
+            }
+        }
+        Found::Nothing => {
+            let what = change::roomed(
+                what,
+                t,
+                region,
+                tail,
+                old,
+                name,
+                vendor,
+                asking.attributes,
+                tried.size,
+            );
+            Joined {
+                what,
+                beside: 0,
+                deploys: false,
+            }
+        }
+    }
 }
 
 // The decision on a set, by the region and the offset of its tail: the first broken rule, or the change by numbers.
@@ -258,9 +297,16 @@ pub fn decide(
     requires { ⌜ sound (now region) ≡ true ⌝ }
     requires { ⌜ length (now region) ≤ 28672 ⌝ }
     requires { ⌜ (tail ≡ tailAt (now region)) × (tail ≤ length (now region)) ⌝ }
+    requires { ⌜ t .foreign ≡ rule22 (t .vendor) (t .modem) (keyed (now name) (now vendor)) ⌝ }
     ensures { λ r. ⌜ (r .what ≡ decisionOf (limitsIn (now (limits .entry)) (t .rules) (keyed (now (name .entry)) (now (vendor .entry)))) t
         (requestOf (now (name .entry)) (now (vendor .entry)) (asking .attributes) (now (bytes .entry)) (asking .presence) (asking .verdict))
         (length (now (region .entry))) (values (entries (now (region .entry)))))
+        × (brokenOf (r .what) ≡ none → besideBy (r .beside) (r .deploys)
+        ≡ besidePK
+        (changeIn (requestOf (now (name .entry)) (now (vendor .entry)) (asking .attributes) (now (bytes .entry)) (asking .presence) (asking .verdict))
+        (values (entries (now (region .entry)))))
+        (values (entries (now (region .entry)))))
+        × (r .beside ≢ 0 → r .beside ≡ offsetOf (foundMode (now (region .entry))))
         × (r .places .added ≡ foundOf (added (keyed (now (name .entry)) (now (vendor .entry))) (entries (now (region .entry)))))
         × (r .places .replacing ≡ foundOf (replacing (keyed (now (name .entry)) (now (vendor .entry))) (entries (now (region .entry)))))
         × (r .what ≡ Decision.Put
@@ -271,12 +317,15 @@ pub fn decide(
 {
     let places = lookup::places(region, name, vendor);
     let old = lookup::standing(places);
-    let what = decide_over(t, limits, region, tail, old, name, vendor, asking, bytes);
+    let joined = decide_over(t, limits, region, tail, old, name, vendor, asking, bytes);
+    let what = joined.what;
     let value = change::value(region, old, asking.attributes, bytes);
     Decided {
         what,
         places,
         value,
+        beside: joined.beside,
+        deploys: joined.deploys,
     }
 }
 

@@ -1,23 +1,25 @@
-// Rules 3 to 10, 17 and 22: on the call itself and on what stands.
+// Rules 3 to 10, 17, 22 and 24: on the call itself and on what stands. Where a key is named, the platform's mode says which verdict is wanted.
 ghost use mathlib.Core.Path.{_≡_};
-ghost use mathlib.Core.Bool.{false};
+ghost use mathlib.Core.Bool.{false, _&&_};
 ghost use mathlib.Core.List.{[]};
-ghost use Rattle.model.specs.Lists.{isSome};
 ghost use Rattle.model.specs.Name.{keyed};
-ghost use Rattle.model.specs.Region.{entries, standing};
-ghost use Rattle.model.specs.Request.{keyPK, wantedVerdicts};
+ghost use Rattle.model.specs.Request.{deployedMode, wantedVerdicts};
 ghost use Rattle.model.specs.Rules.{firstBroken, requestRules, rule7};
 ghost use Rattle.policy.specs.Verdict.{verdictsOf};
 ghost use Rattle.decision.specs.Decision.{requestOf};
-ghost use Rattle.decision.specs.Parts.{judgedOf, onFound, standingBy, notLater, verdictBy};
+ghost use Rattle.decision.specs.Parts.{judgedOf, onFound, stands, storesBy, foundPK, foundMode, modeBy, standingBy, notLater, verdictBy};
 use crate::Judged;
 use layout::fixed;
+use model::Layout;
 use model::Rule;
 use model::Terms;
 use policy::Wanted;
 use region::walk;
 use values::Found;
 use values::lookup;
+
+// The byte that PlatMode stores in deployed mode.
+const DEPLOYED: u8 = 3;
 
 // Rules 3, 22, 4, 5, 17 and 6, on the call itself.
 pub(crate) fn request(t: Terms, name: &[u8], vendor: &[u8; 16], attributes: u32) -> Judged
@@ -69,7 +71,7 @@ pub fn standing(runtime: bool, attributes: u32, bytes: &[u8], old: Found) -> Jud
 
 // User mode: PK has a value.
 fn user_mode(region: &[u8]) -> bool
-    ensures { λ r. ⌜ r ≡ isSome (standing keyPK (entries (now (region .entry)))) ⌝ }
+    ensures { λ r. ⌜ r ≡ stands (foundPK (now (region .entry))) ⌝ }
 {
     let name = fixed::pk_name();
     let vendor = fixed::global_vendor();
@@ -80,7 +82,42 @@ fn user_mode(region: &[u8]) -> bool
     }
 }
 
-// Verdict wanted. The mode is asked for key names only.
+// What is there of PlatMode.
+pub fn platform(region: &[u8]) -> Found
+    ensures { λ r. ⌜ r ≡ foundMode (now (region .entry)) ⌝ }
+{
+    let name = fixed::mode_name();
+    let vendor = fixed::global_vendor();
+    lookup::find(region, &name, &vendor)
+}
+
+// Whether what is there of PlatMode stores this mode: "other data or attributes count as absent".
+pub fn stores(region: &[u8], there: Found, mode: u8) -> bool
+    ensures { λ r. ⌜ r ≡ storesBy (now (region .entry)) mode there ⌝ }
+{
+    match there {
+        Found::At(at, e) => {
+            if e.attributes != 0x07 {
+                return false;
+            }
+            let one = [mode];
+            slices::equal(walk::data_of(Layout::AUTHENTICATED, region, at, e), &one)
+        }
+        Found::Nothing => false,
+    }
+}
+
+// Whether a platform in user mode is deployed. PlatMode is looked up only beside a PK.
+fn is_deployed(region: &[u8], user: bool) -> bool
+    ensures { λ r. ⌜ r ≡ (user && storesBy (now (region .entry)) deployedMode (foundMode (now (region .entry)))) ⌝ }
+{
+    if user {
+        return stores(region, platform(region), DEPLOYED);
+    }
+    false
+}
+
+// Verdict wanted. PK is looked up for key names only, and PlatMode for those in person: custom mode does not count in deployed.
 pub fn wanted(
     region: &[u8],
     custom: bool,
@@ -90,14 +127,16 @@ pub fn wanted(
     presence: u32,
     stands: bool,
 ) -> Wanted
-    ensures { λ r. ⌜ verdictsOf r ≡ wantedVerdicts custom presence (isSome (standing keyPK (entries (now (region .entry)))))
-        (keyed (now (name .entry)) (now (vendor .entry))) attributes stands ⌝ }
+    ensures { λ r. ⌜ verdictsOf r ≡ wantedVerdicts custom presence (modeBy (now (region .entry))) (keyed (now (name .entry)) (now (vendor .entry))) attributes stands ⌝ }
 {
     if fixed::is_key_name(name, vendor) {
+        let user = user_mode(region);
         if policy::in_person(custom, presence) {
-            return Wanted::Free;
+            if !is_deployed(region, user) {
+                return Wanted::Free;
+            }
         }
-        return policy::key_verdicts(user_mode(region), name, vendor);
+        return policy::key_verdicts(user, name, vendor);
     }
     policy::other_verdicts(attributes, stands)
 }
@@ -115,19 +154,25 @@ fn not_later(region: &[u8], old: Found, stamp: &[u8; 16]) -> bool
     }
 }
 
-// Rules 9 and 10; an append may carry any stamp.
+// Rules 9, 24 and 10; an append may carry any stamp.
 pub fn verdict(
     region: &[u8],
     old: Found,
+    name: &[u8],
+    vendor: &[u8; 16],
     attributes: u32,
     wanted: Wanted,
     given: u32,
     stamp: &[u8; 16],
 ) -> Judged
-    ensures { λ r. ⌜ r ≡ judgedOf (firstBroken (verdictBy (now (region .entry)) old attributes (verdictsOf wanted) given (now (stamp .entry)))) ⌝ }
+    ensures { λ r. ⌜ r ≡ judgedOf (firstBroken (verdictBy (now (region .entry)) old (keyed (now (name .entry)) (now (vendor .entry))) attributes (verdictsOf wanted) given
+        (now (stamp .entry)))) ⌝ }
 {
     if policy::verdict_broken(wanted, given) {
         return Judged::Breaks(Rule::Verdict);
+    }
+    if fixed::is_mode(name, vendor) {
+        return Judged::Breaks(Rule::Mode);
     }
     if policy::appends(attributes) {
         return Judged::Kept;

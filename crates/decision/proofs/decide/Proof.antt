@@ -24,7 +24,7 @@ decide-over-requires c κs =
     let es = entries (now (a .region)) in
     let k = keyed (now (a .name)) (now (a .vendor)) in
     let l = c .before .places .ensures in
-    (p .0, (p .1 .0, (p .1 .1, c .standing .ensures ∙ ap₂ elseFound (l .0) (l .1) ∙ sym (found-else (added k es) (replacing k es)))))
+    (p .0, (p .1 .0, (p .1 .1 .0, (p .1 .1 .1, c .standing .ensures ∙ ap₂ elseFound (l .0) (l .1) ∙ sym (found-else (added k es) (replacing k es))))))
 
 returns : tie.Need-returns
 unfolding standing
@@ -40,11 +40,13 @@ returns c =
     let here = c .before .before .standing .ensures in
     let old = here ∙ ap₂ elseFound (l .0) (l .1) ∙ sym (found-else (added k es) (replacing k es)) in
     let over = c .before .decide-over .ensures in (
-      over,
+      over .0,
+      over .1,
+      over .2,
       l .0,
       l .1,
       λ e. ap (λ (f : Found). valueBy r (now (a .name)) (now (a .vendor)) (now (a .bytes)) f (c .value .result)) (sym here)
-          ∙ value-here (a .t) q r (p .0) found old (put-formed (limitsIn (now (a .limits)) (a .t .rules) k) (a .t) q (length r) (values es) (sym over ∙ e)) (c .value .result) (c .value .ensures),
+          ∙ value-here (a .t) q r (p .0) found old (put-formed (limitsIn (now (a .limits)) (a .t .rules) k) (a .t) q (length r) (values es) (sym (over .0) ∙ e)) (c .value .result) (c .value .ensures),
     )
 
 pub decide-spec : {M : Type 1} → statement M

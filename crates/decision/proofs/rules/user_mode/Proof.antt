@@ -6,7 +6,6 @@ use Rattle.model.specs.Region.{entries, standing}
 use Rattle.model.specs.Request.{keyPK}
 use Rattle.values.specs.Found.{foundOf}
 use Rattle.decision.specs.Parts.{stands}
-use Rattle.decision.proofs.Old.{found-some}
 use borrow.Author.Needs.{needs}
 use Rattle.decision.proofs.rules.user_mode.Statement.{statement}
 use Rattle.decision.proofs.rules.user_mode.Tie as tie
@@ -16,14 +15,14 @@ unfolding keyPK
 returns c =
     let es = entries (now (c .before .before .before .before .before .before .before .before .args .region)) in
     let f = c .before .before .find .ensures ∙ ap (λ (k : Key). foundOf (standing k es)) (ap₂ keyed (c .before .before .before .before .before .before .pk-name .ensures) (c .before .before .before .before .before .global-vendor .ensures)) in
-    sym (sym (found-some (standing keyPK es)) ∙ ap stands (sym f ∙ c .enum-told .given .1))
+    sym (ap stands (sym f ∙ c .enum-told .given .1))
 
 returns-2 : tie.Need-returns-2
 unfolding keyPK
 returns-2 c =
     let es = entries (now (c .before .before .before .before .before .before .before .before .args .region)) in
     let f = c .before .before .find .ensures ∙ ap (λ (k : Key). foundOf (standing k es)) (ap₂ keyed (c .before .before .before .before .before .before .pk-name .ensures) (c .before .before .before .before .before .global-vendor .ensures)) in
-    sym (sym (found-some (standing keyPK es)) ∙ ap stands (sym f ∙ c .enum-told2 .given .1))
+    sym (ap stands (sym f ∙ c .enum-told2 .given .1))
 
 pub user-mode-spec : {M : Type 1} → statement M
 user-mode-spec =
