@@ -52,7 +52,7 @@ module _ {img : List ℕ} {b at used : ℕ} (a : IsReady img b at used) (vs : Li
   has-room : spaceOf vs ≤ 4096 * b
   has-room = omega (arith, room, region-size img b (a .number))
 
-  values-short : length (regionHeader (4096 * b) ++ joined vs) ≤ 4096 * b
+  pub values-short : length (regionHeader (4096 * b) ++ joined vs) ≤ 4096 * b
   values-short = front-short vs valid has-room
 
   -- the region that it is to leave
@@ -65,7 +65,7 @@ module _ {img : List ℕ} {b at used : ℕ} (a : IsReady img b at used) (vs : Li
 
   module _ {l l₁ : List ℕ} {n : ℕ} (w : Wrote (regionHeader (4096 * b) ++ joined vs) 0 l l₁ n) (full : length l ≡ 28672) where
     -- what the compaction asks
-    compact-asked : (n ≤ 4096 * b) × (b ≤ 7) × (length l₁ ≡ 28672)
+    pub compact-asked : (n ≤ 4096 * b) × (b ≤ 7) × (length l₁ ≡ 28672)
     compact-asked = (front-fits vs valid has-room w, a .few, wrote-length w ∙ full)
 
     module _ {c : List ℕ} (x : Wrote (replicate (4096 * b - n) 0xFF) n l₁ c (4096 * b)) where
@@ -85,7 +85,7 @@ module _ {img : List ℕ} {b at used : ℕ} (a : IsReady img b at used) (vs : Li
           (compact-to c b (work img) wanted is-composed)
 
       -- *what was planned*
-      compact-planned : {ops : List Op} {p : Planned} → ops ≡ compactPlan Nothing Nothing b used → p ≡ accepted ops 5 → CompactPlanned img vs c p
+      pub compact-planned : {ops : List Op} {p : Planned} → ops ≡ compactPlan Nothing Nothing b used → p ≡ accepted ops 5 → CompactPlanned img vs c p
       unfolding storesOf storesOfStep block
       compact-planned {ops} {p} o f =
           let ops′ : List Op = compactPlan Nothing Nothing b (usedRecords (work img)) in

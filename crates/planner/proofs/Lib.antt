@@ -21,6 +21,8 @@ pub mod Stored
 pub mod Changed
 -- A compaction with changes folded in
 pub mod Folded
+-- That of a joint change of PK and PlatMode
+pub mod Joined
 -- A put in the tail
 pub mod Tail
 -- The parts of the image that the code cuts, and what a look at them tells

@@ -22,11 +22,11 @@ use Rattle.planner.specs.Asked.{valued, itemValue, storedIf, storedBy}
 
 -- ---- one item
 
-entry-long : (v : Value) → length (v .name) + length (v .bytes) ≤ length (joined (v ∷ []))
+pub entry-long : (v : Value) → length (v .name) + length (v .bytes) ≤ length (joined (v ∷ []))
 unfolding joinedIn entryBytesIn
 entry-long v = simp length-append (omega arith)
 
-joined-one : (v : Value) → entryBytes 0x3F v ≡ joined (v ∷ [])
+pub joined-one : (v : Value) → entryBytes 0x3F v ≡ joined (v ∷ [])
 unfolding joinedIn
 joined-one v = sym (append-nil (entryBytes 0x3F v))
 

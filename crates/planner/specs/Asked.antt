@@ -1,16 +1,18 @@
--- The value that a put stores, those that the items of a profile store, and what the checks of the call leave to them.
+-- The value that a put stores, those that the items of a profile and a joint change of PK and PlatMode store, and what the checks of the call leave to them.
 use Prim.Native.Nat.{ℕ, _≤_}
 use mathlib.Core.Path.{_≡_}
 use mathlib.Core.Bool.{Bool, true, false, cond}
 use mathlib.Core.List.{List, [], _∷_, _++_}
 use lib.ListN.{length}
+use lib.Dec.{eqb}
 use Rattle.model.specs.Image.{regionSize, region}
-use Rattle.model.specs.Lists.{among}
+use Rattle.model.specs.Lists.{among, onSome}
+use Rattle.model.specs.Name.{Key}
 use Rattle.model.specs.Entry.{Value, keyOf, noStamp}
-use Rattle.model.specs.Region.{entries, valuesOf, added, replacing}
-use Rattle.model.specs.Request.{Request}
+use Rattle.model.specs.Region.{entries, valuesOf, added, replacing, standing}
+use Rattle.model.specs.Request.{Request, keyPK, keyMode, modeValue}
 use Rattle.model.specs.Profile.{itemAttributes, sharesName}
-use Rattle.model.specs.Change.{Change, put, changeIn, step, steps, spaceOf}
+use Rattle.model.specs.Change.{Change, remove, put, changeIn, step, steps, spaceOf}
 use Rattle.model.specs.Set.{fitsTail, compactPlan, putPlan}
 use Rattle.model.specs.Answers.{storesOf}
 use Rattle.model.specs.Book.{ClearsOne, isState, isRecord}
@@ -79,3 +81,36 @@ pub record Foldable (img : List ℕ) (b used : ℕ) (rs : List Request) (leave :
   pub places : Folds (region img) rs leave stores
   pub valid : EachItem (λ r. (v : Value) → changeIn r (valuesOf img) ≡ put v → Valid v) rs
   pub room : spaceOf (steps (changesAlone rs (valuesOf img)) (valuesOf img)) ≤ regionSize img
+
+-- 02 (j), "where mode and PK change together it is one compaction, PlatMode last, PK before it": PK's value comes or goes; then PlatMode's comes with a byte, or goes, which is
+-- said by 0
+abbrev pub changePK : Bool → Value → Change
+changePK comes v = cond comes (put v) (remove keyPK)
+
+abbrev pub changeMode : ℕ → Change
+changeMode byte = cond (eqb byte 0) (remove keyMode) (put (modeValue byte))
+
+abbrev pub jointChanges : Bool → Value → ℕ → List Change
+jointChanges comes v byte = changePK comes v ∷ changeMode byte ∷ []
+
+-- the values that come
+abbrev pub storedPK : Bool → Value → List Value
+storedPK comes v = cond comes (v ∷ []) []
+
+abbrev pub storedMode : ℕ → List Value
+storedMode byte = cond (eqb byte 0) [] (modeValue byte ∷ [])
+
+-- the offset of the entry of what stands under a name; 0, where no entry is, if nothing does
+abbrev pub standsAt : Key → List ℕ → ℕ
+standsAt k r = onSome (standing k (entries r)) (λ e. e .at) 0
+
+-- before a joint change is folded in: the image is ready, the offsets are those of what stands, and PK's value, if it comes, is what a region can hold; there is room for
+-- what the changes leave
+pub record Joinable (img : List ℕ) (b used pk byteAt : ℕ) (comes : Bool) (v : Value) (byte : ℕ) : Type 0 where
+  pub tail : ℕ
+  pub ready : IsReady img b tail used
+  pub first : pk ≡ standsAt keyPK (region img)
+  pub second : byteAt ≡ standsAt keyMode (region img)
+  pub named : comes ≡ true → keyOf v ≡ keyPK
+  pub valid : comes ≡ true → Valid v
+  pub room : spaceOf (steps (jointChanges comes v byte) (valuesOf img)) ≤ regionSize img

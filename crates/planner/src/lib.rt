@@ -1,4 +1,4 @@
-// The plans of the calls that store: of a set (`entries`, `put`), a profile, a start-up, a format. A planner has the image shared and no n; what is to be stored it composes
+// The plans of the calls that store: of a set (`entries`, `put`), a profile, a joint change of PK and PlatMode, a start-up, a format. A planner has the image shared and no n; what is to be stored it composes
 // in the content, and its operations are an array in the order in which document 01 has their stores.
 ghost use mathlib.Core.Path.{_≡_};
 ghost use Rattle.planner.specs.Fronts.{begunPlan};
@@ -11,6 +11,7 @@ pub mod compaction;
 pub mod entries;
 pub mod format;
 pub mod items;
+pub mod joint;
 pub mod put;
 pub mod startup;
 
