@@ -8,12 +8,13 @@ use Rattle.model.specs.declared.Session.{Session}
 use Rattle.model.specs.declared.Terms.{Terms}
 use Rattle.model.specs.declared.View.{View}
 use Rattle.model.specs.Name.{Key}
-use Rattle.model.specs.Rules.{viewOf, termsFor}
+use Rattle.model.specs.Rules.{viewOf, termsFor, termsOf}
 use Rattle.model.specs.Beside.{Says}
 use Rattle.session.specs.Said.{barredBy, termsBy, termsWith, viewBy}
 use Rattle.session.specs.declared.Locks.{Locks}
 use Rattle.session.proofs.Phases.{terms-for-said, terms-said, terms-with, view-said}
 use Rattle.engine.specs.Profile.{SaysAll}
+use Rattle.engine.specs.Modes.{SaysModes}
 
 -- of a session, the terms by its parts
 abbrev pub saidTo : Bool → Session → Terms
@@ -45,3 +46,12 @@ all-told m s {t} {held} {locks} e h l d =
       each = λ k. terms-with m s k ∙ rw (sym e, sym (h .0), sym (h .1), sym (h .2), sym l);
       limits = sym d;
     }
+
+-- to a mode request: the terms for no name, and the lock list by its parts
+pub modes-told : (m : Bool) (s : Session) {t : Terms} {held : Locks} {locks : List ℕ} → t ≡ termsFor m s
+    → (held .phase ≡ s .phase) × (held .used ≡ s .count) × (held .sizes ≡ s .sizes)
+    → locks ≡ s .locks
+    → SaysModes m s t held locks
+unfolding termsOf termsWith
+modes-told m s {t} {held} {locks} e h l =
+    record { terms = sym e; bars = λ k. ap (λ (y : Terms). y .barred) (terms-with m s k) ∙ rw (sym (h .0), sym (h .1), sym (h .2), sym l) }

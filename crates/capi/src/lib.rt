@@ -16,17 +16,19 @@ ghost use Rattle.model.specs.Move.{moveAnswer, imageMoved};
 ghost use Rattle.model.specs.Lent.{sessionOf};
 ghost use Rattle.decision.specs.Decision.{requestOf};
 ghost use Rattle.model.specs.Book as book;
-ghost use Rattle.model.specs.Book.{setPlan, getPlan, getsPlan, nextPlan, profilePlan};
+ghost use Rattle.model.specs.Book.{setPlan, getPlan, getsPlan, nextPlan, profilePlan, modePlan};
 ghost use Rattle.recovery.specs.Host.{StartUpPlanned, PlannedFor};
 ghost use Rattle.plan.specs.Planned.{Kept};
 ghost use Rattle.plan.specs.Told.{Told};
 ghost use Rattle.plan.specs.Numbers.{Numbered};
-ghost use Rattle.capi.specs.Numbers.{numbersOf, checkedOf};
+ghost use Rattle.capi.specs.Numbers.{numbersOf, checkedOf, modeNumber, presentOf};
 use decision::Asking;
+use engine::modes;
 use image::Check;
 use model::Answer;
 use model::Context;
 use model::Layout;
+use model::PlatMode;
 use model::Queried;
 use model::Session;
 use model::Setup;
@@ -48,6 +50,13 @@ pub struct Checked {
     pub answer: Answered,
     pub blocks: u32,
     pub tail: u32,
+}
+
+// What is told of the platform's mode, 0 if refused.
+#[repr(C)]
+pub struct Present {
+    pub answer: Answered,
+    pub mode: u32,
 }
 
 // What a get or next-name gives back; next-name has no attributes.
@@ -133,6 +142,35 @@ fn roomed(q: Queried) -> Room
         storage: q.storage,
         remaining: q.remaining,
         largest: q.largest,
+    }
+}
+
+// A mode in numbers: 0 setup, 1 user, 2 audit, 3 deployed.
+fn mode_number(mode: PlatMode) -> u32
+    ensures { λ r. ⌜ r ≡ modeNumber mode ⌝ }
+{
+    match mode {
+        PlatMode::Setup => 0,
+        PlatMode::User => 1,
+        PlatMode::Audit => 2,
+        PlatMode::Deployed => 3,
+    }
+}
+
+#[no_mangle]
+pub extern "C" fn vs_present_mode(image: &[u8]) -> Present
+    ensures { λ r. ⌜ r ≡ presentOf (now (image .entry)) ⌝ }
+{
+    let p = modes::present(image);
+    match p {
+        modes::Platform::Mode(mode) => Present {
+            answer: numbers(Answer::Done(0)),
+            mode: mode_number(mode),
+        },
+        modes::Platform::Refused(rule) => Present {
+            answer: numbers(Answer::Refused(rule)),
+            mode: 0,
+        },
     }
 }
 
@@ -386,6 +424,39 @@ pub extern "C" fn vs_profile(
 }
 
 #[no_mangle]
+pub extern "C" fn vs_mode(
+    context: Context,
+    session: Session,
+    image: &mut [u8],
+    mode: u32,
+    content: &mut [u8; layout::CONTENT],
+) -> Answered
+    ensures { λ r. ⌜ (r ≡ numbersOf (outcome context (modePlan (sideOf context) session mode (now (image .entry))) (now (image .entry))))
+        × (now (image .exit) ≡ imageAfter context (modePlan (sideOf context) session mode (now (image .entry))) (now (image .entry)))
+        × Kept (modePlan (sideOf context) session mode (now (image .entry))) (now (content .entry)) (now (content .exit)) ⌝ }
+{
+    let tenant = session.setup.modem;
+    let said = session::terms_for(
+        session::is_modem(context.side),
+        session.phase,
+        session.setup.custom,
+        session.setup.reserve,
+        session.setup.records,
+        session.setup.share,
+        tenant,
+        session.setup.rules,
+    );
+    let sizes = session.sizes;
+    let held = Locks {
+        phase: session.phase,
+        used: session.count,
+        sizes,
+    };
+    let answer = modes::mode(context, said, held, &session.locks, image, mode, content);
+    numbers(answer)
+}
+
+#[no_mangle]
 pub extern "C" fn vs_format(
     context: Context,
     image: &mut [u8],
@@ -533,6 +604,39 @@ pub extern "C" fn vs_plan_profile(
         file,
         content,
     );
+    plan::in_numbers(planned)
+}
+
+#[no_mangle]
+pub extern "C" fn vs_plan_mode(
+    session: Session,
+    side: u32,
+    image: &[u8],
+    mode: u32,
+    content: &mut [u8; layout::CONTENT],
+) -> HostPlan
+    ensures { λ r. ⌜ PlannedFor (book.mode (isModem side) session mode) (now (image .entry)) (now (content .exit)) r
+        × Kept (modePlan (isModem side) session mode (now (image .entry))) (now (content .entry)) (now (content .exit))
+        × Numbered (modePlan (isModem side) session mode (now (image .entry))) (now (image .entry)) (now (content .entry)) (now (content .exit)) r ⌝ }
+{
+    let tenant = session.setup.modem;
+    let said = session::terms_for(
+        session::is_modem(side),
+        session.phase,
+        session.setup.custom,
+        session.setup.reserve,
+        session.setup.records,
+        session.setup.share,
+        tenant,
+        session.setup.rules,
+    );
+    let sizes = session.sizes;
+    let held = Locks {
+        phase: session.phase,
+        used: session.count,
+        sizes,
+    };
+    let planned = modes::plan_mode(said, held, &session.locks, image, mode, content);
     plan::in_numbers(planned)
 }
 
@@ -761,6 +865,30 @@ pub extern "C" fn vs_profile_lent(
 }
 
 #[no_mangle]
+pub extern "C" fn vs_mode_lent(
+    context: Context,
+    session: &[u8; lent::SESSION],
+    image: &mut [u8],
+    mode: u32,
+    content: &mut [u8; layout::CONTENT],
+) -> Answered
+    ensures { λ r. ⌜ (r
+        ≡ numbersOf (outcome context (modePlan (sideOf context) (sessionOf (now (session .entry))) mode (now (image .entry))) (now (image .entry))))
+        × (now (image .exit)
+        ≡ imageAfter context (modePlan (sideOf context) (sessionOf (now (session .entry))) mode (now (image .entry))) (now (image .entry)))
+        × Kept
+        (modePlan (sideOf context) (sessionOf (now (session .entry))) mode (now (image .entry)))
+        (now (content .entry))
+        (now (content .exit)) ⌝ }
+{
+    let said = lent::terms_for(session, session::is_modem(context.side));
+    let held = lent::locks(session);
+    let locks = lent::places(session);
+    let told = modes::mode(context, said, held, locks, image, mode, content);
+    numbers(told)
+}
+
+#[no_mangle]
 pub extern "C" fn vs_start_up_lent(
     context: Context,
     image: &mut [u8],
@@ -862,6 +990,33 @@ pub extern "C" fn vs_plan_profile_lent(
     let locks = lent::places(session);
     let limits = lent::limits(session);
     let told = engine::items::plan_profile(said, held, locks, limits, image, file, content);
+    plan::in_numbers(told)
+}
+
+#[no_mangle]
+pub extern "C" fn vs_plan_mode_lent(
+    session: &[u8; lent::SESSION],
+    side: u32,
+    image: &[u8],
+    mode: u32,
+    content: &mut [u8; layout::CONTENT],
+) -> HostPlan
+    ensures { λ r. ⌜ PlannedFor (book.mode (isModem side) (sessionOf (now (session .entry))) mode) (now (image .entry)) (now (content .exit)) r
+        × Kept
+        (modePlan (isModem side) (sessionOf (now (session .entry))) mode (now (image .entry)))
+        (now (content .entry))
+        (now (content .exit))
+        × Numbered
+        (modePlan (isModem side) (sessionOf (now (session .entry))) mode (now (image .entry)))
+        (now (image .entry))
+        (now (content .entry))
+        (now (content .exit))
+        r ⌝ }
+{
+    let said = lent::terms_for(session, session::is_modem(side));
+    let held = lent::locks(session);
+    let locks = lent::places(session);
+    let told = modes::plan_mode(said, held, locks, image, mode, content);
     plan::in_numbers(told)
 }
 

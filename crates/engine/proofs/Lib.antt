@@ -19,3 +19,5 @@ pub mod Rooms
 pub mod Starts
 -- A profile, by what was decided of its items
 pub mod Profiling
+-- A mode request, by what was decided of it
+pub mod Requesting

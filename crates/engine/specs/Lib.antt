@@ -7,3 +7,7 @@ pub mod Many
 pub mod Shares
 -- Profiles
 pub mod Profile
+-- Sets
+pub mod Write
+-- Mode requests
+pub mod Modes

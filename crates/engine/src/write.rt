@@ -15,9 +15,10 @@ ghost use Rattle.model.specs.Book.{setPlan, Sized};
 ghost use Rattle.recovery.specs.Interface.{Returned};
 ghost use Rattle.image.specs.Check.{IsReady};
 ghost use Rattle.values.specs.Found.{elseFound};
-ghost use Rattle.planner.specs.Asked.{Asked, PutPlanned};
+ghost use Rattle.planner.specs.Asked.{Asked, PutPlanned, Joinable, FoldPlanned, jointChanges};
 ghost use Rattle.decision.specs.Decision.{requestOf};
-ghost use Rattle.decision.specs.Parts.{valueBy};
+ghost use Rattle.decision.specs.Parts.{valueBy, offsetOf};
+ghost use Rattle.engine.specs.Write.{byteBy};
 ghost use Rattle.plan.specs.Planned.{Kept, Plans};
 use decision::Asking;
 use decision::Decision;
@@ -30,6 +31,7 @@ use model::Rule;
 use model::Terms;
 use plan::Planned;
 use planner::Standing;
+use values::lookup;
 
 // The plan of a value to put that was decided by numbers, over the region of an image that is ready.
 fn plan_put(
@@ -66,6 +68,61 @@ fn plan_put(
     )
 }
 
+// The byte that comes in the place of PlatMode's value: 3, or none.
+fn byte(deploys: bool) -> u8
+    ensures { λ r. ⌜ r ≡ byteBy deploys ⌝ }
+{
+    if deploys {
+        return 3;
+    }
+    0
+}
+
+// The plan of a set of PK with which PlatMode changes, whose entry is at an offset. PK's value, decided by numbers, comes or it goes.
+fn plan_joint(
+    image: &[u8],
+    region: &[u8],
+    standing: Standing,
+    comes: bool,
+    name: &[u8],
+    vendor: &[u8; 16],
+    bytes: &[u8],
+    value: NewValue,
+    beside: usize,
+    deploys: bool,
+    content: &mut [u8],
+) -> Planned
+    requires { ⌜ Joinable (now image) (standing .b) (standing .used) (offsetOf (elseFound (standing .places .added) (standing .places .replacing))) beside comes
+        (valueBy (now region) (now name) (now vendor) (now bytes) (elseFound (standing .places .added) (standing .places .replacing)) value) (byteBy deploys)
+        × (length (now content) ≡ 28672) ⌝ }
+    ensures { λ r. ⌜ FoldPlanned (now (image .entry)) (jointChanges comes
+        (valueBy (now (region .entry)) (now (name .entry)) (now (vendor .entry)) (now (bytes .entry)) (elseFound (standing .places .added) (standing .places .replacing)) value)
+        (byteBy deploys))
+        (now (content .exit)) r ⌝ }
+{
+    let places = standing.places;
+    let stamp = value.stamp;
+    let pk = decision::modes::offset(lookup::standing(places));
+    let kept = decision::kept(region, places, value.keeps);
+    let own = slices::from(bytes, value.own);
+    planner::joint::fold(
+        image,
+        standing.b,
+        standing.used,
+        pk,
+        beside,
+        comes,
+        name,
+        vendor,
+        value.attributes,
+        &stamp,
+        kept,
+        own,
+        byte(deploys),
+        content,
+    )
+}
+
 // What a check found of an image that is ready: its blocks, the offset of its tail, and how many records are used.
 struct Ready {
     b: usize,
@@ -73,7 +130,7 @@ struct Ready {
     used: usize,
 }
 
-// A set over an image that is ready: rules 3 to 13, 17, 18, 21 and 22, then what it does to the values.
+// A set over an image that is ready: rules 3 to 13, 17, 18, 21, 22 and 24, then what it does to the values.
 fn plan_ready(
     terms: Terms,
     limits: &[u8],
@@ -111,25 +168,51 @@ fn plan_ready(
     let what = d.what;
     let places = d.places;
     let value = d.value;
+    let standing = Standing {
+        b: ready.b,
+        tail: ready.tail,
+        used: ready.used,
+        places,
+    };
     match what {
         Decision::Broken(rule) => plan::refuse(rule),
         Decision::Nothing => plan::accept(plan::nothing(), plan::NONE_DECIDES),
-        Decision::Remove => plan::accept(planner::entries::delete(places), 1),
-        Decision::Put => plan_put(
-            image,
-            region,
-            Standing {
-                b: ready.b,
-                tail: ready.tail,
-                used: ready.used,
-                places,
-            },
-            name,
-            vendor,
-            bytes,
-            value,
-            content,
-        ),
+        Decision::Remove => {
+            if d.beside != 0 {
+                return plan_joint(
+                    image,
+                    region,
+                    standing,
+                    false,
+                    name,
+                    vendor,
+                    bytes,
+                    value,
+                    d.beside,
+                    d.deploys,
+                    content,
+                );
+            }
+            plan::accept(planner::entries::delete(places), 1)
+        }
+        Decision::Put => {
+            if d.beside != 0 {
+                return plan_joint(
+                    image,
+                    region,
+                    standing,
+                    true,
+                    name,
+                    vendor,
+                    bytes,
+                    value,
+                    d.beside,
+                    d.deploys,
+                    content,
+                );
+            }
+            plan_put(image, region, standing, name, vendor, bytes, value, content)
+        }
     }
 }
 
