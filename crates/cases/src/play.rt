@@ -6,6 +6,8 @@
 //   U  start-up    custom u8, reserve u32, records u32
 //   S  set         attributes u32, presence u8, verdict u8, vendor 16, name size u16, data size u32, name, data
 //   O  profile     size u32, the file
+//   A  mode        the mode requested, u32
+//   C  the present mode
 //   G  get         buffer size u16, vendor 16, name size u16, name
 //   N  next-name   the same
 //   Q  many-get    buffer size u16, number of names u8 (up to 65), size of all places u16, the size of each name with its GUID u32, the places (144 bytes for each
@@ -39,11 +41,13 @@ use crate::print;
 use crate::rules;
 use crate::tenants;
 use decision::Asking;
+use engine::modes::Platform;
 use model::Answer;
 use model::Context;
 use model::Got;
 use model::Layout;
 use model::Named;
+use model::PlatMode;
 use model::Session;
 use model::Setup;
 use model::Terms;
@@ -204,6 +208,40 @@ fn profile(c: Context, step: &[u8], image: &mut [u8], s: Session) {
         &mut content,
     );
     print_answer(b"profile", answer);
+}
+
+fn mode(c: Context, step: &[u8], image: &mut [u8], s: Session) {
+    let said = said(s, session::is_modem(c.side));
+    let sizes = s.sizes;
+    let held = Locks {
+        phase: s.phase,
+        used: s.count,
+        sizes,
+    };
+    let to = fields::long(step, 5) as u32;
+    let mut content = content();
+    let answer = engine::modes::mode(c, said, held, &s.locks, image, to, &mut content);
+    print_answer(b"mode", answer);
+}
+
+// The number of a mode.
+fn number_of(mode: PlatMode) -> u64 {
+    match mode {
+        PlatMode::Setup => 0,
+        PlatMode::User => 1,
+        PlatMode::Audit => 2,
+        PlatMode::Deployed => 3,
+    }
+}
+
+// The present mode, or the rule that the image breaks.
+fn present(image: &[u8]) {
+    let told = engine::modes::present(image);
+    match told {
+        Platform::Mode(mode) => print::number(b"present done 0 mode ", number_of(mode)),
+        Platform::Refused(rule) => print::number(b"present refused ", model::number(rule) as u64),
+    }
+    print::end();
 }
 
 // A get's answer; of a done one size, attributes and data too.
@@ -371,6 +409,8 @@ fn call(c: Context, step: &[u8], image: &mut [u8], target: &mut [u8], s: Session
         b'F' => format(c, image),
         b'S' => set(c, step, image, s),
         b'O' => profile(c, step, image, s),
+        b'A' => mode(c, step, image, s),
+        b'C' => present(image),
         b'G' => read(c, step, image, s),
         b'N' => read(c, step, image, s),
         b'Q' => read(c, step, image, s),
@@ -436,6 +476,7 @@ fn step_size(step: &[u8]) -> usize
         b'U' => 14,
         b'S' => 33 + fields::short(step, 27) + fields::long(step, 29),
         b'O' => 9 + fields::long(step, 5),
+        b'A' => 9,
         b'G' => 25 + fields::short(step, 23),
         b'N' => 25 + fields::short(step, 23),
         b'Q' => 10 + 4 * fields::small(step, 7) + fields::short(step, 8),
