@@ -3,7 +3,7 @@
 use std::cell::RefCell;
 
 use crate::engine;
-use crate::interface::{Answer, Checked, Context, Key, Listed, Replies, Reply, Request, Session, Setup, Started};
+use crate::interface::{Answer, Checked, Context, Key, Listed, Platform, Replies, Reply, Request, Session, Setup, Started};
 use crate::paper;
 use crate::plan::Content;
 
@@ -20,6 +20,8 @@ pub struct Calls {
     pub next_name: Read,
     pub set: fn(Context, &Session, &mut [u8], &Request) -> Answer,
     pub profile: fn(Context, &Session, &mut [u8], &[u8]) -> Answer,
+    pub mode: fn(Context, &Session, &mut [u8], u32) -> Answer,
+    pub present_mode: fn(&[u8]) -> Platform,
     pub format: fn(Context, &mut [u8]) -> Answer,
     pub start_up: fn(Context, &mut [u8], &Setup) -> Started,
     pub from_plain: Move,
@@ -43,6 +45,8 @@ pub const PAPER: Calls = Calls {
     next_name: paper::next_name,
     set: paper::set,
     profile: paper::profile,
+    mode: paper::mode,
+    present_mode: paper::present_mode,
     format: paper::format,
     start_up: paper::start_up,
     from_plain: paper::from_plain,
@@ -60,19 +64,22 @@ pub const ENGINE: Calls = Calls {
     next_name: engine::next_name,
     set: |context, session, image, request| lent(|content| engine::set(context, session, image, request, content)),
     profile: |context, session, image, file| lent(|content| engine::profile(context, session, image, file, content)),
+    mode: |context, session, image, to| lent(|content| engine::mode(context, session, image, to, content)),
+    present_mode: engine::present_mode,
     format: |context, image| lent(|content| engine::format(context, image, content)),
     start_up: |context, image, setup| lent(|content| engine::start_up(context, image, setup, content)),
     from_plain: engine::from_plain,
     to_plain: engine::to_plain,
 };
 
-/// The engine with its session lent to get, next-name, set and profile.
+/// The engine with its session lent to get, next-name, set, profile and mode request.
 pub const LENT: Calls = Calls {
     who: "lent",
     get: engine::lent::get,
     next_name: engine::lent::next_name,
     set: |context, session, image, request| lent(|content| engine::lent::set(context, session, image, request, content)),
     profile: |context, session, image, file| lent(|content| engine::lent::profile(context, session, image, file, content)),
+    mode: |context, session, image, to| lent(|content| engine::lent::mode(context, session, image, to, content)),
     ..ENGINE
 };
 

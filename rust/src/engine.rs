@@ -3,7 +3,9 @@
 
 use std::mem::{offset_of, size_of};
 
-use crate::interface::{Answer, Checked, Context, Guid, Key, Listed, Replies, Reply, Request, Rule, Session, Setting, Setup, Started, Tenant, NAMES};
+use crate::interface::{
+    Answer, Checked, Context, Guid, Key, Listed, Platform, Replies, Reply, Request, Rule, Session, Setting, Setup, Started, Tenant, NAMES,
+};
 use crate::plan::{Content, Operation, Plan, OPERATIONS};
 
 /// The C structures that are not part of the interface as they stand.
@@ -87,6 +89,12 @@ struct RawChecked {
 }
 
 #[repr(C)]
+struct RawPlatform {
+    answer: RawAnswer,
+    mode: u32,
+}
+
+#[repr(C)]
 struct RawStarted {
     answer: RawAnswer,
     session: Session,
@@ -128,6 +136,7 @@ laid_out!(Item 16 rule 0 size 4 attributes 8 needed 12);
 laid_out!(RawRoom 32 answer 0 storage 16 remaining 20 largest 24);
 laid_out!(RawListed 9352 answer 0 session 16);
 laid_out!(RawChecked 24 answer 0 blocks 16 tail 20);
+laid_out!(RawPlatform 24 answer 0 mode 16);
 laid_out!(RawStarted 9352 answer 0 session 16);
 laid_out!(RawOperation 32 kind 0 at 8 from 16 len 24);
 laid_out!(RawPlan 400 rule 0 deciding 8 operations 16);
@@ -142,8 +151,9 @@ macro_rules! of_form {
 }
 
 #[rustfmt::skip]
-of_form! { 10
+of_form! { 11
     fn vs_check(image: *const u8, image_len: usize) -> RawChecked;
+    fn vs_present_mode(image: *const u8, image_len: usize) -> RawPlatform;
     fn vs_session_new(setup: Setup) -> Session;
     fn vs_phase(session: Session, phase: u32) -> Session;
     fn vs_lock(session: Session, side: u32, name: *const u8, name_len: usize, vendor: *const Guid) -> RawListed;
@@ -157,6 +167,7 @@ of_form! { 10
               vendor: *const Guid, attributes: u32, data: *const u8, data_len: usize, presence: u32, verdict: u32,
               content: *mut Content) -> RawAnswer;
     fn vs_profile(context: Context, session: Session, image: *mut u8, image_len: usize, file: *const u8, file_len: usize, content: *mut Content) -> RawAnswer;
+    fn vs_mode(context: Context, session: Session, image: *mut u8, image_len: usize, mode: u32, content: *mut Content) -> RawAnswer;
     fn vs_format(context: Context, image: *mut u8, image_len: usize, content: *mut Content) -> RawAnswer;
     fn vs_start_up(context: Context, image: *mut u8, image_len: usize, setup: Setup, content: *mut Content) -> RawStarted;
     fn vs_from_plain(image: *const u8, image_len: usize, target: *mut u8, target_len: usize) -> RawAnswer;
@@ -164,6 +175,7 @@ of_form! { 10
     fn vs_plan_set(session: Session, side: u32, image: *const u8, image_len: usize, name: *const u8, name_len: usize, vendor: *const Guid,
                    attributes: u32, data: *const u8, data_len: usize, presence: u32, verdict: u32, content: *mut Content) -> RawPlan;
     fn vs_plan_profile(session: Session, side: u32, image: *const u8, image_len: usize, file: *const u8, file_len: usize, content: *mut Content) -> RawPlan;
+    fn vs_plan_mode(session: Session, side: u32, image: *const u8, image_len: usize, mode: u32, content: *mut Content) -> RawPlan;
     fn vs_plan_start_up(image: *const u8, image_len: usize, setup: Setup, content: *mut Content) -> RawPlan;
     fn vs_plan_format(image: *const u8, image_len: usize, content: *mut Content) -> RawPlan;
     fn vs_query(context: Context, session: Session, image: *const u8, image_len: usize, attributes: u32) -> RawRoom;
@@ -182,11 +194,13 @@ of_form! { 10
                    content: *mut Content) -> RawAnswer;
     fn vs_profile_lent(context: Context, session: *const Session, image: *mut u8, image_len: usize, file: *const u8, file_len: usize,
                        content: *mut Content) -> RawAnswer;
+    fn vs_mode_lent(context: Context, session: *const Session, image: *mut u8, image_len: usize, mode: u32, content: *mut Content) -> RawAnswer;
     fn vs_start_up_lent(context: Context, image: *mut u8, image_len: usize, session: *mut Session, content: *mut Content) -> RawAnswer;
     fn vs_plan_set_lent(session: *const Session, side: u32, image: *const u8, image_len: usize, name: *const u8, name_len: usize, vendor: *const Guid,
                         attributes: u32, data: *const u8, data_len: usize, presence: u32, verdict: u32, content: *mut Content) -> RawPlan;
     fn vs_plan_profile_lent(session: *const Session, side: u32, image: *const u8, image_len: usize, file: *const u8, file_len: usize,
                             content: *mut Content) -> RawPlan;
+    fn vs_plan_mode_lent(session: *const Session, side: u32, image: *const u8, image_len: usize, mode: u32, content: *mut Content) -> RawPlan;
 }
 
 impl RawReply {
@@ -235,6 +249,12 @@ impl RawPlan {
 pub fn check(image: &[u8]) -> Checked {
     let raw = unsafe { vs_check(image.as_ptr(), image.len()) };
     Checked { answer: raw.answer.answer(), blocks: raw.blocks, tail: raw.tail }
+}
+
+/// The mode that an image says.
+pub fn present_mode(image: &[u8]) -> Platform {
+    let raw = unsafe { vs_present_mode(image.as_ptr(), image.len()) };
+    Platform { answer: raw.answer.answer(), mode: raw.mode }
 }
 
 pub fn session_new(setup: &Setup) -> Session {
@@ -305,6 +325,11 @@ pub fn profile(context: Context, session: &Session, image: &mut [u8], file: &[u8
     unsafe { vs_profile(context, *session, image.as_mut_ptr(), image.len(), file.as_ptr(), file.len(), content) }.answer()
 }
 
+/// A request for audit or deployed mode.
+pub fn mode(context: Context, session: &Session, image: &mut [u8], to: u32, content: &mut Content) -> Answer {
+    unsafe { vs_mode(context, *session, image.as_mut_ptr(), image.len(), to, content) }.answer()
+}
+
 pub fn format(context: Context, image: &mut [u8], content: &mut Content) -> Answer {
     unsafe { vs_format(context, image.as_mut_ptr(), image.len(), content) }.answer()
 }
@@ -334,6 +359,11 @@ pub fn plan_set(session: &Session, side: u32, image: &[u8], request: &Request, c
 /// The same of a profile.
 pub fn plan_profile(session: &Session, side: u32, image: &[u8], file: &[u8], content: &mut Content) -> Result<Plan, Rule> {
     unsafe { vs_plan_profile(*session, side, image.as_ptr(), image.len(), file.as_ptr(), file.len(), content) }.plan()
+}
+
+/// The same of a mode request.
+pub fn plan_mode(session: &Session, side: u32, image: &[u8], to: u32, content: &mut Content) -> Result<Plan, Rule> {
+    unsafe { vs_plan_mode(*session, side, image.as_ptr(), image.len(), to, content) }.plan()
 }
 
 /// The same of a start-up, whose session is `session_new`'s.
@@ -406,6 +436,10 @@ pub mod lent {
         unsafe { vs_profile_lent(context, session, image.as_mut_ptr(), image.len(), file.as_ptr(), file.len(), content) }.answer()
     }
 
+    pub fn mode(context: Context, session: &Session, image: &mut [u8], to: u32, content: &mut Content) -> Answer {
+        unsafe { vs_mode_lent(context, session, image.as_mut_ptr(), image.len(), to, content) }.answer()
+    }
+
     /// The session holds the setup, and becomes the fresh one.
     pub fn start_up(context: Context, image: &mut [u8], session: &mut Session, content: &mut Content) -> Answer {
         unsafe { vs_start_up_lent(context, image.as_mut_ptr(), image.len(), session, content) }.answer()
@@ -421,5 +455,9 @@ pub mod lent {
 
     pub fn plan_profile(session: &Session, side: u32, image: &[u8], file: &[u8], content: &mut Content) -> Result<Plan, Rule> {
         unsafe { vs_plan_profile_lent(session, side, image.as_ptr(), image.len(), file.as_ptr(), file.len(), content) }.plan()
+    }
+
+    pub fn plan_mode(session: &Session, side: u32, image: &[u8], to: u32, content: &mut Content) -> Result<Plan, Rule> {
+        unsafe { vs_plan_mode_lent(session, side, image.as_ptr(), image.len(), to, content) }.plan()
     }
 }

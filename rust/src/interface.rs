@@ -5,7 +5,7 @@ use std::fmt;
 pub type Guid = [u8; 16];
 
 /// Rules a call can break, by their numbers. Those of 01 are in checking order; 02's are not: 22 is tried after 3 and, by a start-up, after 2, 17 after 5, 21 and then 18
-/// between 12 and 13, a move tries 1, 19, 20, 13, a profile 25 and 26 after 2, and 23 is met by a store.
+/// between 12 and 13, 24 after 9, a move tries 1, 19, 20, 13, a profile 25 and 26 after 2, a mode request 22, 6, 24, 13 after 2, and 23 is met by a store.
 #[derive(Clone, Copy, PartialEq, Eq, PartialOrd, Ord, Debug)]
 #[repr(u32)]
 pub enum Rule {
@@ -32,12 +32,13 @@ pub enum Rule {
     Setting,
     Tenant,
     Worn,
-    File = 25,
+    Mode,
+    File,
     Twice,
 }
 
 impl Rule {
-    pub const ALL: [Rule; 25] = [
+    pub const ALL: [Rule; 26] = [
         Rule::Length,
         Rule::Unready,
         Rule::Name,
@@ -61,6 +62,7 @@ impl Rule {
         Rule::Setting,
         Rule::Tenant,
         Rule::Worn,
+        Rule::Mode,
         Rule::File,
         Rule::Twice,
     ];
@@ -131,6 +133,12 @@ impl Context {
 pub const BOOT: u32 = 0;
 pub const AFTER_END_OF_DXE: u32 = 1;
 pub const RUNTIME: u32 = 2;
+
+/// 02 (j): the modes. A mode request asks for audit or deployed; of any other number it asks for what 24 refuses.
+pub const SETUP_MODE: u32 = 0;
+pub const USER_MODE: u32 = 1;
+pub const AUDIT_MODE: u32 = 2;
+pub const DEPLOYED_MODE: u32 = 3;
 
 /// Places of the lock list, and the bytes of one.
 pub const PLACES: usize = 16;
@@ -367,4 +375,11 @@ pub struct Checked {
     pub answer: Answer,
     pub blocks: u32,
     pub tail: u32,
+}
+
+/// 02 (j): rules 1 and 2 on an image, and the mode that it says; 0 if refused.
+#[derive(Clone, Copy, PartialEq, Eq, Debug)]
+pub struct Platform {
+    pub answer: Answer,
+    pub mode: u32,
 }

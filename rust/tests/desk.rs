@@ -118,7 +118,7 @@ fn the_desk_answers_alike() {
         *tally.entry(answer).or_default() += 1;
     }
     println!("{} cases: {tally:?}", cases.len());
-    for rule in [3, 4, 5, 7, 11, 12, 13, 17, 21, 22, 25, 26] {
+    for rule in [3, 4, 5, 7, 11, 12, 13, 17, 21, 22, 24, 25, 26] {
         assert!(tally.contains_key(&*format!("refused with {rule}")), "no {rule}: {tally:?}");
     }
     assert!(tally["accepted: one compaction"] > 30 && tally["accepted: nothing differs"] > 10, "{tally:?}");

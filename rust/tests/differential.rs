@@ -13,6 +13,7 @@ use common::book::Book;
 use common::cases::S;
 use common::cuts::places;
 use common::generate::{self, Asked, Name, BLOCK};
+use common::modes::{self, deed, mode_of, DEEDS};
 use common::profiles::Profile;
 use common::random::Random;
 use common::settings::{check_broken, check_kept, is_ruled};
@@ -74,6 +75,21 @@ impl<'t> Pair<'t> {
         let (ours, theirs) = ((PAPER.check)(&self.image), (ENGINE.check)(&self.image));
         assert_eq!(ours, theirs, "check");
         self.count("check", ours.answer);
+        self.present_mode();
+    }
+
+    /// The mode that the image says is that of its values; of one that is refused none is told.
+    fn present_mode(&mut self) {
+        let (ours, theirs) = ((PAPER.present_mode)(&self.image), (ENGINE.present_mode)(&self.image));
+        assert_eq!(ours, theirs, "mode");
+        let mode = match ours.answer {
+            Answer::Done(_) => mode_of(&Book::of(&self.image).values),
+            _ => 0,
+        };
+        assert_eq!((ours.answer, ours.mode), ((PAPER.check)(&self.image).answer, mode), "mode");
+        if ours.answer == Answer::Done(0) {
+            *self.tally.entry(("present", mode.to_string())).or_default() += 1;
+        }
     }
 
     fn get(&mut self, name: &Name, limit: u64, buffer: &[u8]) -> Reply {
@@ -216,6 +232,27 @@ impl<'t> Pair<'t> {
             self.count("profile by the modem", answer);
         }
         answer
+    }
+
+    /// A mode request, or a set or delete of PK. One that is done leaves the values that the book has, in its order.
+    fn change(&mut self, call: &Call, limit: u64) -> Answer {
+        let before = self.image.clone();
+        let answer = self.store(call.what(), call, limit);
+        if let Answer::Done(_) = answer {
+            let (mut book, before) = (Book::of(&before), Book::of(&before));
+            call.feed(&mut book);
+            assert!(Book::of(&self.image) == book, "the values after {call:?}");
+            if let Some(deed) = deed(call, &before, &book) {
+                *self.tally.entry(("change", deed.into())).or_default() += 1;
+            }
+        }
+        self.present_mode();
+        answer
+    }
+
+    fn change_with_stops(&mut self, r: &mut Random, call: &Call) {
+        self.store_with_stops(r, call.what(), call);
+        self.change(call, u64::MAX);
     }
 
     /// Another phase, room and rules from here on, once in some times, with an eye to the next profile.
@@ -399,8 +436,15 @@ fn random_profile(pair: &mut Pair, r: &mut Random) {
     pair.profile(&profile, limit(r));
 }
 
+fn random_change(pair: &mut Pair, r: &mut Random) {
+    let change = modes::change(r, &pair.image);
+    modes::terms(r, &mut pair.session, &pair.image, &change);
+    pair.other_chip(r, &change);
+    pair.change(&change, limit(r));
+}
+
 fn random_call(pair: &mut Pair, r: &mut Random) {
-    match r.below(23) {
+    match r.below(26) {
         0..=2 => random_get(pair, r),
         3..=5 => random_next(pair, r),
         6 => {
@@ -415,7 +459,8 @@ fn random_call(pair: &mut Pair, r: &mut Random) {
         }
         9 => random_lock(pair, r),
         10 => pair.phase(r.pick(&[0, 1, 2, 3, u32::MAX])),
-        20.. => random_profile(pair, r),
+        20..=22 => random_profile(pair, r),
+        23.. => random_change(pair, r),
         _ => {
             let mut asked = generate::asked_on(r, &pair.image);
             asked.side = generate::side(r, &pair.session.setup, asked.name.key());
@@ -430,7 +475,7 @@ fn random_call(pair: &mut Pair, r: &mut Random) {
 /// Any call on any image in any session.
 #[test]
 fn any_call() {
-    let tally = rounds(1000, |r, tally| {
+    let tally = rounds(3000, |r, tally| {
         let image = generate::image(r).0;
         let mut pair = Pair::new(image, generate::session(r), tally);
         pair.check();
@@ -442,14 +487,17 @@ fn any_call() {
     expect_seen(&tally, "set", &["done", "done without stores", "stopped", "refused 23"]);
     let of_a_record = ["done", "done without stores", "stopped", "refused 12", "refused 13", "refused 18", "refused 21", "refused 23"];
     expect_seen(&tally, "set of a record", &of_a_record);
-    for rule in (2..=13).chain([17, 18, 21, 22]) {
+    for rule in (2..=13).chain([17, 18, 21, 22, 24]) {
         expect_seen(&tally, "set", &[&format!("refused {rule}")]);
     }
+    expect_seen(&tally, "mode", &["done", "stopped", "refused 2", "refused 6", "refused 13", "refused 22", "refused 23", "refused 24"]);
+    expect_seen(&tally, "change", &["setup to audit", "user to audit", "user to deployed", "audit to deployed", "PK alone"]);
+    expect_seen(&tally, "present", &["0", "1", "2", "3"]);
     expect_seen(&tally, "set by the modem", &["done", "done without stores", "stopped", "refused 11", "refused 13", "refused 22", "refused 23"]);
     expect_seen(&tally, "set within its rules", &["done", "done without stores"]);
     expect_seen(&tally, "rule 21", &BREACHES);
     expect_seen(&tally, "profile", &["done", "done without stores", "stopped"]);
-    for rule in [2, 3, 4, 5, 6, 7, 11, 12, 13, 17, 21, 22, 23, 25, 26] {
+    for rule in [2, 3, 4, 5, 6, 7, 11, 12, 13, 17, 21, 22, 23, 24, 25, 26] {
         expect_seen(&tally, "profile", &[&format!("refused {rule}")]);
     }
     expect_seen(&tally, "profile by the modem", &["done", "done without stores", "stopped", "refused 13", "refused 22", "refused 23"]);
@@ -463,6 +511,7 @@ fn any_call() {
     expect_seen(&tally, "plan", &["startup refused", "startup that does nothing", "startup that erases", "startup that programs and erases"]);
     expect_seen(&tally, "plan", &["set that fails", "startup that fails", "format that fails", "profile that fails"]);
     expect_seen(&tally, "plan", &["profile refused", "profile that does nothing", "profile that programs and erases"]);
+    expect_seen(&tally, "plan", &["mode refused", "mode that programs", "mode that programs and erases", "mode that fails"]);
 }
 
 /// The same image with one more damage each time: whether a call may use it, what a start-up makes of it, and what is read.
@@ -510,6 +559,10 @@ fn stops() {
                 let profile = generate::profile(r, &pair.session.setup, &pair.image);
                 pair.profile_with_stops(r, &profile);
             }
+            if r.once_in(2) {
+                let change = modes::change(r, &pair.image);
+                pair.change_with_stops(r, &change);
+            }
             let cut = generate::asked_on(r, &pair.image);
             if pair.set(&cut, limit(r)) == Answer::Stopped {
                 pair.start_up_with_stops(r);
@@ -518,10 +571,34 @@ fn stops() {
     });
     expect_seen(&tally, "set", &["done", "done without stores", "stopped", "refused 2", "refused 21", "refused 23"]);
     expect_seen(&tally, "profile", &["done", "done without stores", "stopped", "refused 2", "refused 23", "refused 25"]);
+    expect_seen(&tally, "mode", &["done", "stopped", "refused 2", "refused 23", "refused 24"]);
     expect_seen(&tally, "startup", &["done", "done without stores", "stopped", "refused 2", "refused 23"]);
 }
 
-/// Key names and other authenticated names, in all modes, with all verdicts, presence and custom mode, and descriptors right and damaged.
+/// Mode requests, and sets and deletes of PK, on stores in every mode, with another writer's byte under PlatMode's name or without one.
+#[test]
+fn changes_of_mode() {
+    let tally = rounds(300, |r, tally| {
+        let mut image = if r.once_in(2) { generate::filled(r, 1) } else { generate::empty(1) };
+        let mut pair = Pair::new(vec![], (PAPER.session_new)(&Setup::PLAIN), tally);
+        for _ in 0..6 {
+            modes::leave_byte(r, &mut image);
+            pair.image = image.clone();
+            for _ in 0..5 {
+                pair.session = (PAPER.session_new)(&Setup { custom: r.below(2) as u32, ..generate::lenient(r, image.len()) });
+                random_change(&mut pair, r);
+            }
+            if (PAPER.check)(&pair.image).answer == Answer::Done(0) {
+                image.copy_from_slice(&pair.image);
+            }
+        }
+    });
+    expect_seen(&tally, "mode", &["done", "stopped", "refused 6", "refused 13", "refused 22", "refused 23", "refused 24"]);
+    expect_seen(&tally, "set", &["done", "stopped", "refused 6", "refused 9", "refused 10", "refused 11", "refused 13", "refused 23"]);
+    expect_seen(&tally, "change", &DEEDS);
+}
+
+/// Key names and other authenticated names, in all four modes, with all verdicts, presence and custom mode, and descriptors right and damaged.
 #[test]
 fn authenticated_names() {
     let tally = rounds(200, |r, tally| {
@@ -534,9 +611,14 @@ fn authenticated_names() {
             pair.session.setup.custom = r.pick(&[0, 0, 0, 1]);
             pair.other_rules(r, &asked);
             pair.set(&asked, u64::MAX);
+            if r.once_in(3) {
+                let change = modes::change(r, &pair.image);
+                pair.change(&change, u64::MAX);
+            }
         }
     });
-    expect_seen(&tally, "set", &["done", "refused 7", "refused 8", "refused 9", "refused 10", "refused 11", "refused 21"]);
+    expect_seen(&tally, "set", &["done", "refused 7", "refused 8", "refused 9", "refused 10", "refused 11", "refused 21", "refused 24"]);
+    expect_seen(&tally, "present", &["0", "1", "2", "3"]);
     expect_seen(&tally, "set within its rules", &["done", "done without stores"]);
     expect_seen(&tally, "rule 21", &BREACHES);
 }
@@ -668,6 +750,8 @@ fn lengths() {
                 pair.set(&generate::asked(&mut r), u64::MAX);
                 let profile = generate::profile(&mut r, &Setup::PLAIN, &pair.image);
                 pair.profile(&profile, u64::MAX);
+                let change = modes::change(&mut r, &pair.image);
+                pair.store(change.what(), &change, u64::MAX);
             }
             pair.start_up(u64::MAX, Setup { custom: 3, reserve: 5000, records: 70_000, ..Setup::PLAIN });
             for n in (0..=44).chain([u64::MAX]) {
@@ -686,7 +770,7 @@ fn lengths() {
     expect_seen(&tally, "check", &["done without stores", "refused 1", "refused 2"]);
     expect_seen(&tally, "format", &["done", "stopped", "refused 1"]);
     expect_seen(&tally, "plan", &["format refused", "format that programs and erases", "set refused", "startup refused"]);
-    for call in ["set", "get", "next", "startup", "profile"] {
+    for call in ["set", "get", "next", "startup", "profile", "mode"] {
         expect_seen(&tally, call, &["refused 1"]);
     }
 }

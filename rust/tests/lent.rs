@@ -4,14 +4,16 @@
 mod common;
 
 use common::generate::{asked_on, filled, profile, session, side};
+use common::modes::change;
 use common::random::Random;
+use common::stored::Call;
 use varstore::calls::lent;
 use varstore::engine;
 use varstore::interface::{Answer, Context, Session};
 
 const SESSIONS: usize = 5_000;
-/// Fresh session, phase, lock, get, next-name, set, plan of a set, profile, plan of a profile, start-up.
-const COMPARED: usize = 10;
+/// Fresh session, phase, lock, get, next-name, set, plan of a set, profile, plan of a profile, mode request, plan of a mode request, start-up.
+const COMPARED: usize = 12;
 
 /// A session, sometimes with numbers or bytes of another writer.
 fn foreign(r: &mut Random) -> Session {
@@ -40,7 +42,7 @@ fn same<T: PartialEq + std::fmt::Debug>(what: &str, image: &[u8], ours: impl FnO
 #[test]
 fn lent_calls_are_those_by_value() {
     let mut r = Random::new(0x6E);
-    let (mut compared, mut done, mut one, mut locked) = (0, 0, 0, 0);
+    let (mut compared, mut done, mut one, mut gone, mut locked) = (0, 0, 0, 0, 0);
     for turn in 0..SESSIONS {
         let mut image = filled(&mut r, 1);
         if r.once_in(8) {
@@ -109,6 +111,23 @@ fn lent_calls_are_those_by_value() {
             |i| lent(|content| (engine::lent::plan_profile(&held, asked.side, i, &asked.file, content), *content)),
             |i| lent(|content| (engine::plan_profile(&by_value, asked.side, i, &asked.file, content), *content)),
         );
+        let (to, asking) = match change(&mut r, &image) {
+            Call::Mode { to, side } => (to, side),
+            _ => (r.number() as u32 & 3, side),
+        };
+        let went = same(
+            &format!("turn {turn}: mode"),
+            &image,
+            |i| lent(|content| (engine::lent::mode(limit.by(asking), &held, i, to, content), *content)),
+            |i| lent(|content| (engine::mode(limit.by(asking), &by_value, i, to, content), *content)),
+        );
+        gone += usize::from(matches!(went.0, Answer::Done(_)));
+        let _ = same(
+            &format!("turn {turn}: plan of a mode"),
+            &image,
+            |i| lent(|content| (engine::lent::plan_mode(&held, asking, i, to, content), *content)),
+            |i| lent(|content| (engine::plan_mode(&by_value, asking, i, to, content), *content)),
+        );
         assert!(held == by_value, "turn {turn}: a session that is only read");
         same(
             &format!("turn {turn}: start-up"),
@@ -124,9 +143,9 @@ fn lent_calls_are_those_by_value() {
         );
         compared += COMPARED;
     }
-    assert_eq!(compared, 50_000);
+    assert_eq!(compared, 60_000);
     assert!(
-        done > SESSIONS / 20 && one > SESSIONS / 20 && locked > SESSIONS / 50,
-        "only {done} sets and {one} profiles were done, and {locked} locks made"
+        done > SESSIONS / 20 && one > SESSIONS / 20 && gone > SESSIONS / 50 && locked > SESSIONS / 50,
+        "only {done} sets, {one} profiles and {gone} mode requests were done, and {locked} locks made"
     );
 }

@@ -3,17 +3,20 @@
 
 mod common;
 
-use common::cases::{asked, being_replaced, compacting, crowded, delete, empty, profile, profiling, record, set, with_dirty_tail, with_leftover};
+use common::cases::{
+    asked, being_replaced, compacting, crowded, delete, empty, joint_changes, mode, profile, profiling, record, set, with_dirty_tail, with_leftover,
+};
 use common::cuts::{begun, places, Begun, Cut, Run, Way, START_UP};
 use common::failing::{fail_at, WORN};
 use common::generate::{self, BLOCK};
+use common::modes;
 use common::random::Random;
 use common::rounds::{once, rounds};
 use common::stored::Call;
 use common::tenants::admitting;
 use common::{signed, A, B, NEW, OLD, RATE, RECORD};
 use varstore::calls::{lent, BOTH, ENGINE};
-use varstore::interface::{Answer, Context, Setup};
+use varstore::interface::{Answer, Context, Setup, AUDIT_MODE, DEPLOYED_MODE};
 use varstore::paper::layout::Authenticated;
 use varstore::paper::{request, Page, Store, Stores};
 
@@ -41,12 +44,16 @@ fn stores_of(run: &Run, call: &Call, count: u64) {
 #[test]
 fn numbers_of_stores() {
     let (new, replaced, formatted) = ([75, 39, 22, 13, 10], [77, 41, 24, 16, 12], [28, 14, 7, 4, 2]);
+    // 02 (j): a mode at 28, with a name of 18 bytes and one of data; at 108 over a byte that counts as absent, with 3E before and 3C after it
+    let (first, over) = ([80, 42, 23, 14, 10], [82, 44, 25, 16, 12]);
     for (index, width) in WIDTHS.into_iter().enumerate().chain(OTHERS.map(|width| (0, width))) {
         stores_of(&on(width, empty(1)), &set(RATE, OLD), new[index]);
         stores_of(&on(width, empty(1).with(RATE, OLD)), &set(RATE, NEW), replaced[index]);
         stores_of(&on(width, empty(1).with(RATE, OLD)), &set(RATE, OLD), 0);
         stores_of(&on(width, empty(1).with(RATE, OLD)), &delete(RATE), 1);
         stores_of(&on(width, with_leftover()), &delete(RATE), 2);
+        stores_of(&on(width, empty(1)), &mode(AUDIT_MODE), first[index]);
+        stores_of(&on(width, empty(1).in_audit_mode().with_stray(3)), &mode(AUDIT_MODE), over[index]);
         stores_of(&on(width, empty(1)), &Call::Format, 3 + formatted[index]);
         stores_of(&on(width, empty(7)), &Call::Format, 15 + formatted[index]);
     }
@@ -62,6 +69,7 @@ fn numbers_of_stores_of_compactions() {
         stores_of(&on(width, crowded(1)), &profiling(), 5 + 2 * pages);
         stores_of(&on(width, crowded(2).recorded(64)), &profiling(), 8 + 4 * pages);
         stores_of(&on(width, empty(1).with(RATE, OLD)), &profile(&[(RATE, OLD)]), 0);
+        joint_changes(|| empty(1).with(RATE, OLD)).iter().for_each(|(run, call)| stores_of(&on(width, run.clone()), call, 5 + 2 * pages));
         stores_of(&on(width, with_dirty_tail(1)), &START_UP, 5 + 2 * pages);
         let decided = on(width, crowded(1)).stopped(&compacting(), pages + 2);
         stores_of(&decided, &START_UP, 3 + pages);
@@ -136,6 +144,9 @@ fn cases() -> Vec<(Run, Call)> {
         (with_leftover(), delete(RATE)),
         (empty(1).with(A, &[1; 2048]), set(B, &[2; 1892])),
         (empty(1).with(A, OLD).with_space(1000), record(RECORD, OLD)),
+        (empty(1), mode(AUDIT_MODE)),
+        (empty(1).with(RATE, OLD).in_user_mode(), mode(DEPLOYED_MODE)),
+        (empty(1).in_audit_mode().with_stray(9).with(A, OLD), mode(AUDIT_MODE)),
     ];
     // a tail at each place of a page
     cases.extend((1..5).map(|count| (entries(count), set(RATE, &[0x5A; 23]))));
@@ -144,7 +155,7 @@ fn cases() -> Vec<(Run, Call)> {
 
 /// Cases of long lists: compactions, resumptions and start-ups.
 fn long_cases() -> Vec<(Run, Call)> {
-    vec![
+    let mut cases = vec![
         (crowded(1), compacting()),
         (crowded(1).recorded(64), compacting()),
         (crowded(1), profiling()),
@@ -155,7 +166,9 @@ fn long_cases() -> Vec<(Run, Call)> {
         (crowded(1).stopped(&compacting(), 6000), START_UP),
         (with_dirty_tail(1), START_UP),
         (with_dirty_tail(1).recorded(64).stopped(&START_UP, 3000), START_UP),
-    ]
+    ];
+    cases.extend(joint_changes(|| empty(1).with(RATE, OLD).with(A, &[0xFF; 33])));
+    cases
 }
 
 /// The place of the state of the entry that a list writes into the tail: its deciding mark is 3F there.
@@ -364,12 +377,12 @@ fn calls_without_stores() {
     }
 }
 
-/// Sets, deletes, profiles and start-ups, each on a chip of another width, many of them cut between pages or inside one. After every start-up that is done the image's list of
+/// Sets, deletes, profiles, changes of mode and start-ups, each on a chip of another width, many of them cut between pages or inside one. After every start-up that is done the image's list of
 /// values equals the book.
 #[test]
 fn widths_that_change_in_a_run() {
-    let mut torn = [0; 2];
-    rounds(3, 100, |r| {
+    let mut torn = [0; 3];
+    rounds(3, 200, |r| {
         let mut image = if r.once_in(2) { generate::filled(r, 1) } else { generate::crafted::<Authenticated>(r, 1) };
         let setup = admitting(&image);
         if !matches!((ENGINE.start_up)(Context::NO_LIMIT.paged(16), &mut image, &setup).answer, Answer::Done(_)) {
@@ -382,10 +395,17 @@ fn widths_that_change_in_a_run() {
             run.session = (ENGINE.session_new)(&generate::lenient(r, run.image.len()));
             let mut asked = generate::asked_on(r, &run.image);
             asked.presence = 1;
-            let call = match r.below(6) {
+            let call = match r.below(8) {
                 0 => START_UP,
                 1 | 2 => Call::Profile(generate::profile(r, &run.session.setup, &run.image)),
+                3 | 4 => modes::change(r, &run.image),
                 _ => Call::Set(asked),
+            };
+            let kind = match &call {
+                Call::Profile(_) => 1,
+                Call::Mode { .. } => 2,
+                Call::Set(asked) if asked.name.key() == request::PK => 2,
+                _ => 0,
             };
             let Ok(list) = run.stores(&call) else { continue };
             let after = if r.once_in(2) { list.len() } else { r.below(list.len() + 1) };
@@ -393,7 +413,7 @@ fn widths_that_change_in_a_run() {
             list.make(after as u64, &mut before);
             let left = list.get(after).map_or(vec![], |store| begun(store, &before, true, r));
             let begun = if left.is_empty() { None } else { Some(r.pick(&left)) };
-            torn[usize::from(matches!(call, Call::Profile(_)))] += usize::from(begun.is_some());
+            torn[kind] += usize::from(begun.is_some());
             run.cut(&call, Cut { after, begun }, r);
             if after < list.len() && !r.once_in(3) {
                 run.width = generate::width(r);
@@ -402,5 +422,5 @@ fn widths_that_change_in_a_run() {
         }
         run.recover();
     });
-    assert!(torn[0] > 100 && torn[1] > 30, "{torn:?} stores begun, of profiles the second");
+    assert!(torn[0] > 100 && torn[1] > 30 && torn[2] > 30, "{torn:?} stores begun, of profiles the second, of changes of mode the third");
 }

@@ -10,10 +10,12 @@ use std::collections::BTreeMap;
 
 use common::book::{Book, Value};
 use common::cases::{
-    asked, being_replaced, compacting, crowded, decided, delete, empty, profile, profiling, record, set, with_dirty_tail, with_leftover,
+    asked, being_replaced, by_the_key, compacting, crowded, decided, delete, empty, enrolled, joint_changes, mode, profile, profiling, record, set,
+    with_dirty_tail, with_leftover,
 };
 use common::cuts::{begun, places, Begun, Cut, Garbage, Run, Way, START_UP};
 use common::generate::{self, Asked, Name, BLOCK};
+use common::modes::{self, deed, mode_of, DEEDS};
 use common::random::Random;
 use common::rounds::{once, rounds};
 use common::settings::{check_broken, is_ruled};
@@ -21,7 +23,7 @@ use common::stored::Call;
 use common::tenants::admitting;
 use common::{same_bytes, signed, stamped, A, AUTUMN, B, NEW, OLD, RATE, RECORD, RECORDS, SPRING};
 use varstore::calls::{lent, Calls, Read, BOTH, ENGINE, PAPER};
-use varstore::interface::{Answer, Context, Key, Reply, Rule, Setting, Tenant};
+use varstore::interface::{Answer, Context, Key, Reply, Rule, Setting, Setup, Tenant, AUDIT_MODE, DEPLOYED_MODE};
 use varstore::paper::image::Parts;
 use varstore::paper::layout::Authenticated;
 use varstore::paper::request::{DBX, PK};
@@ -237,6 +239,114 @@ fn resume_of_a_profile() {
     }
 }
 
+/// 02 (j): "A mode alone is stored as a set stores": from setup to audit and from user to deployed, new, and over a byte that counts as absent.
+#[test]
+fn modes_in_the_tail() {
+    cut_everywhere(&empty(1), &mode(AUDIT_MODE), 80);
+    cut_everywhere(&empty(2).with(A, NEW).with(B, &[2; 100]), &mode(AUDIT_MODE), 80);
+    cut_everywhere(&empty(1).with(A, NEW).in_user_mode(), &mode(DEPLOYED_MODE), 80);
+    cut_everywhere(&empty(1).in_audit_mode().with_stray(9).with(A, OLD), &mode(AUDIT_MODE), 82);
+    cut_everywhere(&empty(1).in_deployed_mode().with_stray(2).with(A, OLD), &mode(DEPLOYED_MODE), 82);
+    // what a cut request has left: a byte being replaced, and one beside its leftover
+    let stray = empty(1).in_audit_mode().with_stray(9);
+    cut_everywhere(&stray.clone().stopped(&mode(AUDIT_MODE), 1), &mode(AUDIT_MODE), 81);
+    cut_everywhere(&empty(1).stopped(&mode(AUDIT_MODE), 70), &mode(AUDIT_MODE), 80);
+    cut_everywhere(&empty(1).in_user_mode().stopped(&mode(DEPLOYED_MODE), 70), &by_the_key(NEW), 73);
+}
+
+/// The same where the tail is too short.
+#[test]
+fn mode_by_compaction() {
+    for (run, to) in [
+        (empty(1), AUDIT_MODE),
+        (empty(1).recorded(64), AUDIT_MODE),
+        (empty(1).in_user_mode(), DEPLOYED_MODE),
+        (empty(1).in_audit_mode().with_stray(9), AUDIT_MODE),
+        (empty(1).in_deployed_mode().with_stray(2), DEPLOYED_MODE),
+    ] {
+        let run = nearly_full(run);
+        let stores = 8197 + usize::from(run.image[BLOCK + 63] != 0xFF);
+        cut_after(&run, &mode(to), stores, |list, r| places(list, 61, r));
+    }
+}
+
+/// A region of which 76 bytes of tail are left, and bytes to be won before it.
+fn nearly_full(run: Run) -> Run {
+    let run = run.with(A, &[1; 2000]);
+    let used = (ENGINE.check)(&run.image).tail as usize;
+    let run = run.with(A, &vec![2; BLOCK - 76 - used - 64]);
+    assert_eq!((ENGINE.check)(&run.image).tail as usize, BLOCK - 76);
+    run
+}
+
+/// "where mode and PK change together it is one compaction": cut anywhere, both are as before or both have changed.
+#[test]
+fn user_to_audit_of_one_block() {
+    cut_everywhere(&empty(1).with(A, OLD).in_user_mode().with(B, OLD), &mode(AUDIT_MODE), 8197);
+}
+
+#[test]
+fn audit_to_deployed_of_one_block() {
+    cut_everywhere(&empty(1).with(A, OLD).in_audit_mode().with(B, OLD), &enrolled(NEW), 8197);
+}
+
+#[test]
+fn deployed_to_setup_of_one_block() {
+    cut_everywhere(&empty(1).with(A, OLD).in_deployed_mode().with(B, OLD), &by_the_key(&[]), 8197);
+}
+
+/// All of them, and beside a byte that counts as absent, at the ends of their operations and many places between them; no cut leaves another mode than the two.
+#[test]
+fn mode_and_key_together() {
+    for (run, call) in joint_changes(|| empty(1).with(RATE, OLD).with(A, OLD)) {
+        cut_after(&run, &call, 8197, |list, r| places(list, 61, r));
+        cut_after(&run.clone().recorded(63), &call, 8197, |list, r| places(list, 401, r));
+        cut_after(&run.clone().recorded(64), &call, 8198, |list, r| places(list, 401, r));
+        let mut after = run.clone();
+        after.whole(&call);
+        let modes = [mode_of(&run.book.values), mode_of(&after.book.values)];
+        assert_ne!(modes[0], modes[1], "{call:?}");
+        once(|r| {
+            let list = run.stores(&call).expect("accepted");
+            for place in places(&list, 61, r) {
+                let mut cut = run.clone();
+                cut.cut(&call, Cut { after: place, begun: None }, r);
+                cut.recover();
+                assert_eq!((ENGINE.present_mode)(&cut.image).mode, modes[usize::from(list.deciding().is_some_and(|deciding| deciding < place))]);
+            }
+        });
+    }
+}
+
+#[test]
+fn mode_and_key_together_in_two_and_seven_blocks() {
+    for (run, call) in joint_changes(|| empty(2).with(RATE, OLD).with(A, &[7; 2000])) {
+        cut_after(&run.recorded(64), &call, 16392, |list, r| places(list, 401, r));
+    }
+    for (run, call) in joint_changes(|| empty(7).with(RATE, OLD)) {
+        cut_after(&run, &call, 57361, |list, r| places(list, 16_001, r));
+    }
+}
+
+/// In a full region: PK goes, and 80 bytes of it are PlatMode's.
+#[test]
+fn user_to_audit_in_a_full_region() {
+    let mut run = empty(1);
+    run.whole(&enrolled(&[0x4B; 14]));
+    let run = run.with(A, &[1; 2048]).with(B, &[2; 1812]);
+    assert_eq!((ENGINE.check)(&run.image).tail as usize, BLOCK);
+    cut_after(&run, &mode(AUDIT_MODE), 8197, |list, r| places(list, 61, r));
+    assert_eq!(run.clone().make(&mode(DEPLOYED_MODE), u64::MAX), Answer::Refused(Rule::Room));
+}
+
+/// A start-up that resumes a change of mode, itself cut.
+#[test]
+fn resume_of_a_change_of_mode() {
+    for (run, call) in joint_changes(|| empty(1).with(RATE, OLD).with(A, OLD)) {
+        cut_after(&run.stopped(&call, decided(1) + 2000), &START_UP, BLOCK + 3, |list, r| places(list, 401, r));
+    }
+}
+
 #[test]
 fn tail_write_beside_a_leftover() {
     cut_everywhere(&with_leftover(), &set(RATE, OLD), 78);
@@ -437,7 +547,11 @@ fn cases() -> Vec<(Run, Call)> {
         (crowded(2).recorded(64), profiling()),
         (empty(1).with(A, &[1; 2048]).with(B, &[2; 1892]), profile(&[(RATE, &[5; 1886]), (B, &[])])),
         (crowded(1).stopped(&profiling(), decided(1)), START_UP),
+        (empty(1).with(A, OLD), mode(AUDIT_MODE)),
+        (empty(1).with(A, OLD).in_user_mode(), mode(DEPLOYED_MODE)),
+        (nearly_full(empty(1)), mode(AUDIT_MODE)),
     ];
+    cases.extend(joint_changes(|| empty(1).with(RATE, OLD).with(A, OLD)));
     for (first, second) in [(AUTUMN, SPRING), (SPRING, AUTUMN)] {
         cases.push((with_revocations(1, &first), revoked(0x67, &second, NEW)));
         cases.push((with_revocations(1, &first).with(A, &[1; 2000]).with(B, &[2; 1600]), revoked(0x67, &second, &[0x5A; 60])));
@@ -577,6 +691,17 @@ fn some_profile(run: &mut Run, r: &mut Random) -> Call {
     Call::Profile(profile)
 }
 
+/// A mode request, or a set or delete of PK, in any session; most often in one that refuses little.
+fn some_change(run: &mut Run, r: &mut Random) -> Call {
+    run.session = generate::session(r);
+    let call = modes::change(r, &run.image);
+    if !r.once_in(4) {
+        run.session = (ENGINE.session_new)(&Setup { custom: r.below(2) as u32, ..generate::lenient(r, run.image.len()) });
+        modes::terms(r, &mut run.session, &run.image, &call);
+    }
+    call
+}
+
 /// An image as a done start-up left it, and its b; or one that a move has left, where a start-up finds nothing to do.
 fn some_image(r: &mut Random) -> (Vec<u8>, usize) {
     if r.once_in(8) {
@@ -593,10 +718,13 @@ fn some_image(r: &mut Random) -> (Vec<u8>, usize) {
         _ => generate::filled(r, blocks),
     };
     let setup = admitting(&image);
-    match (ENGINE.start_up)(Context::NO_LIMIT, &mut image, &setup).answer {
-        Answer::Done(_) => (image, blocks),
-        _ => (generate::empty(blocks), blocks),
+    if !matches!((ENGINE.start_up)(Context::NO_LIMIT, &mut image, &setup).answer, Answer::Done(_)) {
+        image = generate::empty(blocks);
     }
+    if r.once_in(3) {
+        modes::leave_byte(r, &mut image);
+    }
+    (image, blocks)
 }
 
 /// How often each thing has happened in the runs.
@@ -604,7 +732,7 @@ type Tally = BTreeMap<&'static str, usize>;
 
 /// One call of a run: whole, or cut.
 fn random_step(run: &mut Run, r: &mut Random, tally: &mut Tally) {
-    let call = match r.below(12) {
+    let call = match r.below(16) {
         0 | 1 => {
             let (side, name) = some_name(run, r);
             let kind = if r.once_in(2) { kind("get", get(run, side, &name), false) } else { kind("next-name", next_name(run, side, &name), false) };
@@ -613,6 +741,7 @@ fn random_step(run: &mut Run, r: &mut Random, tally: &mut Tally) {
         2 => START_UP,
         3 => Call::StartUp(generate::setup(r, &run.image)),
         4 | 5 => some_profile(run, r),
+        6 | 7 => some_change(run, r),
         _ => some_set(run, r),
     };
     let what = call.what();
@@ -633,6 +762,12 @@ fn random_step(run: &mut Run, r: &mut Random, tally: &mut Tally) {
         if what == "profile" && has_stores {
             *tally.entry(if before == run.book { "profile cut before deciding" } else { "profile cut when decided" }).or_default() += 1;
         }
+        if what == "mode" && has_stores {
+            *tally.entry(if before == run.book { "mode cut before deciding" } else { "mode cut when decided" }).or_default() += 1;
+        }
+        if erases && is_joint(&call, &before) {
+            *tally.entry(if before == run.book { "mode and PK cut before deciding" } else { "mode and PK cut when decided" }).or_default() += 1;
+        }
         if ruled && has_stores {
             *tally
                 .entry(if before == run.book { "set within its rules cut before deciding" } else { "set within its rules cut when decided" })
@@ -644,9 +779,12 @@ fn random_step(run: &mut Run, r: &mut Random, tally: &mut Tally) {
         }
         return;
     }
-    let before = run.image.clone();
+    let (before, book) = (run.image.clone(), run.book.clone());
     let answer = run.make(&call, u64::MAX);
     *tally.entry(kind(what, answer, programs && erases)).or_default() += 1;
+    if let (Some(deed), Answer::Done(_)) = (deed(&call, &book, &run.book), answer) {
+        *tally.entry(deed).or_default() += 1;
+    }
     if let (Call::Set(asked), Answer::Refused(Rule::Setting)) = (&call, answer) {
         check_broken(&run.session, asked, &Book::of(&before));
     }
@@ -662,6 +800,18 @@ fn random_step(run: &mut Run, r: &mut Random, tally: &mut Tally) {
         Answer::Refused(Rule::Tenant) => {}
         _ => assert!(what != "start-up", "a start-up in a run is {answer:?} after {:?}", run.cuts),
     }
+}
+
+/// Whether an accepted call changes mode and PK together.
+fn is_joint(call: &Call, before: &Book) -> bool {
+    let mut after = before.clone();
+    match call {
+        Call::Mode { to, .. } => after.mode(*to),
+        Call::Set(asked) if asked.name.key() == PK => after.set(&asked.request()),
+        _ => return false,
+    }
+    let stands = |book: &Book, key| book.values.iter().find(|value| value.name.key() == key).map(|value| value.data.clone());
+    [PK, modes::PLAT_MODE].iter().all(|key| stands(before, *key) != stands(&after, *key))
 }
 
 /// `both`: it programs and erases.
@@ -681,6 +831,14 @@ fn kind(what: &'static str, answer: Answer, both: bool) -> &'static str {
         ("profile", Answer::Refused(Rule::File | Rule::Twice)) => "profile refused for its file",
         ("profile", Answer::Refused(Rule::Room)) => "profile refused for room",
         ("profile", _) => "profile refused by an item",
+        ("mode", Answer::Refused(Rule::Worn)) => "mode failed",
+        ("mode", Answer::Done(_)) if both => "mode done by compaction",
+        ("mode", Answer::Done(_)) => "mode done",
+        ("mode", Answer::Refused(Rule::Unready)) => "mode refused before a start-up",
+        ("mode", Answer::Refused(Rule::Mode)) => "mode refused for its transition",
+        ("mode", Answer::Refused(Rule::Locked)) => "mode refused for a lock",
+        ("mode", Answer::Refused(Rule::Tenant)) => "mode refused to the modem",
+        ("mode", _) => "mode refused for room",
         ("start-up", Answer::Refused(Rule::Worn)) => "start-up failed",
         ("start-up", Answer::Refused(_)) => "start-up refused its shares",
         ("start-up", Answer::Done(0)) => "start-up without stores",
@@ -693,11 +851,11 @@ fn kind(what: &'static str, answer: Answer, both: bool) -> &'static str {
     }
 }
 
-/// Sets, appends, deletes, profiles, gets, next-names and start-ups, in any sessions, many of them cut or failed; the book is checked after every done start-up.
+/// Sets, appends, deletes, profiles, mode requests, gets, next-names and start-ups, in any sessions, many of them cut or failed; the book is checked after every done start-up.
 #[test]
 fn any_call_of_a_run() {
     let mut tally = Tally::new();
-    rounds(15, 200, |r| {
+    rounds(15, 1000, |r| {
         let (image, blocks) = some_image(r);
         let mut former = generate::filled(r, blocks);
         let setup = admitting(&former);
@@ -725,7 +883,28 @@ fn any_call_of_a_run() {
     let profiles =
         ["profile done", "profile done without stores", "profile refused by an item", "profile refused for its file", "profile refused for room"];
     let cut_profiles = ["profile failed", "profile cut before deciding", "profile cut when decided", "profile refused before a start-up"];
-    for thing in [&whole[..], &started, &read, &cut, &failed, &records, &cut_records, &ruled, &cut_ruled, &profiles, &cut_profiles].concat() {
+    let modes = ["mode done", "mode done by compaction", "mode refused for its transition", "mode refused for a lock", "mode refused to the modem"];
+    let cut_modes = ["mode refused for room", "mode failed", "mode cut before deciding", "mode cut when decided", "mode refused before a start-up"];
+    let joint = ["mode and PK cut before deciding", "mode and PK cut when decided"];
+    for thing in [
+        &whole[..],
+        &started,
+        &read,
+        &cut,
+        &failed,
+        &records,
+        &cut_records,
+        &ruled,
+        &cut_ruled,
+        &profiles,
+        &cut_profiles,
+        &modes,
+        &cut_modes,
+        &joint,
+        &DEEDS,
+    ]
+    .concat()
+    {
         assert!(tally.contains_key(thing), "no {thing} in the runs");
     }
 }

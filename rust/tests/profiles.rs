@@ -11,14 +11,12 @@ use common::generate::{self, Asked, Name, BLOCK};
 use common::profiles::{file, item, items, number, settings, sized, Profile};
 use common::random::Random;
 use common::rounds::rounds;
-use common::station::Station;
+use common::station::{image, Station};
 use common::{same_bytes, A, B, NEW, OLD, RATE, RECORD, RECORDS, VENDOR};
 use varstore::calls::{lent, Calls, ENGINE, LENT, PAPER};
 use varstore::engine;
 use varstore::interface::{Answer, Context, Guid, Key, Rule, Session, Setting, Setup, Tenant, AFTER_END_OF_DXE, MODEM, OURS, RUNTIME};
-use varstore::paper::entry::{self, Contents, REPLACED, STATE};
-use varstore::paper::layout::Authenticated;
-use varstore::paper::region;
+use varstore::paper::entry::REPLACED;
 use varstore::paper::request::{DB, KEK, PK};
 
 const TRIGGER: Key = Key { name: b"T\0R\0I\0G\0\0\0", ..RATE };
@@ -63,22 +61,6 @@ fn letter(number: usize) -> Name {
     Name { name: vec![0x61 + number as u8, 0, 0, 0], vendor: VENDOR }
 }
 
-impl Station {
-    /// The names and data of all values, in flash order.
-    fn list(&self) -> Vec<(Name, Vec<u8>)> {
-        Book::of(&self.image).values.into_iter().map(|value| (value.name, value.data)).collect()
-    }
-
-    /// Whether the values are these.
-    fn holds(&self, values: &[(Key, &[u8])]) -> bool {
-        self.list().iter().map(|(name, data)| (name.key(), &data[..])).eq(values.iter().copied())
-    }
-
-    fn given(&self, setup: Setup) -> Station {
-        Station { session: Session { setup, ..self.session }, ..self.clone() }
-    }
-}
-
 /// "A station with the new rate and the old trigger records rubbish": both change in one compaction, and stand last in file order.
 #[test]
 fn a_rate_and_its_trigger() {
@@ -107,18 +89,6 @@ fn what_it_leaves() {
         expected[BLOCK] = 0xF8;
         same_bytes("image", &expected, &station.image);
     }
-}
-
-/// A region of entries in any state, in an image of one block.
-fn image(entries: &[(Key, u8, u32, &[u8; 16], &[u8])]) -> Vec<u8> {
-    let mut bytes = region::header::<Authenticated>(BLOCK).to_vec();
-    for (key, state, attributes, stamp, data) in entries {
-        let at = bytes.len();
-        entry::write::<Authenticated>(&mut bytes, *key, &Contents { attributes: *attributes, stamp, old: data, new: &[] });
-        bytes[at + STATE] = *state;
-    }
-    bytes.resize(3 * BLOCK, 0xFF);
-    bytes
 }
 
 /// "up to eight settings": none is done without stores, nine are not of the form.

@@ -7,6 +7,7 @@ mod common;
 use common::book::{Book, Value};
 use common::cuts::{begun, Cut, Run, Way};
 use common::generate::{self, Asked, Name, BLOCK};
+use common::modes;
 use common::profiles::Profile;
 use common::random::Random;
 use common::rounds::rounds;
@@ -40,11 +41,6 @@ const FOREIGN: Answer = refused(Rule::Tenant);
 const NO_ROOM: Answer = refused(Rule::Room);
 
 impl Station {
-    /// The same store in another setup, in whatever phase it is.
-    fn given(&self, setup: Setup) -> Station {
-        Station { session: Session { setup, ..self.session }, ..self.clone() }
-    }
-
     /// The key after one, as a side is shown it: the GUID and name.
     fn next(&self, key: Key) -> Result<Vec<u8>, Rule> {
         let mut buffer = [0; 144];
@@ -604,6 +600,7 @@ fn a_station_without_a_modem() {
 enum Act {
     Set(Asked),
     Profile(Profile),
+    Mode { to: u32, side: u32 },
     Get(u32, Name),
     Many(u32, Vec<Name>),
     Next(u32, Name),
@@ -617,6 +614,7 @@ impl Act {
         match self {
             Act::Set(asked) => Some(asked.side == MODEM),
             Act::Profile(profile) => Some(profile.side == MODEM),
+            Act::Mode { side, .. } => Some(*side == MODEM),
             Act::Get(side, _) | Act::Next(side, _) | Act::Lock(side, _) | Act::Many(side, _) => Some(*side == MODEM),
             Act::Phase(_) => None,
         }
@@ -662,6 +660,7 @@ impl World {
         match act {
             Act::Set(asked) => plain((self.calls.set)(Context::NO_LIMIT.by(asked.side), &self.session, &mut self.image, &asked.request())),
             Act::Profile(profile) => plain((self.calls.profile)(Context::NO_LIMIT.by(profile.side), &self.session, &mut self.image, &profile.file)),
+            Act::Mode { to, side } => plain((self.calls.mode)(Context::NO_LIMIT.by(*side), &self.session, &mut self.image, *to)),
             Act::Get(side, name) => read(self.calls.get, *side, name),
             Act::Many(side, names) => several(*side, names),
             Act::Next(side, name) => read(self.calls.next_name, *side, name),
@@ -705,13 +704,18 @@ fn some_name(r: &mut Random, values: &[Value]) -> Name {
 fn some_act(r: &mut Random, setup: &Setup, image: &[u8], values: &[Value], locks: usize) -> Act {
     let name = some_name(r, values);
     let side = generate::side(r, setup, name.key());
-    match r.below(16) {
+    match r.below(18) {
         _ if r.once_in(locks) => Act::Lock(side, name),
         0 => Act::Get(side, name),
         1 => Act::Many(side, (0..r.below(12)).map(|_| some_name(r, values)).collect()),
         2..=4 => Act::Next(side, name),
         5 if r.once_in(4) => Act::Phase(r.pick(&[AFTER_END_OF_DXE, RUNTIME])),
         6..=8 => Act::Profile(generate::profile(r, setup, image)),
+        9 | 10 => match modes::change(r, image) {
+            Call::Mode { to, side } => Act::Mode { to, side },
+            Call::Set(asked) => Act::Set(asked),
+            other => panic!("no change of mode: {other:?}"),
+        },
         _ => {
             let mut asked = generate::asked(r);
             if !values.is_empty() && r.once_in(3) {
@@ -752,7 +756,7 @@ fn shared(r: &mut Random) -> (Vec<u8>, Setup) {
 /// start-up in which one side asks the same, with the phase given, and the other asks other things, or nothing.
 #[test]
 fn non_interference() {
-    let (mut histories, mut heard, mut rooms, mut locks, mut profiles) = (0, 0, 0, 0, [0; 3]);
+    let (mut histories, mut heard, mut rooms, mut locks, mut profiles, mut modes) = (0, 0, 0, 0, [0; 3], [0; 3]);
     rounds(4, 200, |r| {
         let (image, setup) = shared(r);
         let values = Book::of(&image).values;
@@ -784,8 +788,11 @@ fn non_interference() {
                 }
                 heard += expected.len();
                 for ((told, _), act) in expected.iter().zip(&alone) {
-                    if let (Act::Profile(_), place) = (act, [None, Some(Rule::Room)].iter().position(|refused| *refused == told.refused)) {
-                        profiles[place.unwrap_or(2)] += 1;
+                    let place = [None, Some(Rule::Room)].iter().position(|refused| *refused == told.refused).unwrap_or(2);
+                    match act {
+                        Act::Profile(_) => profiles[place] += 1,
+                        Act::Mode { .. } => modes[place] += 1,
+                        _ => {}
                     }
                 }
                 rooms += expected.iter().filter(|(told, _)| told.refused == Some(Rule::Room)).count();
@@ -793,9 +800,11 @@ fn non_interference() {
             }
         }
     });
-    println!("{histories} pairs of histories, {heard} acts, {rooms} without room, {locks} without a lock; profiles done, without room and else refused: {profiles:?}");
+    println!("{histories} pairs of histories, {heard} acts, {rooms} without room, {locks} without a lock");
+    println!("done, without room and else refused: profiles {profiles:?}, mode requests {modes:?}");
     assert!(rooms > 200 && locks > 20, "{rooms} acts without room, {locks} without a lock");
     assert!(profiles[0] > 200 && profiles[1] > 20, "profiles: {profiles:?}");
+    assert!(modes[0] > 50 && modes[1] > 5 && modes[2] > 50, "mode requests: {modes:?}");
 }
 
 /// The premises are needed: where shares do not fit, or values stand above one, a side is told of the other.
@@ -826,9 +835,10 @@ fn shares_are_kept() {
             asked.presence = 1;
             asked.side = generate::side(r, &setup, asked.name.key());
             let profile = generate::profile(r, &setup, &run.image);
-            let (modem, call) = match r.below(6) {
+            let (modem, call) = match r.below(8) {
                 0 => (false, Call::StartUp(setup)),
                 1 | 2 => (profile.side == MODEM, Call::Profile(profile)),
+                3 | 4 => (false, modes::change(r, &run.image)),
                 _ => (asked.side == MODEM, Call::Set(asked)),
             };
             let Ok(list) = run.stores(&call) else { continue };

@@ -9,6 +9,7 @@
 //!     session and startup also share, modem, share1 and reserve1 (02 (f): our share, the modem's GUID, share and reserve); set, get, next and lock also side
 //!     many names buflen fill n, and side (02 (g): names as name/guid joined by `;`, which may be more than 64; `-` none)
 //!     profile file dead w n, and side (02 (l): file is the file's bytes)
+//!     mode to dead w n, and side (02 (j): to is 2 for audit, 3 for deployed; others ask for what 24 refuses)
 //!     move src to (02 (d): from the image in slot src into the current one; to is `new` or `plain`)
 //!
 //! A session or startup without shares is that of a station without a modem: our share is what 28 and H leave of L, the rest 0.
@@ -196,6 +197,7 @@ impl Player {
             "next" => self.read(line, self.calls.next_name),
             "many" => self.many(line),
             "profile" => self.store(line, &Call::Profile(Profile { file: line.bytes("file"), side: line.side() })),
+            "mode" => self.store(line, &Call::Mode { to: line.number("to"), side: line.side() }),
             "startup" => self.start_up(line),
             "format" => self.store(line, &Call::Format),
             "lock" => self.lock(line),
@@ -456,7 +458,13 @@ fn sixty_four_settings_in_one_call() {
 /// 02 (l): up to eight settings as one change.
 #[test]
 fn a_station_profile_as_one_change() {
-    run_file("l.txt", 399, 0);
+    run_file("l.txt", 399, 3);
+}
+
+/// 02 (j): audit and deployed modes.
+#[test]
+fn audit_and_deployed_modes() {
+    run_file("j.txt", 608, 0);
 }
 
 #[test]

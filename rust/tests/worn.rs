@@ -9,18 +9,20 @@ mod common;
 use std::collections::BTreeMap;
 
 use common::cases::{
-    asked, being_replaced, compacting, crowded, decided, delete, empty, profile, profiling, record, set, with_dirty_tail, with_leftover,
+    asked, being_replaced, compacting, crowded, decided, delete, empty, joint_changes, mode, profile, profiling, record, set, with_dirty_tail,
+    with_leftover,
 };
 use common::cuts::{places, Run, Way, START_UP};
 use common::failing::{fail_at, one_by_one, WORN};
 use common::generate::{self, BLOCK};
+use common::modes;
 use common::random::Random;
 use common::rounds::{once, rounds};
 use common::stored::{carry_out, Call};
 use common::tenants::admitting;
 use common::{signed, A, B, NEW, OLD, RATE, RECORD, VENDOR};
 use varstore::calls::{lent, Calls, BOTH, ENGINE};
-use varstore::interface::{Answer, Context, Key, Rule, Setup, DEAD};
+use varstore::interface::{Answer, Context, Key, Rule, Setup, AUDIT_MODE, DEAD, DEPLOYED_MODE};
 use varstore::paper::layout::Authenticated;
 use varstore::paper::{self, request, Made, Store};
 
@@ -81,6 +83,18 @@ fn profiles() {
     fail_in_compaction(&crowded(1).recorded(64), &profiling(), 8198);
     fail_in_compaction(&crowded(2), &profiling(), 16391);
     fail_in_compaction(&empty(1).with(RATE, OLD), &profile(&[(A, NEW), (RATE, &[])]), 8197);
+}
+
+/// 02 (j): a mode alone fails as a set does; where mode and PK change together the whole change fails, at that store.
+#[test]
+fn changes_of_mode() {
+    fail_everywhere(&empty(1).with(A, OLD), &mode(AUDIT_MODE), 80);
+    fail_everywhere(&empty(1).with(A, OLD).in_user_mode(), &mode(DEPLOYED_MODE), 80);
+    fail_everywhere(&empty(1).in_audit_mode().with_stray(9).with(A, OLD), &mode(AUDIT_MODE), 82);
+    for (run, call) in joint_changes(|| empty(1).with(RATE, OLD).with(A, OLD)) {
+        fail_in_compaction(&run, &call, 8197);
+        fail_in_compaction(&run.recorded(64), &call, 8198);
+    }
 }
 
 #[test]
@@ -306,9 +320,11 @@ fn calls_without_stores() {
 /// then stands is what the call leaves that is given the address; and the next start-up, planned on the part, is as after a power cut.
 #[test]
 fn a_host_that_reads_back() {
-    for (run, call) in
-        [(empty(1).with(A, OLD), set(RATE, OLD)), (with_leftover(), set(RATE, OLD)), (crowded(1), compacting()), (crowded(1), profiling())]
-    {
+    let mut cases =
+        vec![(empty(1).with(A, OLD), set(RATE, OLD)), (with_leftover(), set(RATE, OLD)), (crowded(1), compacting()), (crowded(1), profiling())];
+    cases.push((empty(1).with(A, OLD), mode(AUDIT_MODE)));
+    cases.extend(joint_changes(|| empty(1).with(RATE, OLD)));
+    for (run, call) in cases {
         once(|r| {
             let list = run.stores(&call).expect("an accepted call");
             for number in places(&list, 97, r) {
@@ -327,7 +343,7 @@ fn a_host_that_reads_back() {
                 assert!(told == part, "the image with {dying} dying");
                 let mut book = run.book.clone();
                 if plan.deciding_store(1).is_some_and(|deciding| deciding < made.stores) {
-                    call.sets().iter().for_each(|asked| book.set(&asked.request()));
+                    call.feed(&mut book);
                 }
                 Run { way: Way::Planned, image: part, book, dead: vec![dying as u32], ..run.clone() }.recover_worn();
             }
@@ -346,7 +362,7 @@ fn some_image(r: &mut Random) -> Vec<u8> {
     }
 }
 
-/// A set or profile that little refuses, or a start-up.
+/// A set, profile or change of mode that little refuses, or a start-up.
 fn some_call(run: &mut Run, r: &mut Random) -> Call {
     if r.once_in(4) {
         return START_UP;
@@ -354,6 +370,9 @@ fn some_call(run: &mut Run, r: &mut Random) -> Call {
     run.session = (ENGINE.session_new)(&generate::lenient(r, run.image.len()));
     if r.once_in(4) {
         return Call::Profile(generate::profile(r, &run.session.setup, &run.image));
+    }
+    if r.once_in(4) {
+        return modes::change(r, &run.image);
     }
     let mut asked = generate::asked_on(r, &run.image);
     asked.presence = 1;
@@ -390,7 +409,7 @@ fn bytes_that_die_in_a_run() {
         run.recover_worn();
     });
     println!("{tally:?}");
-    let profiled = ["profile done", "profile failed", "profile stopped"];
+    let profiled = ["profile done", "profile failed", "profile stopped", "mode done", "mode failed", "mode stopped"];
     for thing in
         ["set done", "set failed", "set stopped", "start-up done", "start-up failed", "start-up failed behind a failed call"].iter().chain(&profiled)
     {

@@ -1,7 +1,7 @@
 //! Benchmarks of the engine against the paper's implementation, the same work on both sides: every call with its own check of the image, on an image
 //! copied back and a buffer cleared before each turn, which is not measured. For 02 (g)'s call the other side is not the paper's but the program of `once`, which checks
 //! once and walks for every name: the keys are laid in their places beforehand, on both sides. 02 (l)'s profile is beside the paper's, and its settings as sets are a case of
-//! their own; in both the engine's session is lent.
+//! their own; in both the engine's session is lent. So it is for 02 (j)'s mode requests: a mode alone, and mode and PK together.
 //!
 //!     bench                              wall time, the best of many alternating turns
 //!     bench names                        each case, its number of turns, and whether it is one of a growing row, for tools/bench
@@ -14,11 +14,12 @@ use std::time::{Duration, Instant};
 
 use varstore::calls::{lent, Calls, ENGINE, LENT, PAPER};
 use varstore::engine::{self, Item, Told};
-use varstore::interface::{Answer, Context, Guid, Key, Request, Rule, Session, Setup, Tenant, ITEMS, MODEM, NAMES, OURS};
+use varstore::interface::{Answer, Context, Guid, Key, Request, Rule, Session, Setup, Tenant, AUDIT_MODE, ITEMS, MODEM, NAMES, OURS};
 use varstore::once;
 use varstore::paper::entry::{self, Contents, GONE, STATE};
 use varstore::paper::layout::Authenticated;
 use varstore::paper::region;
+use varstore::paper::request::PK;
 
 const BLOCK: usize = 4096;
 const VENDOR: Guid = [1, 2, 3, 4, 5, 6, 7, 8, 9, 10, 11, 12, 13, 14, 15, 16];
@@ -215,6 +216,13 @@ fn full_of(blocks: usize, variables: impl Fn(usize) -> Variable) -> (Vec<u8>, Va
     (region, last)
 }
 
+/// Two hundred values in seven blocks, and PK after them.
+fn in_user_mode() -> Vec<u8> {
+    let mut region = region_of(7, 200);
+    put(&mut region, &(PK.name.to_vec(), *PK.vendor), DATA);
+    region
+}
+
 /// Seven blocks of values, filled up with deleted entries.
 fn crowded(count: usize) -> Vec<u8> {
     let mut region = region_of(7, count);
@@ -297,6 +305,11 @@ fn eight_sets(calls: &Calls, desk: &mut Desk) -> Answer {
         }
     }
     Answer::Done(stores)
+}
+
+/// A mode request: from setup mode it stores a mode, from user mode PK goes with it.
+fn to_audit(calls: &Calls, desk: &mut Desk) -> Answer {
+    (lending(calls).mode)(desk.context, &desk.session, &mut desk.image, AUDIT_MODE)
 }
 
 /// Next-name from the first to the end.
@@ -384,6 +397,8 @@ fn cases() -> Vec<Case> {
         case("compact seven blocks, 204", numbered(0), crowded(204), 7, 5, replace, done(57361)),
         case("8 settings in a lent profile", NONE, region_of(7, 200), 7, 5, profile, done(57361)),
         case("8 settings in 8 lent sets", NONE, region_of(7, 200), 7, 5, eight_sets, done(8 * 129)),
+        case("setup to audit, lent, 200", NONE, region_of(7, 200), 7, 20, to_audit, done(80)),
+        case("user to audit, lent, 200", NONE, in_user_mode(), 7, 5, to_audit, done(57361)),
         paged("compact, 204, w = 2", 2, 28689),
         paged("compact, 204, w = 16", 16, 3601),
         case("replace in the tail, b = 1", numbered(0), region_of(1, 20), 1, 50, replace, done(129)),

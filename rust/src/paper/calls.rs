@@ -1,24 +1,33 @@
 //! The calls. Each that stores has two halves: its list of stores, or the rule broken; and the list made up to n.
 
-use super::entry::{Entry, RT};
+use super::entry::{Contents, Entry, RT};
 use super::image::{blank, Parts};
 use super::layout::Authenticated;
+use super::modes::{beside, Mode, PLAT_MODE};
 use super::profiles::{self, share_a_name};
 use super::records::is_record;
-use super::region::{self, changed, find, values};
-use super::request::{change, Change};
-use super::rules::{broken, of_the_call, of_the_change, of_the_name, of_the_room, of_what_stands, ready, sizes_after};
+use super::region::{self, changed, find, values, Standing};
+use super::request::{change, Change, PK};
+use super::rules::{broken, of_the_call, of_the_change, of_the_mode, of_the_name, of_the_room, of_what_stands, ready, sizes_after, Ready};
 use super::session::{is_runtime, session_new};
 use super::stores::{clearing, compaction, deletion, formatting, in_tail, resumption, Stores, Wanting};
 use super::tenants::{exceeded, Side, Sizes};
 use super::work;
-use crate::interface::{Answer, Checked, Context, Key, Replies, Reply, Request, Rule, Session, Setup, Started, DEAD, NAMES};
+use crate::interface::{Answer, Checked, Context, Key, Platform, Replies, Reply, Request, Rule, Session, Setup, Started, DEAD, NAMES};
 
 /// Whether a call may use the image: rules 1 and 2.
 pub fn check(image: &[u8]) -> Checked {
     match ready::<Authenticated>(image) {
         Ok(ready) => Checked { answer: Answer::Done(0), blocks: ready.parts.blocks as u32, tail: ready.tail as u32 },
         Err(rule) => Checked { answer: Answer::Refused(rule), blocks: 0, tail: 0 },
+    }
+}
+
+/// 02 (j): the mode that the image says, after rules 1 and 2.
+pub fn present_mode(image: &[u8]) -> Platform {
+    match ready::<Authenticated>(image) {
+        Ok(ready) => Platform { answer: Answer::Done(0), mode: Mode::of(ready.parts.region).number() },
+        Err(rule) => Platform { answer: Answer::Refused(rule), mode: 0 },
     }
 }
 
@@ -131,7 +140,7 @@ pub fn width(context: &Context) -> usize {
     }
 }
 
-/// Sets, appends to or deletes a value. Rules 1 to 13, 17, 18, 21, 22 and 23.
+/// Sets, appends to or deletes a value. Rules 1 to 13, 17, 18, 21, 22, 23 and 24.
 pub fn set(context: Context, session: &Session, image: &mut [u8], request: &Request) -> Answer {
     made(set_stores(width(&context), context.side, session, image, request), context, image)
 }
@@ -146,18 +155,40 @@ pub fn set_stores(w: usize, side: u32, session: &Session, image: &[u8], request:
     let payload = of_what_stands(session, region, request, value.as_ref())?;
     let change = change(request, payload, value);
     of_the_change(session, key, value.as_ref(), &change)?;
-    let contents = match change {
+    let beside = beside(region, key, value.as_ref(), &change);
+    let put = match change {
         Change::Nothing => return Ok(Stores::new(w)),
-        Change::Delete => return Ok(deletion(w, &standing)),
-        Change::Put(contents) => contents,
+        Change::Delete => None,
+        Change::Put(contents) => Some(contents),
     };
-    let sizes = sizes_after(&session.setup, region, key, &contents);
+    match (beside, put) {
+        (Some(mode), put) => both(w, session, &ready, put.as_ref(), mode.as_ref()),
+        (None, None) => Ok(deletion(w, &standing)),
+        (None, Some(contents)) => alone(w, session, &ready, &standing, key, &contents),
+    }
+}
+
+/// One value is put: in the tail if it fits there, else by a compaction. Rules 18 and 13.
+fn alone(w: usize, session: &Session, ready: &Ready, standing: &Standing, key: Key, contents: &Contents) -> Result<Stores, Rule> {
+    let region = ready.parts.region;
+    let sizes = sizes_after(&session.setup, region, key, contents);
     of_the_room(session, region.len(), Side::owning(&session.setup, key), is_record(contents.attributes), &sizes)?;
     if ready.tail + contents.entry_size::<Authenticated>(key) <= region.len() {
-        return Ok(in_tail(w, &standing, ready.tail, key, &contents));
+        return Ok(in_tail(w, standing, ready.tail, key, contents));
     }
-    let after = changed(region, region.len(), key, Some(&contents));
+    let after = changed(region, region.len(), key, Some(contents));
     Ok(compaction(w, &ready.parts, ready.records, filled(after, region.len())))
+}
+
+/// 02 (j): "where mode and PK change together it is one compaction, PlatMode last, PK before it". Rule 13, which judges the values after both changes, if one of them is put.
+fn both(w: usize, session: &Session, ready: &Ready, pk: Option<&Contents>, mode: Option<&Contents>) -> Result<Stores, Rule> {
+    let length = ready.parts.length();
+    let after = changed(&changed(ready.parts.region, length, PK, pk), length, PLAT_MODE, mode);
+    if pk.is_some() || mode.is_some() {
+        // both are ours, and no error records
+        of_the_room(session, length, Side::Ours, false, &Sizes::of(&session.setup, values(&after)))?;
+    }
+    Ok(compaction(w, &ready.parts, ready.records, filled(after, length)))
 }
 
 /// A region's rest is FF.
@@ -198,7 +229,7 @@ pub fn profile_stores(w: usize, side: u32, session: &Session, image: &[u8], file
     Ok(compaction(w, &ready.parts, ready.records, filled(after, length)))
 }
 
-/// What an item of a profile changes in a region. Rules 3, 22, 4, 5, 17, 6, 7, 11, 12 and 21; by its attributes it breaks none of 8, 9, 10 and 18.
+/// What an item of a profile changes in a region. Rules 3, 22, 4, 5, 17, 6, 7, 24, 11, 12 and 21; by its attributes it breaks none of 8, 9, 10 and 18, and changes no PK.
 fn of_the_item<'a>(session: &Session, side: Side, region: &'a [u8], item: &Request<'a>) -> Result<Change<'a>, Rule> {
     of_the_call(session, side, item)?;
     let value = find(region, item.key).value();
@@ -206,6 +237,22 @@ fn of_the_item<'a>(session: &Session, side: Side, region: &'a [u8], item: &Reque
     let change = change(item, payload, value);
     of_the_change(session, item.key, value.as_ref(), &change)?;
     Ok(change)
+}
+
+/// 02 (j): a request for audit (2) or deployed mode (3). "A mode request meets 1, 2, 22, 6 (PlatMode, and PK if lost), 24, 13", and 23.
+pub fn mode(context: Context, session: &Session, image: &mut [u8], to: u32) -> Answer {
+    made(mode_stores(width(&context), context.side, session, image, to), context, image)
+}
+
+/// "A mode alone is stored as a set stores; where mode and PK change together it is one compaction".
+pub fn mode_stores(w: usize, side: u32, session: &Session, image: &[u8], to: u32) -> Result<Stores, Rule> {
+    let ready = ready::<Authenticated>(image)?;
+    let region = ready.parts.region;
+    let transition = of_the_mode(session, Side::of(side), Mode::of(region), to)?;
+    match transition.loses_pk {
+        true => both(w, session, &ready, None, Some(&transition.stored)),
+        false => alone(w, session, &ready, &find(region, PLAT_MODE), PLAT_MODE, &transition.stored),
+    }
 }
 
 /// Formatting meets 1, and 23.

@@ -5,6 +5,7 @@ pub mod calls;
 pub mod entry;
 pub mod image;
 pub mod layout;
+pub mod modes;
 pub mod moves;
 pub mod profiles;
 pub mod records;
@@ -19,7 +20,8 @@ pub mod varlist;
 pub mod work;
 
 pub use calls::{
-    check, dead, format, format_stores, get, get_many, next_name, profile, profile_stores, set, set_stores, start_up, start_up_stores, width,
+    check, dead, format, format_stores, get, get_many, mode, mode_stores, next_name, present_mode, profile, profile_stores, set, set_stores,
+    start_up, start_up_stores, width,
 };
 pub use moves::{from_plain, to_plain};
 pub use session::{lock, phase, session_new};

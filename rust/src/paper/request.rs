@@ -1,6 +1,7 @@
 //! What a set carries: key names, the verdict wanted, the descriptor, and the change that is asked.
 
 use super::entry::{u32_at, Contents, Entry, APPEND, TIME_BASED};
+use super::modes::Mode;
 use super::region;
 use crate::interface::{Guid, Key, Request, Session};
 
@@ -37,15 +38,17 @@ const BY_KEK: u32 = 2;
 const BY_PAYLOAD: u32 = 3;
 const BY_CREATOR: u32 = 4;
 
-/// Verdict wanted: any of these; none if empty. User mode: PK has a value.
+/// Verdict wanted: any of these; none if empty. 02 (j): "Audit wants the verdicts of setup, and deployed those of user", so that PK's value says which; "Custom mode does not
+/// count in deployed".
 pub fn wanted(session: &Session, region: &[u8], request: &Request, value: Option<&Entry>) -> &'static [u32] {
-    let user_mode = || region::find(region, PK).value().is_some();
+    let enrolled = || region::find(region, PK).value().is_some();
+    let custom = session.setup.custom != 0 && request.presence != 0;
     match key_name(request.key) {
-        Some(_) if session.setup.custom != 0 && request.presence != 0 => &[],
-        Some(KeyName::Pk) if user_mode() => &[BY_PK],
+        Some(_) if custom && Mode::of(region) != Mode::Deployed => &[],
+        Some(KeyName::Pk) if enrolled() => &[BY_PK],
         Some(KeyName::Pk) => &[BY_PAYLOAD],
-        Some(KeyName::Kek) if user_mode() => &[BY_PK],
-        Some(KeyName::Database) if user_mode() => &[BY_PK, BY_KEK],
+        Some(KeyName::Kek) if enrolled() => &[BY_PK],
+        Some(KeyName::Database) if enrolled() => &[BY_PK, BY_KEK],
         Some(_) => &[],
         None if request.attributes & TIME_BASED == 0 => &[],
         None if value.is_some() => &[BY_CREATOR],

@@ -3,9 +3,10 @@
 use super::entry::{well_formed, Contents, Entry, APPEND, MOST_DATA, RT, STORABLE, TIME_BASED};
 use super::image::{blank, Parts};
 use super::layout::{Authenticated, Layout};
+use super::modes::{transition, Mode, Transition, PLAT_MODE};
 use super::records::{is_record, record_name};
 use super::region::{self, REGION_HEADER};
-use super::request::{is_later, key_name, payload, wanted, Change, Payload};
+use super::request::{is_later, key_name, payload, wanted, Change, Payload, PK};
 use super::session::{is_boot, is_locked, is_runtime, record_space, reserve};
 use super::settings::breaks_rule;
 use super::tenants::{Side, Sizes};
@@ -57,7 +58,7 @@ pub fn of_the_call(session: &Session, side: Side, request: &Request) -> Result<(
     broken(Rule::Locked, !is_boot(session) && is_locked(session, request.key))
 }
 
-/// Rules 7 to 10: the call beside what stands. Gives the stamp and data proper that rule 8 has found.
+/// Rules 7, 8, 9, 24 and 10: the call beside what stands. Gives the stamp and data proper that rule 8 has found.
 pub fn of_what_stands<'a>(session: &Session, region: &[u8], request: &Request<'a>, value: Option<&Entry>) -> Result<Payload<'a>, Rule> {
     if let Some(value) = value {
         let without_append = request.attributes & !APPEND;
@@ -69,13 +70,22 @@ pub fn of_what_stands<'a>(session: &Session, region: &[u8], request: &Request<'a
     }
     let payload = payload(request).ok_or(Rule::Descriptor)?;
     let wanted = wanted(session, region, request, value);
-    if !wanted.is_empty() {
-        broken(Rule::Verdict, !wanted.contains(&request.verdict))?;
-        // 02 (b): rule 10 no longer concerns appends
-        let append = request.attributes & APPEND != 0;
-        broken(Rule::Stamp, !append && value.is_some_and(|value| !is_later(payload.stamp, value.stamp())))?;
-    }
+    broken(Rule::Verdict, !wanted.is_empty() && !wanted.contains(&request.verdict))?;
+    // 02 (j): "24 when .. a set or delete names PlatMode, after 9"
+    broken(Rule::Mode, request.key == PLAT_MODE)?;
+    // 02 (b): rule 10 no longer concerns appends
+    let append = request.attributes & APPEND != 0;
+    broken(Rule::Stamp, !wanted.is_empty() && !append && value.is_some_and(|value| !is_later(payload.stamp, value.stamp())))?;
     Ok(payload)
+}
+
+/// Rules 22, 6 and 24 for a mode request: PlatMode is ours, "6 (PlatMode, and PK if lost)", "24 when another transition is requested".
+pub fn of_the_mode(session: &Session, side: Side, from: Mode, to: u32) -> Result<Transition, Rule> {
+    let transition = transition(from, to);
+    of_the_name(&session.setup, side, PLAT_MODE)?;
+    let locked = is_locked(session, PLAT_MODE) || transition.is_some_and(|transition| transition.loses_pk) && is_locked(session, PK);
+    broken(Rule::Locked, !is_boot(session) && locked)?;
+    transition.ok_or(Rule::Mode)
 }
 
 /// Rules 11, 12 and 21: what the change would leave of the value.

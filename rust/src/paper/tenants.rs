@@ -3,6 +3,7 @@
 
 use super::entry::Entry;
 use super::layout::Authenticated;
+use super::modes::PLAT_MODE;
 use super::records::{is_record, record_name};
 use super::region::{values, REGION_HEADER};
 use super::request::key_name;
@@ -23,9 +24,9 @@ impl Side {
         }
     }
 
-    /// Whose a name is. One of a record's form is ours whatever attributes stand under it.
+    /// Whose a name is. One of a record's form is ours whatever attributes stand under it. 02 (j): "PlatMode is ours, like the key names."
     pub fn owning(setup: &Setup, key: Key) -> Side {
-        match *key.vendor == setup.modem.vendor && key_name(key).is_none() && !record_name(key) {
+        match *key.vendor == setup.modem.vendor && key_name(key).is_none() && key != PLAT_MODE && !record_name(key) {
             true => Side::Modem,
             false => Side::Ours,
         }

@@ -1,12 +1,14 @@
 //! *The book*: the list of values that the calls' arguments and answers alone have made.
 
 use super::generate::Name;
+use super::modes::{mode_of, mode_value, PLAT_MODE};
 use super::tenants::is_modems;
 use varstore::calls::Calls;
-use varstore::interface::{Answer, Context, Key, Request, Session, Setup, MODEM, NAMES, RUNTIME};
+use varstore::interface::{Answer, Context, Key, Request, Session, Setup, AUDIT_MODE, MODEM, NAMES, RUNTIME};
 use varstore::paper::image::Parts;
 use varstore::paper::layout::{Authenticated, Layout};
 use varstore::paper::region;
+use varstore::paper::request::PK;
 
 #[derive(Clone, PartialEq, Eq, Debug)]
 pub struct Value {
@@ -54,10 +56,35 @@ impl Book {
         self.values.iter().position(|value| value.name.key() == key)
     }
 
-    /// What a set that is done, or had its deciding store complete, changes. A delete takes its value out; any other drops the old value, if
-    /// any, and adds at the end. An empty append, or equal data and attributes with neither 0x20 nor 0x40 among them, changes nothing.
-    /// 02 (b): an append with 0x20 stores the later stamp of the two, the old one if neither is later.
+    fn remove(&mut self, key: Key) {
+        self.values.retain(|value| value.name.key() != key);
+    }
+
+    /// What a set that is done, or had its deciding store complete, changes. 02 (j): "audit to deployed when PK is enrolled", "a PK that comes or goes also removes a byte that
+    /// counts as absent, and one deleted in deployed the 3"; "the book in 01 takes PK's change, if any, then PlatMode's".
     pub fn set(&mut self, request: &Request) {
+        let (mode, stood) = (mode_of(&self.values), self.place(PK).is_some());
+        self.set_alone(request);
+        if self.place(PK).is_some() != stood {
+            self.remove(PLAT_MODE);
+            if mode == AUDIT_MODE {
+                self.values.push(mode_value(3));
+            }
+        }
+    }
+
+    /// The same of a mode request: "user to audit, losing PK"; "a stored mode goes to the end even where its byte stays".
+    pub fn mode(&mut self, to: u32) {
+        if to == AUDIT_MODE {
+            self.remove(PK);
+        }
+        self.remove(PLAT_MODE);
+        self.values.push(mode_value(to as u8));
+    }
+
+    /// A delete takes its value out; any other set drops the old value, if any, and adds at the end. An empty append, or equal data and attributes with neither 0x20 nor 0x40
+    /// among them, changes nothing. 02 (b): an append with 0x20 stores the later stamp of the two, the old one if neither is later.
+    fn set_alone(&mut self, request: &Request) {
         let (stamp, proper) = stored(request);
         let append = request.attributes & 0x40 != 0;
         let place = self.place(request.key);

@@ -2,10 +2,12 @@
 
 use super::cuts::Run;
 use super::generate::{self, Asked, Name, BLOCK};
+use super::modes::PLAT_MODE;
 use super::profiles::{self, Profile};
 use super::stored::Call;
 use super::{signed, A, B, NEW, OLD, RATE, VENDOR};
-use varstore::interface::{Answer, Key, Setting, Setup, OURS};
+use varstore::interface::{Answer, Key, Setting, Setup, AUDIT_MODE, DEPLOYED_MODE, OURS};
+use varstore::paper::request::PK;
 
 pub const C: Key = Key { name: b"C\0\0\0", vendor: &VENDOR };
 pub const S: Key = Key { name: b"S\0\0\0", vendor: &VENDOR };
@@ -30,6 +32,20 @@ pub fn delete(key: Key) -> Call {
 /// A profile of settings with attributes 0x07; empty data delete.
 pub fn profile(settings: &[(Key, &[u8])]) -> Call {
     Call::Profile(Profile { file: profiles::settings(settings), side: OURS })
+}
+
+/// A mode request.
+pub fn mode(to: u32) -> Call {
+    Call::Mode { to, side: OURS }
+}
+
+/// A set of PK by the verdict that is wanted where it is absent, or a set or delete by that which is wanted where it is there.
+pub fn enrolled(data: &[u8]) -> Call {
+    Call::Set(asked(PK, 0x27, &signed(2024, data)))
+}
+
+pub fn by_the_key(data: &[u8]) -> Call {
+    Call::Set(Asked { verdict: 1, ..asked(PK, 0x27, &signed(2025, data)) })
 }
 
 /// A run on an empty store. Its former region holds other values under the same names.
@@ -113,6 +129,44 @@ pub fn compacting() -> Call {
 /// What changes a crowded region by one profile: a value that stays, one that is replaced, one that goes, and two new ones.
 pub fn profiling() -> Call {
     profile(&[(RATE, NEW), (A, &[3; 700]), (C, &[]), (Key { name: b"D\0\0\0", ..A }, OLD), (Key { name: b"E\0\0\0", ..A }, &[5; 40])])
+}
+
+/// 02 (j): a run in each of user, audit and deployed mode on the values of another.
+impl Run {
+    pub fn in_user_mode(mut self) -> Run {
+        self.whole(&enrolled(&[0x4B; 30]));
+        self
+    }
+
+    pub fn in_audit_mode(mut self) -> Run {
+        self.whole(&mode(AUDIT_MODE));
+        self
+    }
+
+    pub fn in_deployed_mode(self) -> Run {
+        let mut run = self.in_user_mode();
+        run.whole(&mode(DEPLOYED_MODE));
+        run
+    }
+
+    /// With a byte under PlatMode's name that counts as absent: another writer's, put in the place of one that was stored.
+    pub fn with_stray(mut self, byte: u8) -> Run {
+        let at = self.image.windows(18).position(|window| window == PLAT_MODE.name).expect("a stored mode") + 18;
+        self.image[at] = byte;
+        Run::new(self.image, self.former)
+    }
+}
+
+/// The changes of mode and PK together: user to audit, audit to deployed, deployed to setup, and PK that comes or goes beside a byte that counts as absent.
+pub fn joint_changes(run: impl Fn() -> Run) -> Vec<(Run, Call)> {
+    vec![
+        (run().in_user_mode(), mode(AUDIT_MODE)),
+        (run().in_audit_mode(), enrolled(NEW)),
+        (run().in_deployed_mode(), by_the_key(&[])),
+        (run().in_deployed_mode().with_stray(2), mode(AUDIT_MODE)),
+        (run().in_deployed_mode().with_stray(2), by_the_key(&[])),
+        (run().in_audit_mode().with_stray(3), enrolled(NEW)),
+    ]
 }
 
 /// A compaction of b blocks makes 1 + L stores before its deciding one, of index 1 + L.

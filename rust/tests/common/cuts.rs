@@ -233,9 +233,8 @@ impl Run {
         assert_eq!(answer, expected, "up to {n} stores of {call:?} with {:?} dead, w {}, after {:?}", self.dead, self.width, self.cuts);
         same_bytes("image", &after, &self.image);
         if decided || matches!(answer, Answer::Done(_)) {
-            let sets = call.sets();
-            sets.iter().for_each(|asked| self.book.set(&asked.request()));
-            sets.iter().for_each(|asked| check_kept(&self.session, &asked.request(), &self.book));
+            call.feed(&mut self.book);
+            call.sets().iter().for_each(|asked| check_kept(&self.session, &asked.request(), &self.book));
         }
         if let Some(setup) = setup {
             assert!(self.session == paper::session_new(&setup), "a start-up's session is fresh");

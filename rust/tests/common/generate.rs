@@ -2,8 +2,10 @@
 //! calls meet what stands.
 
 use super::book::{Book, Value};
+use super::modes::{self, PLAT_MODE};
 use super::profiles::{self, Profile};
 use super::random::Random;
+use super::stored::Call;
 use super::tenants::{admitting, found, is_modems, Taken};
 use varstore::calls::PAPER;
 use varstore::interface::{Answer, Context, Guid, Key, Request, Session, Setting, Setup, Tenant, ITEMS, MODEM, OURS, PLACE, PLACES};
@@ -17,6 +19,8 @@ use varstore::paper::{Store, Stores};
 const PLAIN_VENDOR: Guid = [1, 2, 3, 4, 5, 6, 7, 8, 9, 10, 11, 12, 13, 14, 15, 16];
 const OTHER_VENDOR: Guid = [1, 2, 3, 4, 5, 6, 7, 8, 9, 10, 11, 12, 13, 14, 15, 17];
 const KEYS: [Key; 5] = [PK, KEK, DB, DBX, DBT];
+/// PK and PlatMode more often than the others, so that there are all modes.
+const FIXED: [Key; 10] = [PK, PK, PK, KEK, DB, DBX, DBT, PLAT_MODE, PLAT_MODE, PLAT_MODE];
 const ATTRIBUTES: [u32; 4] = [0x03, 0x07, 0x23, 0x27];
 const RECORD: u32 = 0x0F;
 pub const CERTIFICATE: Guid = [0x9D, 0xD2, 0xAF, 0x4A, 0xDF, 0x68, 0xEE, 0x49, 0x8A, 0xA9, 0x34, 0x7D, 0x37, 0x56, 0x65, 0xA7];
@@ -30,7 +34,7 @@ fn spelt(characters: &[u16]) -> Vec<u8> {
 
 /// A well-formed name.
 pub fn good_name(r: &mut Random) -> Vec<u8> {
-    match r.below(12) {
+    match r.below(13) {
         0 => spelt(&[0xD800]),
         1 => spelt(&[0x55AA, 0x003F]),
         2 => spelt(&[0x0100, 0xFFFF]),
@@ -38,6 +42,7 @@ pub fn good_name(r: &mut Random) -> Vec<u8> {
         4 => spelt(&[u16::from(b'x'); 62]),
         5 => spelt(&"RATE".encode_utf16().collect::<Vec<_>>()),
         6 => spelt(&[u16::from(b'P'), u16::from(b'K')]),
+        7 => PLAT_MODE.name.to_vec(),
         letter => spelt(&[u16::from(b'A') + letter as u16]),
     }
 }
@@ -99,7 +104,7 @@ fn near_record(r: &mut Random) -> Name {
 
 pub fn name(r: &mut Random) -> Name {
     if r.once_in(4) {
-        let key = r.pick(&KEYS);
+        let key = r.pick(&FIXED);
         return Name { name: key.name.to_vec(), vendor: *key.vendor };
     }
     if r.once_in(4) {
@@ -285,12 +290,21 @@ pub fn room_for(r: &mut Random, session: &mut Session, image: &[u8], asked: &Ask
 /// The same with an eye to a profile.
 pub fn room_for_items(r: &mut Random, session: &mut Session, image: &[u8], profile: &Profile) {
     let items = profiles::items(&profile.file).unwrap_or_default();
+    room_around(r, session, image, |book| items.iter().for_each(|item| book.set(&item.request())));
+}
+
+/// The same with an eye to a mode request, or a set of PK whose descriptor is of the form.
+pub fn room_after(r: &mut Random, session: &mut Session, image: &[u8], call: &Call) {
+    room_around(r, session, image, |book| call.feed(book));
+}
+
+fn room_around(r: &mut Random, session: &mut Session, image: &[u8], feed: impl FnOnce(&mut Book)) {
     if r.once_in(3) || (PAPER.check)(image).answer != Answer::Done(0) {
         return any_room(r, &mut session.setup);
     }
     let mut book = Book::of(image);
     let before = Taken::by(&session.setup, &book.values);
-    items.iter().for_each(|item| book.set(&item.request()));
+    feed(&mut book);
     let after = Taken::by(&session.setup, &book.values);
     room_between(r, session, image, before, after);
 }
@@ -478,13 +492,13 @@ pub fn session(r: &mut Random) -> Session {
     session
 }
 
-/// A name that a side may set by an item of a profile: well formed, its own, no key and no record.
+/// A name that a side may set by an item of a profile: well formed, its own, no key, no record and not PlatMode.
 fn own_name(r: &mut Random, setup: &Setup, side: u32) -> Name {
     loop {
         let vendor = if side == MODEM { setup.modem.vendor } else { r.pick(&[PLAIN_VENDOR, PLAIN_VENDOR, OTHER_VENDOR, [0xFF; 16]]) };
         let name = Name { name: good_name(r), vendor };
         let key = name.key();
-        if is_modems(setup, key) == (side == MODEM) && !KEYS.contains(&key) && !record_name(key) {
+        if is_modems(setup, key) == (side == MODEM) && !FIXED.contains(&key) && !record_name(key) {
             return name;
         }
     }
@@ -494,20 +508,30 @@ fn own_name(r: &mut Random, setup: &Setup, side: u32) -> Name {
 /// under the zero GUID, which is the modem's of a station without one.
 pub fn profile(r: &mut Random, setup: &Setup, image: &[u8]) -> Profile {
     let side = r.pick(if setup.modem.vendor == [0; 16] { &[OURS, OURS, 2] } else { &[OURS, OURS, MODEM] });
-    let is_own = |value: &Value| is_modems(setup, value.name.key()) == (side == MODEM) && [3, 7].contains(&value.attributes);
+    let named = r.once_in(6);
+    let is_own = |value: &Value| {
+        let key = value.name.key();
+        is_modems(setup, key) == (side == MODEM) && [3, 7].contains(&value.attributes) && (named || key != PLAT_MODE)
+    };
     let mut standing: Vec<Value> = match (PAPER.check)(image).answer {
         Answer::Done(0) => Book::of(image).values.into_iter().filter(is_own).collect(),
         _ => vec![],
     };
     let mut items: Vec<Asked> = vec![];
     let most = r.pick(&[8, 8, 60, 400, 2048]);
+    // sometimes all stay as they are
+    let same = r.once_in(8) && !standing.is_empty();
     for _ in 0..r.pick(&[0, 1, 1, 2, 2, 3, 4, 5, 6, 7, 8, 8, 8]) {
         let fresh = |r: &mut Random| vec![r.byte(); 1 + r.below(most)];
-        let (name, attributes, data) = if standing.is_empty() || r.once_in(3) {
+        if same && standing.is_empty() {
+            break;
+        }
+        let (name, attributes, data) = if standing.is_empty() || (!same && r.once_in(3)) {
             (own_name(r, setup, side), r.pick(&[7, 7, 7, 3]), fresh(r))
         } else {
             let value = standing.swap_remove(r.below(standing.len()));
             let data = match r.below(4) {
+                _ if same => value.data,
                 0 => value.data,
                 1 => vec![],
                 _ => fresh(r),
@@ -632,7 +656,7 @@ pub fn empty(blocks: usize) -> Vec<u8> {
     image
 }
 
-/// An image filled by sets, appends and deletes, some of them stopped.
+/// An image filled by sets, appends, deletes and changes of mode, some of them stopped; sometimes with another writer's byte under PlatMode's name.
 pub fn filled(r: &mut Random, blocks: usize) -> Vec<u8> {
     let mut image = empty(blocks);
     for _ in 0..r.below(30 * blocks) {
@@ -641,11 +665,18 @@ pub fn filled(r: &mut Random, blocks: usize) -> Vec<u8> {
         let mut asked = asked(r);
         asked.presence = 1;
         let limit = if r.once_in(10) { r.below(300) as u64 } else { u64::MAX };
+        if r.once_in(8) {
+            let change = modes::change(r, &image);
+            change.by(&PAPER, Context::with(limit), &session, &mut image);
+        }
         (PAPER.set)(Context::with(limit), &session, &mut image, &asked.request());
         if r.once_in(10) {
             let setup = admitting(&image);
             (PAPER.start_up)(Context::NO_LIMIT, &mut image, &setup);
         }
+    }
+    if r.once_in(4) {
+        modes::leave_byte(r, &mut image);
     }
     image
 }
@@ -664,7 +695,7 @@ fn crafted_region<F: Layout>(r: &mut Random, blocks: usize, small: bool) -> Vec<
             name.name = spelt(&[1 + index as u16 / 2]);
         }
         let most = if small { 1 + r.below(4) } else { 2048 };
-        let bytes = data(r, most);
+        let bytes = if name.key() == PLAT_MODE && !r.once_in(4) { vec![r.pick(&[2, 3])] } else { data(r, most) };
         let begin = at + F::HEADER;
         let end = begin + name.name.len() + bytes.len();
         if end > region.len() {
@@ -695,6 +726,7 @@ fn crafted_header<F: Layout>(r: &mut Random, state: u8, name: &Name, size: usize
     let attributes = match record_name(name.key()) {
         true if !r.once_in(4) => RECORD,
         false if r.once_in(if name.vendor == records::VENDOR { 3 } else { 40 }) => RECORD,
+        _ if name.key() == PLAT_MODE && !r.once_in(4) => 0x07,
         _ => r.pick(&ATTRIBUTES),
     };
     header.extend_from_slice(&attributes.to_le_bytes());

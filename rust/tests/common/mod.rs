@@ -7,6 +7,7 @@ pub mod cuts;
 pub mod digest;
 pub mod failing;
 pub mod generate;
+pub mod modes;
 pub mod profiles;
 pub mod random;
 pub mod rounds;

@@ -1,10 +1,13 @@
 //! A station: an image and a session in one implementation, to which a test makes its calls. A test adds calls of its own in an `impl` beside its cases.
 
 use super::book::Book;
-use super::generate::BLOCK;
+use super::generate::{Name, BLOCK};
 use varstore::calls::{lent, Calls, BOTH};
 use varstore::engine;
 use varstore::interface::{Answer, Context, Key, Reply, Request, Rule, Session, Setting, Setup, OURS, RUNTIME};
+use varstore::paper::entry::{self, Contents, STATE};
+use varstore::paper::layout::Authenticated;
+use varstore::paper::region;
 
 #[derive(Clone)]
 pub struct Station {
@@ -34,6 +37,21 @@ pub fn with_setup(setup: &Setup, case: impl Fn(Station)) {
         println!("implementation: {}", calls.who);
         case(Station::formatted(calls, setup, 1));
     }
+}
+
+/// Key, state, attributes, stamp and data.
+pub type Laid<'a> = (Key<'a>, u8, u32, &'a [u8; 16], &'a [u8]);
+
+/// A region of entries in any state, in an image of one block.
+pub fn image(entries: &[Laid]) -> Vec<u8> {
+    let mut bytes = region::header::<Authenticated>(BLOCK).to_vec();
+    for (key, state, attributes, stamp, data) in entries {
+        let at = bytes.len();
+        entry::write::<Authenticated>(&mut bytes, *key, &Contents { attributes: *attributes, stamp, old: data, new: &[] });
+        bytes[at + STATE] = *state;
+    }
+    bytes.resize(3 * BLOCK, 0xFF);
+    bytes
 }
 
 impl Station {
@@ -102,6 +120,44 @@ impl Station {
     /// The answer, where the store keeps what it has.
     pub fn profiled(&self, file: &[u8]) -> Answer {
         self.clone().profile(file)
+    }
+
+    /// What is planned has the same answer, by value and lent, and a refused mode request changes nothing.
+    pub fn mode(&mut self, to: u32) -> Answer {
+        let before = self.image.clone();
+        let answer = (self.calls.mode)(self.context(), &self.session, &mut self.image, to);
+        for plan in [engine::plan_mode, engine::lent::plan_mode] {
+            let planned = lent(|content| plan(&self.session, self.side, &before, to, content).map(|plan| plan.count(1) as u64));
+            assert_eq!(planned.map_or_else(Answer::Refused, Answer::Done), answer, "planned: to {to}");
+        }
+        assert!(!matches!(answer, Answer::Refused(_)) || self.image == before, "a refused mode request has changed the image");
+        answer
+    }
+
+    /// The answer, where the store keeps what it has.
+    pub fn asked_mode(&self, to: u32) -> Answer {
+        self.clone().mode(to)
+    }
+
+    /// The mode that the image says.
+    pub fn present(&self) -> u32 {
+        let platform = (self.calls.present_mode)(&self.image);
+        assert_eq!(platform.answer, Answer::Done(0));
+        platform.mode
+    }
+
+    /// The names and data of all values, in flash order.
+    pub fn list(&self) -> Vec<(Name, Vec<u8>)> {
+        Book::of(&self.image).values.into_iter().map(|value| (value.name, value.data)).collect()
+    }
+
+    /// Whether the values are these.
+    pub fn holds(&self, values: &[(Key, &[u8])]) -> bool {
+        self.list().iter().map(|(name, data)| (name.key(), &data[..])).eq(values.iter().copied())
+    }
+
+    pub fn given(&self, setup: Setup) -> Station {
+        Station { session: Session { setup, ..self.session }, ..self.clone() }
     }
 
     pub fn delete(&mut self, key: Key) -> Answer {

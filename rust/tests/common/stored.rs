@@ -2,6 +2,7 @@
 
 use std::ops::Range;
 
+use super::book::Book;
 use super::generate::Asked;
 use super::profiles::{self, Profile};
 use super::tenants::admitting;
@@ -15,6 +16,10 @@ use varstore::plan::{Content, Operation, Plan};
 pub enum Call {
     Set(Asked),
     Profile(Profile),
+    Mode {
+        to: u32,
+        side: u32,
+    },
     StartUp(Setup),
     /// A start-up that is given what admits the values that it finds.
     Restart,
@@ -27,7 +32,7 @@ impl Call {
         match self {
             Call::StartUp(setup) => Some(*setup),
             Call::Restart => Some(admitting(image)),
-            Call::Set(_) | Call::Profile(_) | Call::Format => None,
+            Call::Set(_) | Call::Profile(_) | Call::Mode { .. } | Call::Format => None,
         }
     }
 
@@ -36,12 +41,21 @@ impl Call {
         match self {
             Call::Set(_) => "set",
             Call::Profile(_) => "profile",
+            Call::Mode { .. } => "mode",
             Call::StartUp(_) | Call::Restart => "start-up",
             Call::Format => "format",
         }
     }
 
-    /// The sets that the book takes where the call is done or decided, in their order.
+    /// The book takes the call, which is done or decided.
+    pub fn feed(&self, book: &mut Book) {
+        match self {
+            Call::Mode { to, .. } => book.mode(*to),
+            _ => self.sets().iter().for_each(|asked| book.set(&asked.request())),
+        }
+    }
+
+    /// The sets that it takes, in their order.
     pub fn sets(&self) -> Vec<Asked> {
         match self {
             Call::Set(asked) => vec![asked.clone()],
@@ -56,6 +70,7 @@ impl Call {
             (_, Some(setup)) => paper::start_up_stores(w, image, &setup),
             (Call::Set(asked), _) => paper::set_stores(w, asked.side, session, image, &asked.request()),
             (Call::Profile(profile), _) => paper::profile_stores(w, profile.side, session, image, &profile.file),
+            (Call::Mode { to, side }, _) => paper::mode_stores(w, *side, session, image, *to),
             _ => paper::format_stores(w, image),
         }
     }
@@ -69,6 +84,7 @@ impl Call {
             }
             (Call::Set(asked), _) => ((calls.set)(context.by(asked.side), session, image, &asked.request()), *session),
             (Call::Profile(profile), _) => ((calls.profile)(context.by(profile.side), session, image, &profile.file), *session),
+            (Call::Mode { to, side }, _) => ((calls.mode)(context.by(*side), session, image, *to), *session),
             _ => ((calls.format)(context, image), *session),
         }
     }
@@ -82,6 +98,7 @@ impl Call {
             }
             (Call::Set(asked), _) => (engine::set(context.by(asked.side), session, image, &asked.request(), content), *session),
             (Call::Profile(profile), _) => (engine::profile(context.by(profile.side), session, image, &profile.file, content), *session),
+            (Call::Mode { to, side }, _) => (engine::mode(context.by(*side), session, image, *to, content), *session),
             _ => (engine::format(context, image, content), *session),
         }
     }
@@ -92,6 +109,7 @@ impl Call {
             (_, Some(setup)) => engine::plan_start_up(image, &setup, content),
             (Call::Set(asked), _) => engine::plan_set(session, asked.side, image, &asked.request(), content),
             (Call::Profile(profile), _) => engine::plan_profile(session, profile.side, image, &profile.file, content),
+            (Call::Mode { to, side }, _) => engine::plan_mode(session, *side, image, *to, content),
             _ => engine::plan_format(image, content),
         }
     }

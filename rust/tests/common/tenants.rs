@@ -1,6 +1,7 @@
 //! 02 (f), written once more for the tests: whose a name is, what the values that stand take of each share, which setup admits them, and when a start-up is refused 22.
 
 use super::book::{Book, Value};
+use super::modes::PLAT_MODE;
 use super::RECORDS;
 use varstore::interface::{Key, Setup};
 use varstore::paper::image::Parts;
@@ -8,14 +9,15 @@ use varstore::paper::layout::Authenticated;
 use varstore::paper::request::{DB, DBT, DBX, KEK, PK};
 use varstore::paper::{region, work};
 
-/// "All names under one vendor GUID, named in the session, are the modem's; the rest are ours, key names and error records always included."
+/// "All names under one vendor GUID, named in the session, are the modem's; the rest are ours, key names and error records always included." 02 (j): "PlatMode is ours, like
+/// the key names."
 pub fn is_modems(setup: &Setup, key: Key) -> bool {
     let characters: Vec<u16> = key.name.chunks_exact(2).map(|pair| u16::from_le_bytes([pair[0], pair[1]])).collect();
     let text = String::from_utf16_lossy(&characters);
     let digits = text.strip_prefix("HwErrRec").and_then(|rest| rest.strip_suffix('\0'));
     let is_record =
         *key.vendor == RECORDS && digits.is_some_and(|digits| digits.len() == 4 && digits.bytes().all(|c| b"0123456789ABCDEF".contains(&c)));
-    *key.vendor == setup.modem.vendor && !is_record && ![PK, KEK, DB, DBX, DBT].contains(&key)
+    *key.vendor == setup.modem.vendor && !is_record && ![PK, KEK, DB, DBX, DBT, PLAT_MODE].contains(&key)
 }
 
 /// The bytes of an entry, rounded.
