@@ -1,5 +1,5 @@
 .SILENT:
-.PHONY: help kit demo test check fmt lib link-test targets-test examples-test host host-test stack rust-test soak bench check-time efi interop volume-test convert-test records-test settings-test shares-test profile-test desk-test install clean
+.PHONY: help kit demo test edits check fmt lib link-test targets-test examples-test host host-test stack rust-test soak bench check-time efi interop volume-test convert-test records-test settings-test shares-test profile-test desk-test install clean
 
 CC = cc
 CFLAGS = -std=c11 -O2 -Wall -Wextra -Werror
@@ -80,6 +80,10 @@ examples-test: $(LIB)
 stack: $(LIB)
 	$(CC) $(CFLAGS) c/stack.c $(LIB) -o target/stack
 	target/stack
+
+# all edits of code: each must be refused; the gate tries two or three of a function
+edits: kit
+	tools/edits-of-code
 
 # the second implementation, and its comparison with the engine
 rust-test: $(LIB)

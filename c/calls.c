@@ -11,7 +11,7 @@
 
 #include "varstore.h"
 
-enum { COUNT = 50000, RULES = VS_TWICE + 1, KNOWN = 25, NAMED = 160, DATA = 2200, ASKED = VS_NAMES + 6, ITEMS = 9, ITEM = 3 * 6 + 16 + NAMED + DATA };
+enum { COUNT = 50000, RULES = VS_TWICE + 1, KNOWN = 26, NAMED = 160, DATA = 2200, ASKED = VS_NAMES + 6, ITEMS = 9, ITEM = 3 * 6 + 16 + NAMED + DATA };
 
 /* ---- numbers, and what is hashed */
 
@@ -94,7 +94,7 @@ static void choose_name(void)
         const char *text;
         uint8_t vendor;
     } names[] = {
-        {"RATE", 0}, {"RATE", 0}, {"RATE", 0}, {"A", 0}, {"A", 0}, {"B", 0}, {"B", 0}, {"C", 0}, {"NOTE", 0}, {"SampleRate", 0}, {"PK", 1}, {"KEK", 1}, {"db", 2}, {"dbx", 2}, {"dbt", 2}, {"PK", 0},
+        {"RATE", 0}, {"RATE", 0}, {"RATE", 0}, {"A", 0}, {"A", 0}, {"B", 0}, {"B", 0}, {"C", 0}, {"NOTE", 0}, {"SampleRate", 0}, {"PK", 1}, {"PK", 1}, {"PlatMode", 1}, {"KEK", 1}, {"db", 2}, {"dbx", 2}, {"dbt", 2}, {"PK", 0},
         {"RATE", 4}, {"RATE", 4}, {"A", 4}, {"APN", 4}, {"APN", 4}, {"PK", 4}, {"HwErrRec0001", 4},
         {"HwErrRec0001", 3}, {"HwErrRec00FF", 3}, {"HwErrRec00ff", 3}, {"HwErrRec0001", 0}, {"", 0},
         {"0123456789012345678901234567890123456789012345678901234567890123", 0}, /* 64 characters, one too many */
@@ -153,7 +153,7 @@ static void choose_data(uint32_t attributes)
 
 static uint32_t choose_attributes(void)
 {
-    return below(3) == 0 ? ONE_OF(0, 0x03, 0x23, 0x27, 0x43, 0x47, 0x63, 0x67, 0x0F, 0x4F, 0x40, 0x01, 0x17, 0xFFFFFFFF) : name[0] == 'H' ? 0x0F : vendor[0] == 1 || vendor[0] == 0x4D ? 0x07 : 0x27;
+    return below(3) == 0 ? ONE_OF(0, 0x03, 0x23, 0x27, 0x43, 0x47, 0x63, 0x67, 0x0F, 0x4F, 0x40, 0x01, 0x17, 0xFFFFFFFF) : name[0] == 'H' ? 0x0F : vendor[0] == 1 || vendor[0] == 0x4D || name[2] == 'l' ? 0x07 : 0x27;
 }
 
 static void add(const uint8_t *bytes, size_t size)
@@ -357,6 +357,25 @@ static void profile(void)
     stored(answer);
 }
 
+/* Mostly one that a request may name, and asked by us. */
+static uint32_t choose_mode(void)
+{
+    side = below(8) > 0 ? VS_OURS : ONE_OF(VS_MODEM, 2, 0xFFFFFFFF);
+    return below(8) > 0 ? ONE_OF(VS_AUDIT_MODE, VS_DEPLOYED_MODE) : ONE_OF(VS_SETUP_MODE, VS_USER_MODE, 4, 0x102, 0xFFFFFFFF);
+}
+
+static void mode(void)
+{
+    uint32_t to = choose_mode();
+    vs_context context = choose_context();
+    size_t size = given();
+    twins();
+    vs_answer lent = vs_mode_lent(context, &session, twin_image, size, to, twin_content);
+    vs_answer answer = vs_mode(context, session, image, size, to, content);
+    alike(same_answer(answer, lent));
+    stored(answer);
+}
+
 static void replied(vs_reply reply, vs_reply lent)
 {
     alike(same_answer(reply.answer, lent.answer) && reply.size == lent.size && reply.attributes == lent.attributes && reply.needed == lent.needed);
@@ -472,6 +491,17 @@ static void plan_profile(void)
     planned(plan);
 }
 
+static void plan_mode(void)
+{
+    uint32_t to = choose_mode();
+    size_t size = given();
+    twins();
+    vs_plan lent = vs_plan_mode_lent(&session, side, twin_image, size, to, twin_content);
+    vs_plan plan = vs_plan_mode(session, side, image, size, to, content);
+    alike_plans(&plan, &lent);
+    planned(plan);
+}
+
 static void plan_start_up(void)
 {
     size_t size = given();
@@ -490,6 +520,13 @@ static void check(void)
     answered(checked.answer);
     mix(checked.blocks);
     mix(checked.tail);
+}
+
+static void present_mode(void)
+{
+    vs_platform platform = vs_present_mode(image, given());
+    answered(platform.answer);
+    mix(platform.mode);
 }
 
 /* One name, or so many that the list may be full. */
@@ -542,13 +579,25 @@ static void damage(void)
     image[at] ^= (uint8_t)(1u << below(8));
 }
 
+/* No call: every PlatMode that is stored is another byte, which may count as absent. */
+static void stray(void)
+{
+    static const uint8_t mode_name[18] = {'P', 0, 'l', 0, 'a', 0, 't', 0, 'M', 0, 'o', 0, 'd', 0, 'e', 0, 0, 0};
+    uint8_t byte = ONE_OF(2, 3, 0, 7);
+    for (size_t at = 0; at + sizeof mode_name < length; at++) {
+        if (memcmp(image + at, mode_name, sizeof mode_name) == 0) {
+            image[at + sizeof mode_name] = byte;
+        }
+    }
+}
+
 static void call(void)
 {
     static const struct {
         void (*made)(void);
         uint32_t share;
-    } calls[] = {{set, 30}, {profile, 5}, {get, 11}, {get_many, 4}, {query, 3}, {next_name, 11}, {plan_set, 8}, {plan_profile, 2}, {start_up, 8}, {check, 3},
-                 {plan_start_up, 3}, {lock, 4}, {phase, 2}, {session_new, 1}, {plan_format, 1}, {move, 2}, {format, 1}, {damage, 1}};
+    } calls[] = {{set, 28}, {profile, 4}, {mode, 4}, {get, 9}, {get_many, 4}, {query, 3}, {next_name, 9}, {plan_set, 8}, {plan_profile, 2}, {plan_mode, 1}, {start_up, 8},
+                 {check, 3}, {present_mode, 1}, {plan_start_up, 3}, {lock, 4}, {phase, 2}, {session_new, 1}, {plan_format, 1}, {move, 2}, {format, 1}, {damage, 1}, {stray, 1}};
     uint64_t chosen = below(100);
     for (size_t i = 0; i < sizeof calls / sizeof calls[0]; i++) {
         if (chosen < calls[i].share) {

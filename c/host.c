@@ -1,7 +1,7 @@
 /* A host of the variable store.
  *
  *   host         a small flash part: set, append, delete, power cuts in a compaction, a byte that dies, pages, hardware error records, settings that
- *                must make sense, are read in one call and changed together, and a modem in the same image
+ *                must make sense, are read in one call and changed together, a modem in the same image, and modes of the platform
  *   host IMAGE   lists the variables of an image file
  *
  * It shows how a firmware's variable driver is built on varstore.h: start up at every power-on, keep the session, ask with an empty buffer first, and carry
@@ -13,8 +13,8 @@
 
 #include "varstore_uefi.h"
 
-#if VS_INTERFACE != 10
-#error "this host knows the operations of interface 10"
+#if VS_INTERFACE != 11
+#error "this host knows the operations of interface 11"
 #endif
 
 enum { BLOCK = VS_BLOCK, PART = BLOCK * 3, PLAIN = VS_NV | VS_BOOT_ACCESS | VS_RUNTIME_ACCESS };
@@ -854,6 +854,132 @@ static void tenant(vs_session *session)
     print_room("our", VS_OURS, session);
 }
 
+/* ---- modes of the platform
+ *
+ * A station leaves the workshop in audit mode, gets its platform key in the field, and is deployed from that store on. Mode and key are two variables, PlatMode and PK;
+ * where both change it is one compaction, so that no power cut leaves the one without the other.
+ */
+
+static const uint8_t global_vendor[16] = {0x61, 0xDF, 0xE4, 0x8B, 0xCA, 0x93, 0xD2, 0x11, 0xAA, 0x0D, 0x00, 0xE0, 0x98, 0x03, 0x2B, 0x8C};
+
+/* What UEFI's three variables would hold. */
+static void print_mode(void)
+{
+    static const char *const names[] = {"setup", "user", "audit", "deployed"};
+    vs_platform now = vs_present_mode(image, PART);
+    if (!told("mode", now.answer)) {
+        printf("%s mode: SetupMode %u, AuditMode %u, DeployedMode %u\n", names[now.mode], (unsigned)vs_uefi_setup_mode(now.mode), (unsigned)vs_uefi_audit_mode(now.mode),
+               (unsigned)vs_uefi_deployed_mode(now.mode));
+    }
+}
+
+static vs_answer request_by(uint32_t side, const vs_session *session, uint32_t mode)
+{
+    vs_plan plan = vs_plan_mode_lent(session, side, image, PART, mode, content);
+    return carry_out(&plan);
+}
+
+static void request(const vs_session *session, const char *what, uint32_t mode) { print_answer(what, request_by(VS_OURS, session, mode)); }
+
+typedef struct {
+    uint8_t day;                /* of January 2026: its time stamp */
+    size_t size;                /* bytes of the key; with 0 PK is deleted */
+    uint32_t presence, verdict; /* which the host has found */
+} key_change;
+
+/* The descriptor has no signature here: a host checks it before, and gives its verdict. */
+static vs_answer change_pk(const vs_session *session, const void *asked)
+{
+    const key_change *change = asked;
+    const uint8_t data[44] = {0xEA, 0x07, 1, change->day, [16] = 24, 0, 0, 0, 0x00, 0x02, 0xF1, 0x0E, 0x9D, 0xD2, 0xAF, 0x4A, 0xDF, 0x68, 0xEE, 0x49,
+                              0x8A, 0xA9, 0x34, 0x7D, 0x37, 0x56, 0x65, 0xA7, 'P', 'K', '0', '1'};
+    uint8_t name[VS_LARGEST_NAME];
+    size_t name_size = utf16("PK", name);
+    vs_plan plan = vs_plan_set_lent(session, VS_OURS, image, PART, name, name_size, global_vendor, PLAIN | VS_TIME_BASED, data, 40 + change->size, change->presence,
+                                    change->verdict, content);
+    return carry_out(&plan);
+}
+
+static void key_changed(const vs_session *session, const char *what, key_change change) { print_answer(what, change_pk(session, &change)); }
+
+/* PlatMode occupies 80 bytes, 60 + 18 + 1 rounded, and takes 80 stores in the tail. PK occupies 72. Once both are stored the free part begins at 28 + 72 + 80. */
+static void enrolled_in_audit(vs_session *session)
+{
+    static const key_change first = {1, 4, 0, VS_BY_PAYLOAD};
+    static const uint8_t three = 3;
+    static uint8_t kept[PART];
+    print_mode();
+    request(session, "to deployed mode", VS_DEPLOYED_MODE);
+    print_answer("set PlatMode to 3", set_by(VS_OURS, global_vendor, session, "PlatMode", PLAIN, &three, 1));
+    request(session, "to audit mode", VS_AUDIT_MODE);
+    print_mode();
+    memcpy(kept, part.bytes, PART);
+    printf("PK is stored in audit mode\n");
+    cut_call(kept, change_pk, &first, global_vendor, 4097, 1);
+    print_mode();
+    cut_call(kept, change_pk, &first, global_vendor, 4098, 0);
+    print_mode();
+    memcpy(part.bytes, kept, PART);
+    print_answer("start-up", power_on(session));
+    key_changed(session, "set PK, signed by a PK", (key_change){1, 4, 0, VS_BY_PK});
+    key_changed(session, "set PK, signed by itself", first);
+    print_mode();
+    list(session, image, PART);
+    printf("free from %u\n", (unsigned)vs_check(image, PART).tail);
+}
+
+/* Custom mode does not count: who is there in person needs the key all the same. */
+static void present_in_deployed(const vs_session *session)
+{
+    key_changed(session, "replace PK, present and unsigned", (key_change){2, 4, 1, VS_BY_NONE});
+    key_changed(session, "delete PK, present and unsigned", (key_change){2, 0, 1, VS_BY_NONE});
+    request(session, "to audit mode", VS_AUDIT_MODE);
+    key_changed(session, "delete PK, signed by PK", (key_change){2, 0, 0, VS_BY_PK});
+    print_mode();
+    printf("free from %u\n", (unsigned)vs_check(image, PART).tail);
+}
+
+/* In user mode it counts. A key that comes while PlatMode does not exist, or that is replaced, goes into the free part as any other variable. */
+static void from_user(const vs_session *session)
+{
+    key_changed(session, "set PK, present and unsigned", (key_change){3, 4, 1, VS_BY_NONE});
+    print_mode();
+    key_changed(session, "replace PK, present and unsigned", (key_change){3, 4, 1, VS_BY_NONE});
+    request(session, "to deployed mode", VS_DEPLOYED_MODE);
+    print_mode();
+    key_changed(session, "replace PK, present and unsigned", (key_change){3, 4, 1, VS_BY_NONE});
+    key_changed(session, "delete PK, signed by PK", (key_change){4, 0, 0, VS_BY_PK});
+}
+
+/* From user to audit mode PK is lost. After the boot phase a lock on PlatMode bars requests, before it is asked what they want; it does not bar PK. */
+static void locked_mode(vs_session *session)
+{
+    key_changed(session, "set PK, present and unsigned", (key_change){5, 4, 1, VS_BY_NONE});
+    print_answer("the modem: to audit mode", request_by(VS_MODEM, session, VS_AUDIT_MODE));
+    request(session, "to audit mode", VS_AUDIT_MODE);
+    list(session, image, PART);
+    print_answer("lock PlatMode", lock_by(VS_OURS, global_vendor, session, "PlatMode"));
+    request(session, "to audit mode", VS_AUDIT_MODE);
+    vs_phase_lent(session, VS_AFTER_END_OF_DXE);
+    request(session, "to audit mode, after EndOfDxe", VS_AUDIT_MODE);
+    key_changed(session, "set PK, present and unsigned", (key_change){6, 4, 1, VS_BY_NONE});
+    print_mode();
+}
+
+static void modes(vs_session *session)
+{
+    setup = (vs_setup)ALL_OURS;
+    printf("modes of the platform\n");
+    print_answer("format", format());
+    print_answer("start-up", power_on(session));
+    enrolled_in_audit(session);
+    setup.custom = 1;
+    print_answer("start-up in custom mode", power_on(session));
+    present_in_deployed(session);
+    from_user(session);
+    locked_mode(session);
+}
+
 /* A compaction of one block makes 8,197 stores; number 4,098 decides. */
 static int story(void)
 {
@@ -878,6 +1004,7 @@ static int story(void)
     acquisition(&session);
     profiles(&session);
     tenant(&session);
+    modes(&session);
     printf("dead bytes found: %u, at %u and %u\n", (unsigned)known.count, (unsigned)known.dead[0], (unsigned)known.dead[1]);
     return memcmp(image, part.bytes, PART) != 0;
 }
@@ -892,7 +1019,7 @@ int main(int argc, char **argv)
                 "usage: host [IMAGE]\n"
                 "  with IMAGE: lists the variables of an image file: name, attributes, data\n"
                 "  without: a small flash part, power cuts in a compaction, a byte that dies, pages, hardware error records, settings that must\n"
-                "  make sense, are read in one call and changed together, and a modem in the same image\n");
+                "  make sense, are read in one call and changed together, a modem in the same image, and modes of the platform\n");
         return 2;
     }
     return list_file(argv[1]);

@@ -27,6 +27,9 @@ enum { ITEMS = 8, SETTING = 100, ITEM = 3 + 16 + 6 + SETTING };
 static const vs_context no_limit = {.limit = VS_NO_LIMIT};
 static vs_setup setup; /* no custom mode, no reserve, no bytes for error records, a modem with nothing, and as many rules as there may be */
 static const uint8_t vendor[16] = {1}, zeros[2048];
+static const uint8_t pk[6] = {'P', 0, 'K', 0}, global_vendor[16] = {0x61, 0xDF, 0xE4, 0x8B, 0xCA, 0x93, 0xD2, 0x11, 0xAA, 0x0D, 0x00, 0xE0, 0x98, 0x03, 0x2B, 0x8C};
+/* PK with its descriptor, which has no signature: a key of one byte. */
+static const uint8_t key[41] = {[16] = 24, 0, 0, 0, 0x00, 0x02, 0xF1, 0x0E, 0x9D, 0xD2, 0xAF, 0x4A, 0xDF, 0x68, 0xEE, 0x49, 0x8A, 0xA9, 0x34, 0x7D, 0x37, 0x56, 0x65, 0xA7, 1};
 static uint8_t image[IMAGE], plain[IMAGE], buffer[2048], content[VS_CONTENT], stack[STACK];
 static uint8_t keys[VS_NAMES * VS_KEY], file[1 + ITEMS * ITEM];
 static uint32_t sizes[VS_NAMES];
@@ -138,6 +141,20 @@ static void fill(size_t size)
     }
 }
 
+/* The platform in a mode; where the free part is to be too short, nothing of it is left for a mode. */
+static void enter_mode(uint32_t from, int full)
+{
+    if (from == VS_USER_MODE) {
+        vs_set(no_limit, session, image, IMAGE, pk, sizeof pk, global_vendor, 0x27, key, sizeof key, 0, VS_BY_PAYLOAD, content);
+    }
+    if (from == VS_AUDIT_MODE) {
+        vs_mode(no_limit, session, image, IMAGE, VS_AUDIT_MODE, content);
+    }
+    if (from != VS_SETUP_MODE && full) {
+        put(FREE - 1, vendor, PLAIN, 4096 * BLOCKS - vs_check(image, IMAGE).tail - 60 - sizeof pk);
+    }
+}
+
 /* A plan as the answer of its call. */
 static vs_answer planned(void)
 {
@@ -182,6 +199,19 @@ static void plan_set(void)
     plan = CALL(vs_plan_set)(session, VS_OURS, image, IMAGE, name, sizeof name, vendor, attributes, zeros, size, 0, VS_BY_NONE, content);
 }
 
+static void set_key(void)
+{
+    answer = CALL(vs_set)(no_limit, session, image, IMAGE, pk, sizeof pk, global_vendor, 0x27, key, sizeof key, 0, VS_BY_PAYLOAD, content);
+}
+
+static void plan_set_key(void)
+{
+    plan = CALL(vs_plan_set)(session, VS_OURS, image, IMAGE, pk, sizeof pk, global_vendor, 0x27, key, sizeof key, 0, VS_BY_PAYLOAD, content);
+}
+
+static void present_mode(void) { answer = CALL(vs_present_mode)(image, IMAGE).answer; }
+static void mode(void) { answer = CALL(vs_mode)(no_limit, session, image, IMAGE, attributes, content); }
+static void plan_mode(void) { plan = CALL(vs_plan_mode)(session, VS_OURS, image, IMAGE, attributes, content); }
 static void profile(void) { answer = CALL(vs_profile)(no_limit, session, image, IMAGE, file, sizeof file, content); }
 static void plan_profile(void) { plan = CALL(vs_plan_profile)(session, VS_OURS, image, IMAGE, file, sizeof file, content); }
 static void session_fresh(void) { CALL(vs_session_fresh)(&session); }
@@ -206,6 +236,18 @@ static void plan_set_lent(void)
     plan = CALL(vs_plan_set_lent)(&session, VS_OURS, image, IMAGE, name, sizeof name, vendor, attributes, zeros, size, 0, VS_BY_NONE, content);
 }
 
+static void set_key_lent(void)
+{
+    answer = CALL(vs_set_lent)(no_limit, &session, image, IMAGE, pk, sizeof pk, global_vendor, 0x27, key, sizeof key, 0, VS_BY_PAYLOAD, content);
+}
+
+static void plan_set_key_lent(void)
+{
+    plan = CALL(vs_plan_set_lent)(&session, VS_OURS, image, IMAGE, pk, sizeof pk, global_vendor, 0x27, key, sizeof key, 0, VS_BY_PAYLOAD, content);
+}
+
+static void mode_lent(void) { answer = CALL(vs_mode_lent)(no_limit, &session, image, IMAGE, attributes, content); }
+static void plan_mode_lent(void) { plan = CALL(vs_plan_mode_lent)(&session, VS_OURS, image, IMAGE, attributes, content); }
 static void profile_lent(void) { answer = CALL(vs_profile_lent)(no_limit, &session, image, IMAGE, file, sizeof file, content); }
 static void plan_profile_lent(void) { plan = CALL(vs_plan_profile_lent)(&session, VS_OURS, image, IMAGE, file, sizeof file, content); }
 
@@ -250,60 +292,79 @@ typedef struct {
     unsigned stores; /* that the call makes or plans at least */
     enum { ANSWER, LISTED, STARTED, PLANNED } result;
     unsigned i; /* of a set: the name's number, attributes, size */
-    uint32_t attributes;
+    uint32_t attributes; /* of a mode request the mode */
     size_t size;
     int lent; /* whether its session is in the host's memory */
+    uint32_t from; /* the platform's mode: setup, user or audit */
 } measured;
 
 static const measured calls[] = {
-    {"vs_check", check, 0, 0, ANSWER, 0, 0, 0, 0},
-    {"vs_session_new", new_session, 0, 0, ANSWER, 0, 0, 0, 0},
-    {"vs_phase", phase, 0, 0, ANSWER, 0, 0, 0, 0},
-    {"vs_lock", lock, 0, 0, LISTED, 0, 0, 0, 0},
-    {"vs_get", get, 0, 0, ANSWER, 0, 0, 0, 0},
-    {"vs_get_many", many, 0, 0, ANSWER, 0, 0, 0, 0},
-    {"vs_query", query, 0, 0, ANSWER, 0, 0, 0, 0},
-    {"vs_next_name", next_name, 0, 0, ANSWER, 0, 0, 0, 0},
-    {"vs_set in the tail", set, 0, 60, ANSWER, FREE, PLAIN, 1, 0},
-    {"vs_set that deletes", set, 0, 1, ANSWER, FIRST, 0, 0, 0},
-    {"vs_set that compacts", set, 1000, 50000, ANSWER, FIRST, PLAIN, 1000, 0},
-    {"vs_set that appends and compacts", set, 2048, 50000, ANSWER, FIRST, PLAIN | VS_APPEND, 1024, 0},
-    {"vs_profile", profile, 1000, 50000, ANSWER, 0, 0, 0, 0},
-    {"vs_format", format, 0, 15, ANSWER, 0, 0, 0, 0},
-    {"vs_start_up that compacts", start_up, 0, 50000, STARTED, 0, 0, 0, 0},
-    {"vs_plan_set in the tail", plan_set, 0, 60, PLANNED, FREE, PLAIN, 1, 0},
-    {"vs_plan_set that deletes", plan_set, 0, 1, PLANNED, FIRST, 0, 0, 0},
-    {"vs_plan_set that compacts", plan_set, 1000, 50000, PLANNED, FIRST, PLAIN, 1000, 0},
-    {"vs_plan_set, appends and compacts", plan_set, 2048, 50000, PLANNED, FIRST, PLAIN | VS_APPEND, 1024, 0},
-    {"vs_plan_profile", plan_profile, 1000, 50000, PLANNED, 0, 0, 0, 0},
-    {"vs_plan_format", plan_format, 0, 15, PLANNED, 0, 0, 0, 0},
-    {"vs_plan_start_up that compacts", plan_start_up, 0, 50000, PLANNED, 0, 0, 0, 0},
-    {"vs_to_plain", to_plain, 0, 0, ANSWER, 0, 0, 0, 0},
-    {"vs_from_plain", from_plain, 0, 0, ANSWER, 0, 0, 0, 0},
-    {"vs_session_fresh", session_fresh, 0, 0, ANSWER, 0, 0, 0, 1},
-    {"vs_phase_lent", phase_lent, 0, 0, ANSWER, 0, 0, 0, 1},
-    {"vs_lock_lent", lock_lent, 0, 0, ANSWER, 0, 0, 0, 1},
-    {"vs_get_lent", get_lent, 0, 0, ANSWER, 0, 0, 0, 1},
-    {"vs_get_many_lent", many_lent, 0, 0, ANSWER, 0, 0, 0, 1},
-    {"vs_query_lent", query_lent, 0, 0, ANSWER, 0, 0, 0, 1},
-    {"vs_next_name_lent", next_lent, 0, 0, ANSWER, 0, 0, 0, 1},
-    {"vs_set_lent in the tail", set_lent, 0, 60, ANSWER, FREE, PLAIN, 1, 1},
-    {"vs_set_lent that deletes", set_lent, 0, 1, ANSWER, FIRST, 0, 0, 1},
-    {"vs_set_lent that compacts", set_lent, 1000, 50000, ANSWER, FIRST, PLAIN, 1000, 1},
-    {"vs_set_lent, appends and compacts", set_lent, 2048, 50000, ANSWER, FIRST, PLAIN | VS_APPEND, 1024, 1},
-    {"vs_profile_lent", profile_lent, 1000, 50000, ANSWER, 0, 0, 0, 1},
-    {"vs_start_up_lent that compacts", start_up_lent, 0, 50000, ANSWER, 0, 0, 0, 1},
-    {"vs_plan_set_lent in the tail", plan_set_lent, 0, 60, PLANNED, FREE, PLAIN, 1, 1},
-    {"vs_plan_set_lent that compacts", plan_set_lent, 1000, 50000, PLANNED, FIRST, PLAIN, 1000, 1},
-    {"vs_plan_set_lent, appends", plan_set_lent, 2048, 50000, PLANNED, FIRST, PLAIN | VS_APPEND, 1024, 1},
-    {"vs_plan_profile_lent", plan_profile_lent, 1000, 50000, PLANNED, 0, 0, 0, 1},
-    {"vs_plan_start_up_lent, compacts", plan_start_up_lent, 0, 50000, PLANNED, 0, 0, 0, 1},
+    {"vs_check", check, 0, 0, ANSWER, 0, 0, 0, 0, VS_SETUP_MODE},
+    {"vs_present_mode", present_mode, 0, 0, ANSWER, 0, 0, 0, 0, VS_AUDIT_MODE},
+    {"vs_session_new", new_session, 0, 0, ANSWER, 0, 0, 0, 0, VS_SETUP_MODE},
+    {"vs_phase", phase, 0, 0, ANSWER, 0, 0, 0, 0, VS_SETUP_MODE},
+    {"vs_lock", lock, 0, 0, LISTED, 0, 0, 0, 0, VS_SETUP_MODE},
+    {"vs_get", get, 0, 0, ANSWER, 0, 0, 0, 0, VS_SETUP_MODE},
+    {"vs_get_many", many, 0, 0, ANSWER, 0, 0, 0, 0, VS_SETUP_MODE},
+    {"vs_query", query, 0, 0, ANSWER, 0, 0, 0, 0, VS_SETUP_MODE},
+    {"vs_next_name", next_name, 0, 0, ANSWER, 0, 0, 0, 0, VS_SETUP_MODE},
+    {"vs_set in the tail", set, 0, 60, ANSWER, FREE, PLAIN, 1, 0, VS_SETUP_MODE},
+    {"vs_set that deletes", set, 0, 1, ANSWER, FIRST, 0, 0, 0, VS_SETUP_MODE},
+    {"vs_set that compacts", set, 1000, 50000, ANSWER, FIRST, PLAIN, 1000, 0, VS_SETUP_MODE},
+    {"vs_set that appends and compacts", set, 2048, 50000, ANSWER, FIRST, PLAIN | VS_APPEND, 1024, 0, VS_SETUP_MODE},
+    {"vs_set of PK and mode", set_key, 1000, 50000, ANSWER, 0, 0, 0, 0, VS_AUDIT_MODE},
+    {"vs_profile", profile, 1000, 50000, ANSWER, 0, 0, 0, 0, VS_SETUP_MODE},
+    {"vs_mode in the tail", mode, 0, 60, ANSWER, 0, VS_DEPLOYED_MODE, 0, 0, VS_USER_MODE},
+    {"vs_mode that compacts", mode, 1000, 50000, ANSWER, 0, VS_DEPLOYED_MODE, 0, 0, VS_USER_MODE},
+    {"vs_mode that loses PK", mode, 1000, 50000, ANSWER, 0, VS_AUDIT_MODE, 0, 0, VS_USER_MODE},
+    {"vs_format", format, 0, 15, ANSWER, 0, 0, 0, 0, VS_SETUP_MODE},
+    {"vs_start_up that compacts", start_up, 0, 50000, STARTED, 0, 0, 0, 0, VS_SETUP_MODE},
+    {"vs_plan_set in the tail", plan_set, 0, 60, PLANNED, FREE, PLAIN, 1, 0, VS_SETUP_MODE},
+    {"vs_plan_set that deletes", plan_set, 0, 1, PLANNED, FIRST, 0, 0, 0, VS_SETUP_MODE},
+    {"vs_plan_set that compacts", plan_set, 1000, 50000, PLANNED, FIRST, PLAIN, 1000, 0, VS_SETUP_MODE},
+    {"vs_plan_set, appends and compacts", plan_set, 2048, 50000, PLANNED, FIRST, PLAIN | VS_APPEND, 1024, 0, VS_SETUP_MODE},
+    {"vs_plan_set of PK and mode", plan_set_key, 1000, 50000, PLANNED, 0, 0, 0, 0, VS_AUDIT_MODE},
+    {"vs_plan_profile", plan_profile, 1000, 50000, PLANNED, 0, 0, 0, 0, VS_SETUP_MODE},
+    {"vs_plan_mode in the tail", plan_mode, 0, 60, PLANNED, 0, VS_DEPLOYED_MODE, 0, 0, VS_USER_MODE},
+    {"vs_plan_mode that compacts", plan_mode, 1000, 50000, PLANNED, 0, VS_DEPLOYED_MODE, 0, 0, VS_USER_MODE},
+    {"vs_plan_mode that loses PK", plan_mode, 1000, 50000, PLANNED, 0, VS_AUDIT_MODE, 0, 0, VS_USER_MODE},
+    {"vs_plan_format", plan_format, 0, 15, PLANNED, 0, 0, 0, 0, VS_SETUP_MODE},
+    {"vs_plan_start_up that compacts", plan_start_up, 0, 50000, PLANNED, 0, 0, 0, 0, VS_SETUP_MODE},
+    {"vs_to_plain", to_plain, 0, 0, ANSWER, 0, 0, 0, 0, VS_SETUP_MODE},
+    {"vs_from_plain", from_plain, 0, 0, ANSWER, 0, 0, 0, 0, VS_SETUP_MODE},
+    {"vs_session_fresh", session_fresh, 0, 0, ANSWER, 0, 0, 0, 1, VS_SETUP_MODE},
+    {"vs_phase_lent", phase_lent, 0, 0, ANSWER, 0, 0, 0, 1, VS_SETUP_MODE},
+    {"vs_lock_lent", lock_lent, 0, 0, ANSWER, 0, 0, 0, 1, VS_SETUP_MODE},
+    {"vs_get_lent", get_lent, 0, 0, ANSWER, 0, 0, 0, 1, VS_SETUP_MODE},
+    {"vs_get_many_lent", many_lent, 0, 0, ANSWER, 0, 0, 0, 1, VS_SETUP_MODE},
+    {"vs_query_lent", query_lent, 0, 0, ANSWER, 0, 0, 0, 1, VS_SETUP_MODE},
+    {"vs_next_name_lent", next_lent, 0, 0, ANSWER, 0, 0, 0, 1, VS_SETUP_MODE},
+    {"vs_set_lent in the tail", set_lent, 0, 60, ANSWER, FREE, PLAIN, 1, 1, VS_SETUP_MODE},
+    {"vs_set_lent that deletes", set_lent, 0, 1, ANSWER, FIRST, 0, 0, 1, VS_SETUP_MODE},
+    {"vs_set_lent that compacts", set_lent, 1000, 50000, ANSWER, FIRST, PLAIN, 1000, 1, VS_SETUP_MODE},
+    {"vs_set_lent, appends and compacts", set_lent, 2048, 50000, ANSWER, FIRST, PLAIN | VS_APPEND, 1024, 1, VS_SETUP_MODE},
+    {"vs_set_lent of PK and mode", set_key_lent, 1000, 50000, ANSWER, 0, 0, 0, 1, VS_AUDIT_MODE},
+    {"vs_profile_lent", profile_lent, 1000, 50000, ANSWER, 0, 0, 0, 1, VS_SETUP_MODE},
+    {"vs_mode_lent in the tail", mode_lent, 0, 60, ANSWER, 0, VS_DEPLOYED_MODE, 0, 1, VS_USER_MODE},
+    {"vs_mode_lent that compacts", mode_lent, 1000, 50000, ANSWER, 0, VS_DEPLOYED_MODE, 0, 1, VS_USER_MODE},
+    {"vs_mode_lent that loses PK", mode_lent, 1000, 50000, ANSWER, 0, VS_AUDIT_MODE, 0, 1, VS_USER_MODE},
+    {"vs_start_up_lent that compacts", start_up_lent, 0, 50000, ANSWER, 0, 0, 0, 1, VS_SETUP_MODE},
+    {"vs_plan_set_lent in the tail", plan_set_lent, 0, 60, PLANNED, FREE, PLAIN, 1, 1, VS_SETUP_MODE},
+    {"vs_plan_set_lent that compacts", plan_set_lent, 1000, 50000, PLANNED, FIRST, PLAIN, 1000, 1, VS_SETUP_MODE},
+    {"vs_plan_set_lent, appends", plan_set_lent, 2048, 50000, PLANNED, FIRST, PLAIN | VS_APPEND, 1024, 1, VS_SETUP_MODE},
+    {"vs_plan_set_lent of PK and mode", plan_set_key_lent, 1000, 50000, PLANNED, 0, 0, 0, 1, VS_AUDIT_MODE},
+    {"vs_plan_profile_lent", plan_profile_lent, 1000, 50000, PLANNED, 0, 0, 0, 1, VS_SETUP_MODE},
+    {"vs_plan_mode_lent in the tail", plan_mode_lent, 0, 60, PLANNED, 0, VS_DEPLOYED_MODE, 0, 1, VS_USER_MODE},
+    {"vs_plan_mode_lent that compacts", plan_mode_lent, 1000, 50000, PLANNED, 0, VS_DEPLOYED_MODE, 0, 1, VS_USER_MODE},
+    {"vs_plan_mode_lent that loses PK", plan_mode_lent, 1000, 50000, PLANNED, 0, VS_AUDIT_MODE, 0, 1, VS_USER_MODE},
+    {"vs_plan_start_up_lent, compacts", plan_start_up_lent, 0, 50000, PLANNED, 0, 0, 0, 1, VS_SETUP_MODE},
 };
 
 /* All is laid ready; a start-up finds a byte in the tail that no entry accounts for, and a move from the plain form what one to it has left. */
 static void prepare(const measured *m)
 {
     fill(m->filled ? m->filled : 4096 * BLOCKS - 4096);
+    enter_mode(m->from, m->filled > 0);
     if (m->caller == start_up || m->caller == plan_start_up || m->caller == start_up_lent || m->caller == plan_start_up_lent) {
         image[4096 * BLOCKS - 1] = 0;
     }

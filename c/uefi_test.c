@@ -1,4 +1,5 @@
-/* varstore_uefi.h against what it should do, worked out by hand: a status for each rule, sizes of names, what goes into UEFI's buffers and what does not.
+/* varstore_uefi.h against what it should do, worked out by hand: a status for each rule, the variables of each mode, sizes of names, what goes into UEFI's buffers and
+ * what does not.
  *
  *   uefi_test             exit status 0 if all is right, else each wrong line is named
  *   uefi_test statuses    prints the status of each rule, which tools/link-test compares with the list in varstore.h
@@ -48,7 +49,7 @@ static const char *named(uint64_t status)
 }
 
 /* No rule has the number NONE. */
-enum { LAST = VS_TWICE, NONE = 24 };
+enum { LAST = VS_TWICE, NONE = LAST + 1 };
 
 static void list_statuses(void)
 {
@@ -72,11 +73,25 @@ static void answers(void)
     RIGHT(vs_uefi_status(VS_SIDE) == 0x800000000000000Fu && vs_uefi_started(VS_SIDE) == 0x8000000000000002u);
     for (uint32_t rule = 0; rule <= LAST; rule++) {
         RIGHT(rule == VS_SIDE || vs_uefi_started(rule) == vs_uefi_status(rule));
-        RIGHT(rule == NONE || strcmp(vs_uefi_text(rule), "unknown rule") != 0);
+        RIGHT(strcmp(vs_uefi_text(rule), "unknown rule") != 0);
         for (uint32_t other = 0; other < rule; other++) {
             RIGHT(strcmp(vs_uefi_text(rule), vs_uefi_text(other)) != 0);
         }
     }
+}
+
+/* SetupMode, AuditMode and DeployedMode of each mode, as digits. */
+static void modes(void)
+{
+    static const struct {
+        uint32_t mode;
+        unsigned variables;
+    } wanted[] = {{VS_SETUP_MODE, 100}, {VS_USER_MODE, 0}, {VS_AUDIT_MODE, 110}, {VS_DEPLOYED_MODE, 1}};
+    for (size_t i = 0; i < sizeof wanted / sizeof wanted[0]; i++) {
+        uint32_t mode = wanted[i].mode;
+        RIGHT(100u * vs_uefi_setup_mode(mode) + 10u * vs_uefi_audit_mode(mode) + vs_uefi_deployed_mode(mode) == wanted[i].variables);
+    }
+    RIGHT(vs_uefi_status(VS_MODE) == 0x8000000000000008u);
 }
 
 static const uint8_t vendor[16] = {1, 2, 3, 4, 5, 6, 7, 8, 9, 10, 11, 12, 13, 14, 15, 16};
@@ -170,6 +185,7 @@ int main(int argc, char **argv)
         return 0;
     }
     answers();
+    modes();
     read_only();
     names();
     got();

@@ -1,4 +1,4 @@
-/* What a UEFI variable driver does around varstore.h: statuses, names of CHAR16, empty data, and UEFI's buffers. Nothing here is proved; all of it is small, and
+/* What a UEFI variable driver does around varstore.h: statuses, variables of the mode, names of CHAR16, empty data, and UEFI's buffers. Nothing here is proved; all of it is small, and
  * tried by c/uefi_test.c. examples/uefi_driver.c is a driver built on it.
  *
  * The functions are static and inline, call nothing, not even memcpy, and keep no state, so they compile in a firmware as they are, in its own calling convention.
@@ -46,6 +46,7 @@ static inline uint64_t vs_uefi_status(uint32_t rule)
         return VS_EFI_INVALID_PARAMETER;
     case VS_LOCKED:
     case VS_LOCK_PHASE:
+    case VS_MODE:
         return VS_EFI_WRITE_PROTECTED;
     case VS_DESCRIPTOR:
     case VS_VERDICT:
@@ -152,6 +153,8 @@ static inline const char *vs_uefi_text(uint32_t rule)
         return "the other side's name, or shares that do not fit";
     case VS_WORN:
         return "a byte no longer clears";
+    case VS_MODE:
+        return "no such transition of modes, or a set of PlatMode";
     case VS_FILE:
         return "not the form of a profile";
     case VS_TWICE:
@@ -159,6 +162,25 @@ static inline const char *vs_uefi_text(uint32_t rule)
     default:
         return "unknown rule";
     }
+}
+
+/* ---- Variables of the mode */
+
+/* What UEFI's variables SetupMode, AuditMode and DeployedMode hold in a mode that vs_present_mode tells: one byte, 0 or 1. The store keeps none of the three: a driver
+ * answers a get of them by these. */
+static inline uint8_t vs_uefi_setup_mode(uint32_t mode)
+{
+    return mode == VS_SETUP_MODE || mode == VS_AUDIT_MODE;
+}
+
+static inline uint8_t vs_uefi_audit_mode(uint32_t mode)
+{
+    return mode == VS_AUDIT_MODE;
+}
+
+static inline uint8_t vs_uefi_deployed_mode(uint32_t mode)
+{
+    return mode == VS_DEPLOYED_MODE;
 }
 
 /* ---- Arguments */

@@ -12,7 +12,8 @@ LARGEST_DATA = 2048
 ERROR_RECORD = 0x08
 RECORD_VENDOR = bytes.fromhex("DD6B4E417BE4CC47B244BB61020CF516")
 # PK and KEK are EFI_GLOBAL_VARIABLE's, db, dbx and dbt EFI_IMAGE_SECURITY_DATABASE's
-KEY_NAMES = {bytes.fromhex("61DFE48BCA93D211AA0D00E098032B8C"): ("PK", "KEK"), bytes.fromhex("CBB219D73A3D9645A3BCDAD00E67656F"): ("db", "dbx", "dbt")}
+GLOBAL_VENDOR = bytes.fromhex("61DFE48BCA93D211AA0D00E098032B8C")
+KEY_NAMES = {GLOBAL_VENDOR: ("PK", "KEK"), bytes.fromhex("CBB219D73A3D9645A3BCDAD00E67656F"): ("db", "dbx", "dbt")}
 
 
 class Form:
@@ -110,9 +111,15 @@ def is_key_name(e):
     return e.name in [(name + "\0").encode("utf-16-le") for name in KEY_NAMES.get(e.vendor, ())]
 
 
+def is_mode_name(e):
+    """"under the name PlatMode and PK's vendor GUID" """
+    return e.vendor == GLOBAL_VENDOR and e.name == "PlatMode\0".encode("utf-16-le")
+
+
 def is_modems(e, guid):
-    """"All names under one vendor GUID, named in the session, are the modem's; the rest are ours, key names and error records always included." """
-    return e.vendor == guid and not is_key_name(e) and not has_record_name(e)
+    """"All names under one vendor GUID, named in the session, are the modem's; the rest are ours, key names and error records always included." "PlatMode is ours, like
+    the key names." """
+    return e.vendor == guid and not is_key_name(e) and not is_mode_name(e) and not has_record_name(e)
 
 
 def faults_of(entries, length):
