@@ -1,5 +1,6 @@
 // The C interface: every exported function, thin over the engine and the move: the parts of the session that a call needs, one call, and its answer in numbers. Numbers
 // and structs of numbers cross, no enum; c/varstore.h documents them.
+#![tactic(auto)]
 ghost use Rattle.std.specs.Prelude.{◌≡◌, false};
 ghost use Rattle.model.specs.Layout.{authenticated, plain};
 ghost use Rattle.model.specs.Name.{keyed};
@@ -31,7 +32,7 @@ use session::{Locks, lent};
 
 // An answer in numbers: 0 done, 1 stopped, 2 refused; the rule if refused, else 0; the number of stores if done, else 0.
 #[repr(C)]
-#[derive(Drop)]
+#[derive(Clone, Copy)]
 pub struct Answered {
     pub kind: u32,
     pub rule: u32,
@@ -40,7 +41,7 @@ pub struct Answered {
 
 // What a check tells: b and the offset of the tail, 0 if refused.
 #[repr(C)]
-#[derive(Drop)]
+#[derive(Clone, Copy)]
 pub struct Checked {
     pub answer: Answered,
     pub blocks: u32,
@@ -49,7 +50,7 @@ pub struct Checked {
 
 // What is told of the platform's mode, 0 if refused.
 #[repr(C)]
-#[derive(Drop)]
+#[derive(Clone, Copy)]
 pub struct Present {
     pub answer: Answered,
     pub mode: u32,
@@ -57,7 +58,7 @@ pub struct Present {
 
 // What a get or next-name gives back; next-name has no attributes.
 #[repr(C)]
-#[derive(Drop)]
+#[derive(Clone, Copy)]
 pub struct Reply {
     pub answer: Answered,
     pub size: u32,
@@ -67,7 +68,7 @@ pub struct Reply {
 
 // What a query gives back: the bytes that all values of a class may take, those that a new one may take, and how many bytes its name and data may have; 0 if refused.
 #[repr(C)]
-#[derive(Drop)]
+#[derive(Clone, Copy)]
 pub struct Room {
     pub answer: Answered,
     pub storage: u32,
@@ -77,7 +78,7 @@ pub struct Room {
 
 // What a lock gives back.
 #[repr(C)]
-#[derive(Drop)]
+#[derive(Clone, Copy)]
 pub struct Listed {
     pub answer: Answered,
     pub session: Session,
@@ -85,7 +86,7 @@ pub struct Listed {
 
 // What a start-up gives back: the session is fresh, also where it is refused or stopped.
 #[repr(C)]
-#[derive(Drop)]
+#[derive(Clone, Copy)]
 pub struct Started {
     pub answer: Answered,
     pub session: Session,

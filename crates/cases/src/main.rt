@@ -1,5 +1,6 @@
 // cases: for each file that an argument names, its name, and what varlist prints of it if it is an image, or the lines of its steps if it is a
 // script of calls.
+#![tactic(auto)]
 mod fields;
 mod many;
 mod play;

@@ -43,7 +43,7 @@ use session::Locks;
 
 // What is carried from a step to the next: the session, the last step's context for its dead bytes, its page and its side, what start-ups are given for its rules and
 // tenants, and whether a step has given tenants.
-#[derive(Drop)]
+#[derive(Clone, Copy)]
 struct Carried {
     session: Session,
     context: Context,

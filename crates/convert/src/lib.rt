@@ -1,4 +1,5 @@
 // A move: the values of a lent image put into another lent image, in another stored form. It writes its target as a buffer and makes no stores.
+#![tactic(auto)]
 ghost use Rattle.std.specs.Prelude.{◌≡◌};
 ghost use Rattle.recovery.specs.Interface.{MoveReturned};
 ghost use Rattle.convert.specs.Bare.{checked_of};
@@ -10,7 +11,7 @@ mod put;
 mod room;
 
 // What the rules leave of a move: the blocks of source and target, or the rule broken.
-#[derive(Drop)]
+#[derive(Clone, Copy)]
 pub enum Checked {
     Fits(usize, usize),
     Broken(Rule),

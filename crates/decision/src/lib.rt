@@ -1,4 +1,5 @@
 // The decision on a set over a sound region: the first broken of rules 3 to 13, 17, 18, 21, 22 and 24, or what the set does to the values. That on a profile is in `items`.
+#![tactic(auto)]
 ghost use Rattle.std.specs.Prelude.{◌≡◌, ◌≢◌, true, cond, [], ◌++◌, ◌≤◌, length};
 ghost use Rattle.std.proofs.Math.Option.{none};
 ghost use Rattle.model.specs.Name.{keyed};
@@ -23,7 +24,7 @@ pub mod modes;
 mod rules;
 
 // The first broken rule, or what a set does: nothing, remove the value that stands, put a new one.
-#[derive(Drop)]
+#[derive(Clone, Copy)]
 pub enum Decision {
     Broken(Rule),
     Nothing,
@@ -32,7 +33,7 @@ pub enum Decision {
 }
 
 // The numbers of a set: its attributes, "physical presence and the verdict".
-#[derive(Drop)]
+#[derive(Clone, Copy)]
 pub struct Asking {
     pub attributes: u32,
     pub presence: u32,
@@ -40,7 +41,7 @@ pub struct Asking {
 }
 
 // A value to put, by numbers: its attributes and stamp, whether it keeps the data of the value that is there, and where in the caller's data its own begin.
-#[derive(Drop)]
+#[derive(Clone, Copy)]
 pub struct NewValue {
     pub attributes: u32,
     pub stamp: [u8; 16],
@@ -50,7 +51,7 @@ pub struct NewValue {
 
 // A change by numbers: what it is, the places of the name's entries, which it marks or leaves out, and the value that it puts, if it puts one. Where PlatMode changes with
 // it, `beside` is the offset of its entry, else 0; and `deploys` says whether a 3 comes in its place.
-#[derive(Drop)]
+#[derive(Clone, Copy)]
 pub struct Decided {
     pub what: Decision,
     pub places: Places,
@@ -60,7 +61,7 @@ pub struct Decided {
 }
 
 // What a set comes to, and what of PlatMode changes with it, as above.
-#[derive(Drop)]
+#[derive(Clone, Copy)]
 struct Joined {
     what: Decision,
     beside: usize,
@@ -68,7 +69,7 @@ struct Joined {
 }
 
 // Rounded entry sizes by class: of the error records; and of the other values those of the side that asks, and those of the other side.
-#[derive(Drop)]
+#[derive(Clone, Copy)]
 pub struct Sums {
     pub records: usize,
     pub own: usize,
@@ -76,14 +77,14 @@ pub struct Sums {
 }
 
 // What a set, or an item of a profile, comes to before room is asked, and the size of the data that a value to put would have.
-#[derive(Drop)]
+#[derive(Clone, Copy)]
 pub struct Tried {
     pub what: Decision,
     pub size: usize,
 }
 
 // What some of the rules say: kept, or the first broken.
-#[derive(Drop)]
+#[derive(Clone, Copy)]
 pub enum Judged {
     Kept,
     Breaks(Rule),
@@ -91,7 +92,7 @@ pub enum Judged {
 
 // What an item of a profile weighs: what the rules say of it, room apart; the offset of the entry that it leaves behind, 0 if it leaves none; and the rounded sizes of
 // that entry and of the one that comes.
-#[derive(Drop)]
+#[derive(Clone, Copy)]
 pub struct Weight {
     pub judged: Judged,
     pub at: usize,
@@ -100,7 +101,7 @@ pub struct Weight {
 }
 
 // The same of all items: an offset for each, whether it stores a value, and the sums of the sizes.
-#[derive(Drop)]
+#[derive(Clone, Copy)]
 pub struct Weights {
     pub judged: Judged,
     pub leave: [usize; 8],
@@ -110,7 +111,7 @@ pub struct Weights {
 }
 
 // What a profile comes to: the first broken rule, nothing, or a compaction, which leaves out the entries at eight offsets and adds a value for each item that stores one.
-#[derive(Drop)]
+#[derive(Clone, Copy)]
 pub struct Weighed {
     pub what: Decision,
     pub leave: [usize; 8],

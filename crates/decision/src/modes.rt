@@ -23,7 +23,7 @@ const DEPLOYED: u8 = 3;
 const ENTRY: usize = 80;
 
 // What a mode request comes to: the first broken rule or a put; the offset of PK's entry if that goes, else 0; the byte to store; and the places of PlatMode's entries.
-#[derive(Drop)]
+#[derive(Clone, Copy)]
 pub struct Transition {
     pub what: Decision,
     pub pk: usize,

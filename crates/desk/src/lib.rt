@@ -1,4 +1,5 @@
 // A season tried on the desk: the steps of a script played through the engine on an empty image, and a line of text for each.
+#![tactic(auto)]
 ghost use Rattle.std.specs.Prelude.{◌≡◌, ◌+◌, ◌*◌, ◌^◌, ◌≤◌, ◌<◌, length};
 ghost use Rattle.model.specs.Image.{block};
 ghost use Rattle.model.specs.Region.{tail_at};
@@ -19,7 +20,7 @@ mod script;
 mod text;
 
 // What a step of a script asks: whether it is cut, after how many stores, and its item.
-#[derive(Drop)]
+#[derive(Clone, Copy)]
 pub struct Asked {
     pub cut: bool,
     pub limit: usize,
@@ -27,21 +28,21 @@ pub struct Asked {
 }
 
 // A step that was read, and the place after it.
-#[derive(Drop)]
+#[derive(Clone, Copy)]
 pub enum Next {
     Here(Asked, usize),
     Missing,
 }
 
 // Of a script that is right: b, the number of its steps, and the place of the first one.
-#[derive(Drop)]
+#[derive(Clone, Copy)]
 pub enum Form {
     Right(usize, usize, usize),
     Wrong,
 }
 
 // What was played: the answer, the stores, and the blocks that these erased.
-#[derive(Drop)]
+#[derive(Clone, Copy)]
 pub struct Played {
     pub answer: Answer,
     pub stores: u64,
@@ -49,7 +50,7 @@ pub struct Played {
 }
 
 // A line that was written: the place after it, and the erases so far.
-#[derive(Drop)]
+#[derive(Clone, Copy)]
 pub struct Lined {
     pub next: usize,
     pub erases: u64,

@@ -22,7 +22,7 @@ use session::Locks;
 use values::lookup;
 
 // The mode of an image that is ready, or the rule that it breaks.
-#[derive(Drop)]
+#[derive(Clone, Copy)]
 pub enum Platform {
     Mode(PlatMode),
     Refused(Rule),

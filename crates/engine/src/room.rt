@@ -11,7 +11,7 @@ use model::{Answer, Layout, Queried, Rule, Terms};
 use values::list;
 
 // The room for values of a class, in numbers.
-#[derive(Drop)]
+#[derive(Clone, Copy)]
 struct Room {
     storage: usize,
     remaining: usize,

@@ -116,7 +116,7 @@ fn plan_joint(
 }
 
 // What a check found of an image that is ready: its blocks, the offset of its tail, and how many records are used.
-#[derive(Drop)]
+#[derive(Clone, Copy)]
 struct Ready {
     b: usize,
     tail: usize,

@@ -1,4 +1,5 @@
 // A whole image: its length, and whether a call or a start-up may begin on it.
+#![tactic(auto)]
 ghost use Rattle.std.specs.Prelude.{◌≡◌, ◌≤◌};
 ghost use Rattle.model.specs.Image.{work};
 ghost use Rattle.model.specs.Work.{pending};
@@ -13,7 +14,7 @@ use region::Met;
 const PAIR: usize = 8192;
 
 // What rules 1 and 2 leave to a call: the number of blocks, the offset of the tail and the number of used records, or the rule broken.
-#[derive(Drop)]
+#[derive(Clone, Copy)]
 pub enum Check {
     Ready(usize, usize, usize),
     Refused(Rule),
@@ -21,7 +22,7 @@ pub enum Check {
 
 // What they leave to a start-up: the number of blocks of a pending compaction or of a sound region, with the look at the work block, and of the region whether it is
 // clean; or the rule broken.
-#[derive(Drop)]
+#[derive(Clone, Copy)]
 pub enum Start {
     Pending(usize, Look),
     Sound(usize, Look, bool),
@@ -47,7 +48,7 @@ pub fn blocks(image: &[u8]) -> usize
 }
 
 // What rules 1 and 2 leave to a call, and where a ready image has a sought name.
-#[derive(Drop)]
+#[derive(Clone, Copy)]
 pub struct Checked {
     pub check: Check,
     pub met: Met,

@@ -1,4 +1,5 @@
 // The readers of an entry, in every stored form; the fixed byte strings of the format stand in `fixed`.
+#![tactic(auto)]
 ghost use Rattle.std.specs.Prelude.{◌≡◌, false, ◌++◌, ◌+◌, ◌<◌, ◌^◌, get_or};
 ghost use Rattle.model.specs.Lists.{u16_at_def, u32_at};
 ghost use Rattle.model.specs.Layout.{header_length};
@@ -23,7 +24,7 @@ pub const REGION_HEADER: usize = 28;
 pub const LARGEST_DATA: u32 = 2048;
 
 // The numbers of an entry's header: state, attributes, size of the name, size of the data.
-#[derive(Drop)]
+#[derive(Clone, Copy)]
 pub struct Entry {
     pub state: u8,
     pub attributes: u32,
@@ -32,7 +33,7 @@ pub struct Entry {
 }
 
 // What stands at the front of a part of the region: an entry, or the end of the walk.
-#[derive(Drop)]
+#[derive(Clone, Copy)]
 pub enum Head {
     Present(Entry),
     End,

@@ -1,4 +1,5 @@
 // plainlist: reads an image of a plain store on standard input and prints its variables as varlist does, or the rule that it breaks in its form.
+#![tactic(auto)]
 use libc::{STDERR_FILENO, STDOUT_FILENO};
 use model::Layout;
 

@@ -1,4 +1,5 @@
 // The operations of a call on the image, as data: a planner makes them from the image lent shared, the executor of `flash` carries them out.
+#![tactic(auto)]
 ghost use Rattle.std.specs.Prelude.{◌≡◌};
 ghost use Rattle.plan.specs.Planned.{accepted, refused, nothings};
 ghost use Rattle.plan.specs.Told.{no_operations_def};
@@ -12,7 +13,7 @@ const HEADER: u64 = Layout::HEADER as u64;
 // One operation: none; a byte marked (offset, new value); blocks erased (the first, how many); bytes of the content stored (offset in the image, offset in
 // the content, how many); an entry's header stored around its state (offset in the image, offset in the content), so that a part programmed in pages can take
 // it as one piece.
-#[derive(Drop)]
+#[derive(Clone, Copy)]
 pub enum Step {
     Nothing,
     Mark(usize, u8),
@@ -22,7 +23,7 @@ pub enum Step {
 }
 
 // An array holds no enum, but structs that do.
-#[derive(Drop)]
+#[derive(Clone, Copy)]
 pub struct Op {
     pub step: Step,
 }
@@ -37,14 +38,14 @@ pub const NONE_DECIDES: usize = OPERATIONS;
 pub type Plan = [Op; OPERATIONS];
 
 // A call judged: accepted, or the first rule that it breaks.
-#[derive(Drop)]
+#[derive(Clone, Copy)]
 pub enum Judged {
     Accepted,
     Refused(Rule),
 }
 
 // What was planned for a call; no operation where it is refused. Its deciding store is operation number `deciding`, always a mark; or none decides.
-#[derive(Drop)]
+#[derive(Clone, Copy)]
 pub struct Planned {
     pub judged: Judged,
     pub plan: Plan,
@@ -87,7 +88,7 @@ pub fn refuse(rule: Rule) -> Planned
 // 3 a program: `len` bytes of the content from `from` on, stored from `at` on; 4 a header: 60 bytes (len 60) of the content from `from` on, stored from `at`
 // on: byte by byte all but the third, which is the state; in pages all of them, the third being FF.
 #[repr(C)]
-#[derive(Drop)]
+#[derive(Clone, Copy)]
 pub struct HostOp {
     pub kind: u64,
     pub at: u64,
@@ -97,7 +98,7 @@ pub struct HostOp {
 
 // What a planning call tells a host: the rule that the call breaks, or 0; the number of the operation that decides, or `NONE_DECIDES`; the operations.
 #[repr(C)]
-#[derive(Drop)]
+#[derive(Clone, Copy)]
 pub struct HostPlan {
     pub rule: u32,
     pub deciding: u64,

@@ -42,7 +42,7 @@ fn spare_step(image: &[u8], b: usize) -> Step
 }
 
 // "the work block if it is not well formed or ends in FC", and how many records are used then.
-#[derive(Drop)]
+#[derive(Clone, Copy)]
 struct WorkLeft {
     step: Step,
     used: usize,

@@ -1,4 +1,5 @@
 // What the rules say of the call itself: attributes, descriptor and stamp, verdict, and what a set asks for. No image is looked at.
+#![tactic(auto)]
 ghost use Rattle.std.specs.Prelude.{◌≡◌, not, cond, ◌∷◌, ◌<◌, length};
 ghost use Rattle.model.specs.Lists.{among, is_empty};
 ghost use Rattle.model.specs.Name.{keyed};
@@ -12,7 +13,7 @@ ghost use Rattle.policy.specs.Verdict.{verdicts_of};
 use layout::fixed;
 
 // Of which verdicts one is wanted: of none, of this one, of PK or KEK.
-#[derive(Drop)]
+#[derive(Clone, Copy)]
 pub enum Wanted {
     Free,
     One(u32),

@@ -1,4 +1,5 @@
 // A profile's file: its numbers and items, read at their places.
+#![tactic(auto)]
 ghost use Rattle.std.specs.Prelude.{◌≡◌, false, map, ◌+◌, ◌^◌, ◌<◌, ◌≤◌, length, take, drop, get_or};
 ghost use Rattle.model.specs.Lists.{part, any, among};
 ghost use Rattle.model.specs.Name.{same_key_def};
@@ -13,14 +14,14 @@ const MOST: usize = 8;
 const GUID: usize = 16;
 
 // A number that was read, and the place after it.
-#[derive(Drop)]
+#[derive(Clone, Copy)]
 pub enum Numeral {
     At(usize, usize),
     Malformed,
 }
 
 // An item: its attributes, the place of its GUID in the file, and the sizes of its name and its data, which follow the GUID.
-#[derive(Drop)]
+#[derive(Clone, Copy)]
 pub struct Setting {
     pub attributes: u32,
     pub at: usize,
@@ -29,14 +30,14 @@ pub struct Setting {
 }
 
 // An item that was read, and the place after it.
-#[derive(Drop)]
+#[derive(Clone, Copy)]
 pub enum Found {
     Here(Setting, usize),
     Missing,
 }
 
 // Whether a file has the form of a profile, how many items it has, and these in their order.
-#[derive(Drop)]
+#[derive(Clone, Copy)]
 pub struct Settings {
     pub good: bool,
     pub count: usize,

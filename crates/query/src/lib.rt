@@ -1,4 +1,5 @@
 // Which value a get and a next-name answer with: the entry of a region that holds it.
+#![tactic(auto)]
 ghost use Rattle.std.specs.Prelude.{◌≡◌, cond};
 ghost use Rattle.model.specs.Lists.{same};
 ghost use Rattle.model.specs.Name.{keyed, empty_name};
@@ -16,7 +17,7 @@ use values::{Found, list};
 pub mod many;
 
 // A range of names, by their numbers.
-#[derive(Drop)]
+#[derive(Clone, Copy)]
 pub struct Names {
     pub start: usize,
     pub end: usize,

@@ -1,4 +1,5 @@
 // The records of the work block.
+#![tactic(auto)]
 ghost use Rattle.std.specs.Prelude.{◌≡◌, ◌≤◌, ◌<◌, length};
 ghost use Rattle.model.specs.Lists.{among};
 ghost use Rattle.model.specs.Work.{record_states};
@@ -9,7 +10,7 @@ ghost use Rattle.records.specs.Passed.{unread, onward, through};
 pub const RECORDS: usize = 64;
 
 // What a look at a work block tells: whether it is well formed, how many records are used, and the last used one (FF where none is).
-#[derive(Drop)]
+#[derive(Clone, Copy)]
 pub struct Look {
     pub formed: bool,
     pub used: usize,

@@ -1,4 +1,5 @@
 // The region: the walk over its entries, and when it is sound and clean.
+#![tactic(auto)]
 use layout::Entry;
 
 pub mod judge;
@@ -7,42 +8,42 @@ mod sorted;
 pub mod walk;
 
 // What a turn of the walk finds at an offset: an entry's numbers and the offset of the next entry, or the end.
-#[derive(Drop)]
+#[derive(Clone, Copy)]
 pub enum Turn {
     Entry(Entry, usize),
     Stop,
 }
 
 // What one pass over the entries finds: whether each is sound by itself and no name is doubled, and then where the tail begins (else 0).
-#[derive(Drop)]
+#[derive(Clone, Copy)]
 pub struct Scan {
     pub sound: bool,
     pub tail: usize,
 }
 
 // Where a name's 3F entry begins, and where its 3E entry; 0 where there is none.
-#[derive(Drop)]
+#[derive(Clone, Copy)]
 pub struct Met {
     pub added: usize,
     pub replacing: usize,
 }
 
 // What one pass finds, and where it met a sought name.
-#[derive(Drop)]
+#[derive(Clone, Copy)]
 pub struct Survey {
     pub scan: Scan,
     pub met: Met,
 }
 
 // What a pass by marks finds, if it does not give up.
-#[derive(Drop)]
+#[derive(Clone, Copy)]
 pub struct Pass {
     pub known: bool,
     pub survey: Survey,
 }
 
 // Whether a region is sound, whether it is clean, and where the tail of a sound one begins (else 0).
-#[derive(Drop)]
+#[derive(Clone, Copy)]
 pub struct Judged {
     pub sound: bool,
     pub clean: bool,
@@ -50,21 +51,21 @@ pub struct Judged {
 }
 
 // The same, and where a sound region has a sought name.
-#[derive(Drop)]
+#[derive(Clone, Copy)]
 pub struct Searched {
     pub judged: Judged,
     pub met: Met,
 }
 
 // The sizes of a usual entry: of its name, and of header, name and data. A name of 0 bytes: it is not known to be usual.
-#[derive(Drop)]
+#[derive(Clone, Copy)]
 pub struct Usual {
     pub name: usize,
     pub end: usize,
 }
 
 // The mark of a name: its place in a table, and its sign there.
-#[derive(Drop)]
+#[derive(Clone, Copy)]
 pub struct Mark {
     pub place: usize,
     pub sign: u8,

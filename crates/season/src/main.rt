@@ -1,4 +1,5 @@
 // season: reads a script on standard input, plays it on an empty image, and prints a line for each of its steps; or that it is refused.
+#![tactic(auto)]
 ghost use Rattle.std.specs.Prelude.{◌≡◌, length};
 
 use libc::{STDERR_FILENO, STDOUT_FILENO};

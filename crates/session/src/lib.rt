@@ -1,4 +1,5 @@
 // What a session says to a call, by its parts: its phase, its locks, and what is a side's; and the lock call.
+#![tactic(auto)]
 ghost use Rattle.std.specs.Prelude.{◌≡◌, cond, ◌≤◌, ◌<◌, eqb};
 ghost use Rattle.model.specs.Name.{keyed};
 ghost use Rattle.model.specs.Session.{counted_phase, counted_reserve, is_modem_def};
@@ -47,7 +48,7 @@ fn reserved(phase: u32, reserve: u32) -> u32
 }
 
 // The phase and a lock list, but for its bytes: how many places are in use, and the sizes of their names.
-#[derive(Drop)]
+#[derive(Clone, Copy)]
 pub struct Locks {
     pub phase: u32,
     pub used: u32,
@@ -219,7 +220,7 @@ pub fn view(modem: bool, phase: u32, vendor: [u8; 16]) -> View
 }
 
 // What a lock comes to: its answer, and whether the name enters the list.
-#[derive(Drop)]
+#[derive(Clone, Copy)]
 pub struct Upshot {
     pub answer: Answer,
     pub enters: bool,

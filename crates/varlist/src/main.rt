@@ -1,4 +1,5 @@
 // varlist: reads an image on standard input and prints its variables, or the rule that it breaks.
+#![tactic(auto)]
 use libc::{STDERR_FILENO, STDOUT_FILENO};
 use model::Layout;
 
