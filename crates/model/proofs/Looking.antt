@@ -120,7 +120,7 @@ change-own r old = change-cases (Own (request_key r)) r old refl tt refl
 own-other : (j k : Key) (c : Change) → Own j c → same_key_def j k ≡ false → Other k c
 own-other j k nothing o h = tt
 own-other j k (remove i) o h = rw o h
-own-other j k (put v) o h = rw o h
+own-other j k (put v) o h = ap (λ (i : Key). same_key_def i k) o ∙ h
 
 pub other-change : (k : Key) (r : Request) (vs : List Value) → same_key_def (request_key r) k ≡ false → Other k (change_in r vs)
 unfolding change_in
@@ -152,7 +152,7 @@ pub find-own : (k : Key) (c : Change) (vs : List Value) → Own k c → find k (
 unfolding step leaves
 find-own k nothing vs o = refl
 find-own k (remove j) vs o = rw o (find-out k vs)
-find-own k (put v) vs o = rw o (find-added k (without k vs) v (rw o (key-refl k)) (find-out k vs))
+find-own k (put v) vs o = rw o (find-added k (without k vs) v (ap (λ (i : Key). same_key_def i k) o ∙ key-refl k) (find-out k vs))
 
 -- what stands under a set's name after its change
 pub find-changed : (r : Request) (vs : List Value) → find (request_key r) (step (change_in r vs) vs) ≡ leaves (change_in r vs) (find (request_key r) vs)

@@ -113,7 +113,7 @@ returns-3 c =
     let l = c.before.loop in
     let s = c.before.before.before.before.before in
     let a = s.args in
-    let long : length a.t2 ≡ 12 = s.well-formed.1.0.1.0.1 in
+    let long : length a.t2 ≡ 12 = s.well_formed.1.0.1.0.1 in
     underway-done a.dead.now a.w a.content.now a.t2 a.image.now s.requires.0 l.op l.i l.image l.made a.n l.invariant.4 (omega arith) l.invariant.1
 
 pub make-stores-spec : {M : Type 1} → statement M

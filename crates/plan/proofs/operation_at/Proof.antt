@@ -13,7 +13,7 @@ use Rattle.plan.proofs.operation_at.Tie as tie
 returns-2 : tie.Need-returns-2
 returns-2 c =
     let a = c.before.args in
-    let l : length a.t1 ≡ 12 = c.before.well-formed.0.1.0.1 in
+    let l : length a.t1 ≡ 12 = c.before.well_formed.0.1.0.1 in
     sym (ap (λ (o : Op). operation_of o.step) (get_or-eq_default a.t1 (op Nothing) (omega (arith, c.if1.false))))
 
 pub operation-at-spec : {M : Type 1} → statement M

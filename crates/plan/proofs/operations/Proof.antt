@@ -20,7 +20,7 @@ returns c =
     let c2 = c3.before in
     let c1 = c2.before in
     let s = c1.before in
-    let l : length s.args.plan ≡ 12 = s.well-formed.0.1.0.1 in
+    let l : length s.args.plan ≡ 12 = s.well_formed.0.1.0.1 in
     rw (
       c1.operation-at.ensures,
       c2.operation-at2.ensures,

@@ -21,7 +21,7 @@ decreases-loop file p i list j₀ j = p.count - j
 loop-holds : tie.Need-loop-init invariant-loop decreases-loop
 loop-holds c =
     let s = c.before.before in
-    (search rules, settings-long s.args.p.list 8 s.well-formed.1.0.1.1.1.1.0.1.0.1, refl)
+    (search rules, settings-long s.args.p.list 8 s.well_formed.1.0.1.1.1.1.0.1.0.1, refl)
 
 returns : tie.Need-returns invariant-loop decreases-loop
 returns c =

@@ -21,7 +21,7 @@ loop-holds : tie.Need-loop-init invariant-loop decreases-loop
 unfolding requests_in
 loop-holds c =
     let a = c.before.args in
-    (search rules, settings-long a.p.list 8 c.before.well-formed.1.0.1.1.1.1.0.1.0.1, from_first a.file.now a.p.list a.p.count)
+    (search rules, settings-long a.p.list 8 c.before.well_formed.1.0.1.1.1.1.0.1.0.1, from_first a.file.now a.p.list a.p.count)
 
 returns : tie.Need-returns invariant-loop decreases-loop
 returns c =

@@ -28,7 +28,7 @@ loop-holds c =
     let s = c.before.before.before.before.before in
     let a = s.args in (
       search rules,
-      settings-long a.p.list 8 s.well-formed.1.1.1.1.1.1.0.1.1.1.1.0.1.0.1,
+      settings-long a.p.list 8 s.well_formed.1.1.1.1.1.1.0.1.1.1.1.0.1.0.1,
       omega arith,
       omega arith,
       pass-none (told_of a.said a.held a.locks.now) (limits_of a.said a.limits.now) a.region.now,

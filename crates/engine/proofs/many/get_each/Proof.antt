@@ -50,7 +50,7 @@ add-used c =
     let g = c.before.before.before.get-one in
     let fits = turn-fits l.loop.invariant.0 c.before.before.before.before.before.before.before.before.before.before.loop-test.true c.before.before.before.before.before.asked.ensures g.ensures g.auto.1.1.1.1.0 in
     let same = l.loop.invariant.2 in
-    record { fits = omega (arith, c.before.before.before.before.before.before.before.before.before.before.before.before.before.before.before.before.before.before.before.well-formed.1.1.1.1.1.1.1.0) }
+    record { fits = omega (arith, c.before.before.before.before.before.before.before.before.before.before.before.before.before.before.before.before.before.before.before.well_formed.1.1.1.1.1.1.1.0) }
 
 tell-requires : tie.Need-tell-requires invariant-loop decreases-loop
 tell-requires c κs =

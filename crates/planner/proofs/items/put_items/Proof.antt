@@ -29,7 +29,7 @@ unfolding requests_in
 loop-holds c =
     let s = c.before.before.before in
     let p = s.args.p in
-    (omega arith, settings-long p.list 8 s.well-formed.1.1.1.0.1.1.1.1.0.1.0.1, s.well-formed.1.1.1.1.0.1.0.1, refl, partly_none _ _ (all-to-store s.args.file.now p.list p.count s.args.t5))
+    (omega arith, settings-long p.list 8 s.well_formed.1.1.1.0.1.1.1.1.0.1.0.1, s.well_formed.1.1.1.1.0.1.0.1, refl, partly_none _ _ (all-to-store s.args.file.now p.list p.count s.args.t5))
 
 put-item-requires : tie.Need-put-item-requires invariant-loop decreases-loop
 put-item-requires c κs =

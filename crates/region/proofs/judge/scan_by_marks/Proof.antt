@@ -49,7 +49,7 @@ add-v c =
     let r = a.region.now in
     let t = c.before.before.usual-at in
     let m = room-usual a.y r l.loop2.at t.result.name t.result.end t.ensures c.before.if1.false in
-    omega (arith, m.0, c.vendor.ensures.0, l.before.before.before.before.before.before.before.before.well-formed.1.0)
+    omega (arith, m.0, c.vendor.ensures.0, l.before.before.before.before.before.before.before.before.well_formed.1.0)
 
 add-k : tie.Need-overflow-add-k invariant-loop2 decreases-loop2 invariant-loop decreases-loop
 add-k c =
@@ -58,7 +58,7 @@ add-k c =
     let r = a.region.now in
     let t = c.before.before.usual-at in
     let m = room-usual a.y r l.loop2.at t.result.name t.result.end t.ensures c.before.if1.false in
-    omega (arith, m.0, c.vendor.ensures.0, l.before.before.before.before.before.before.before.before.well-formed.1.0)
+    omega (arith, m.0, c.vendor.ensures.0, l.before.before.before.before.before.before.before.before.well_formed.1.0)
 
 add-mark-of-key : tie.Need-overflow-add-mark-of-key invariant-loop2 decreases-loop2 invariant-loop decreases-loop
 add-mark-of-key c =
@@ -67,7 +67,7 @@ add-mark-of-key c =
     let r = a.region.now in
     let t = c.before.before.usual-at in
     let m = room-usual a.y r l.loop2.at t.result.name t.result.end t.ensures c.before.if1.false in
-    omega (arith, m.0, c.vendor.ensures.0, l.before.before.before.before.before.before.before.before.well-formed.1.0)
+    omega (arith, m.0, c.vendor.ensures.0, l.before.before.before.before.before.before.before.before.well_formed.1.0)
 
 sub-mark-of-key : tie.Need-overflow-sub-mark-of-key invariant-loop2 decreases-loop2 invariant-loop decreases-loop
 sub-mark-of-key c = omega arith
@@ -79,7 +79,7 @@ part-mark-of-key-start c =
     let r = a.region.now in
     let t = c.before.before.usual-at in
     let m = room-usual a.y r l.loop2.at t.result.name t.result.end t.ensures c.before.if1.false in
-    omega (arith, m.0, c.vendor.ensures.0, l.before.before.before.before.before.before.before.before.well-formed.1.0)
+    omega (arith, m.0, c.vendor.ensures.0, l.before.before.before.before.before.before.before.before.well_formed.1.0)
 
 part-mark-of-key-end : tie.Need-slice-bounds-mark-of-key-end invariant-loop2 decreases-loop2 invariant-loop decreases-loop
 part-mark-of-key-end c =
@@ -88,7 +88,7 @@ part-mark-of-key-end c =
     let r = a.region.now in
     let t = c.before.before.usual-at in
     let m = room-usual a.y r l.loop2.at t.result.name t.result.end t.ensures c.before.if1.false in
-    omega (arith, m.0, c.vendor.ensures.0, l.before.before.before.before.before.before.before.before.well-formed.1.0)
+    omega (arith, m.0, c.vendor.ensures.0, l.before.before.before.before.before.before.before.before.well_formed.1.0)
 
 rounded-requires : tie.Need-rounded-requires invariant-loop2 decreases-loop2 invariant-loop decreases-loop
 rounded-requires c κs =
@@ -97,7 +97,7 @@ rounded-requires c κs =
     let r = a.region.now in
     let t = c.before.before.before.before.before.usual-at in
     let m = room-usual a.y r l.loop2.at t.result.name t.result.end t.ensures c.before.before.before.before.if1.false in
-    omega (arith, m.1, l.before.before.before.before.before.before.before.before.well-formed.1.0)
+    omega (arith, m.1, l.before.before.before.before.before.before.before.before.well_formed.1.0)
 
 add_at : tie.Need-overflow-add-at invariant-loop2 decreases-loop2 invariant-loop decreases-loop
 add_at c =
@@ -106,7 +106,7 @@ add_at c =
     let r = a.region.now in
     let t = c.before.before.before.before.before.before.usual-at in
     let m = room-usual a.y r l.loop2.at t.result.name t.result.end t.ensures c.before.before.before.before.before.if1.false in
-    omega (arith, m.1, c.rounded.ensures, l.before.before.before.before.before.before.before.before.well-formed.1.0)
+    omega (arith, m.1, c.rounded.ensures, l.before.before.before.before.before.before.before.before.well_formed.1.0)
 
 loop2-less : tie.Need-loop2-smaller invariant-loop2 decreases-loop2 invariant-loop decreases-loop
 loop2-less c =
@@ -138,7 +138,7 @@ rounded-requires-2 c κs =
     let r = a.region.now in
     let t = c.before.before.before.before.before.before.before.before.usual-at in
     let m = room-usual a.y r l.loop2.at t.result.name t.result.end t.ensures c.before.before.before.before.before.before.before.if1.false in
-    omega (arith, m.1, l.before.before.before.before.before.before.before.before.well-formed.1.0)
+    omega (arith, m.1, l.before.before.before.before.before.before.before.before.well_formed.1.0)
 
 add-at-2 : tie.Need-overflow-add-at-2 invariant-loop2 decreases-loop2 invariant-loop decreases-loop
 add-at-2 c =
@@ -147,7 +147,7 @@ add-at-2 c =
     let r = a.region.now in
     let t = c.before.before.before.before.before.before.before.before.before.usual-at in
     let m = room-usual a.y r l.loop2.at t.result.name t.result.end t.ensures c.before.before.before.before.before.before.before.before.if1.false in
-    omega (arith, m.1, c.rounded2.ensures, l.before.before.before.before.before.before.before.before.well-formed.1.0)
+    omega (arith, m.1, c.rounded2.ensures, l.before.before.before.before.before.before.before.before.well_formed.1.0)
 
 loop2-less-2 : tie.Need-loop2-smaller-2 invariant-loop2 decreases-loop2 invariant-loop decreases-loop
 loop2-less-2 c =
