@@ -1,0 +1,6 @@
+-- `output::put_decimal` ends, since a tenth is less than the number.
+-- Assumes nothing.
+use Rattle.output.proofs.+put_decimal.Given as goal
+
+abbrev pub decreases-put_decimal : goal.decreases-put_decimal
+decreases-put_decimal l = l.n

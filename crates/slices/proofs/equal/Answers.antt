@@ -1,0 +1,43 @@
+-- `slices::equal` meets its contract. The loop's invariant: the lists agree from `i` on. Assumes nothing.
+use Prim.Native.Nat.{ℕ, ◌-◌, ◌≤◌, ◌<◌}
+use native.Mathlib.Omega.{arith}
+use mathlib.Core.Path.{◌≡◌, sym, ◌∙◌}
+use lib.ListN.{length, get_or}
+use Rattle.slices.specs.Agree.{Agree, u64_at}
+use Rattle.slices.proofs.Agreed.{differ, agree-end, agree-eight}
+use borrow.Author.Rules.{rules}
+use Rattle.slices.proofs.equal.Goals as goal
+
+pub returns-then-a-b : goal.returns-then-a-b
+returns-then-a-b c =
+    let a = c.args in
+    sym (differ a.a.now a.b.now length c.if-a-b.true)
+
+pub loop-i-init : goal.loop-i-init
+loop-i-init c =
+    let a = c.args in
+    (omega arith, agree-end a.a.now a.b.now c.if-a-b.false)
+
+pub standing_eight-requires-in-loop-i : goal.standing_eight-requires-in-loop-i
+standing_eight-requires-in-loop-i c =
+    let l = c in
+    let long = l.loop-i.invariant.1.long in
+    omega arith
+
+pub returns-then-standing_eight : goal.returns-then-standing_eight
+returns-then-standing_eight c =
+    let l = c in
+    let a = l.args in
+    let i = l.loop-i.i - 8 in
+    sym (differ a.a.now a.b.now (λ s. u64_at s i)
+    (λ e. c.if-standing_eight.true (c.standing_eight.ensures ∙ e ∙ sym c.standing_eight-in-loop-i.ensures)))
+
+pub loop-i-preserved : goal.loop-i-preserved
+loop-i-preserved c =
+    let l = c in
+    let k = l in
+    let a = k.args in
+    let hx : (j : ℕ) → get_or a.a.now j 0 < 256 = λ j. omega (arith, k.type_inv.a j) in
+    let hy : (j : ℕ) → get_or a.b.now j 0 < 256 = λ j. omega (arith, k.type_inv.b j) in
+    let e = sym c.standing_eight.ensures ∙ c.if-standing_eight.false ∙ c.standing_eight-in-loop-i.ensures in
+    (omega arith, agree-eight a.a.now a.b.now hx hy (l.loop-i.i - 8) l.loop-i.i (omega arith) l.loop-i.invariant.1 e)

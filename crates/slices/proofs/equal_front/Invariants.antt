@@ -1,0 +1,15 @@
+-- `slices::equal_front` meets its contract. The loop's invariant: the lists agree from `i` on. Assumes nothing.
+use Prim.Native.Nat.{◌-◌, ◌≤◌}
+use native.Mathlib.Omega.{arith}
+use mathlib.Core.Path.{sym}
+use lib.ListN.{length, get_or}
+use Rattle.slices.specs.Agree.{Agree}
+use Rattle.slices.proofs.Agreed.{differ, agree-one, agree-whole}
+use borrow.Author.Rules.{rules}
+use Rattle.slices.proofs.equal_front.Given as goal
+
+abbrev pub invariant-loop-i : goal.invariant-loop-i
+invariant-loop-i l = (l.i ≤ length l.a) × Agree l.a l.b l.i
+
+abbrev pub decreases-loop-i : goal.decreases-loop-i
+decreases-loop-i l = l.i
