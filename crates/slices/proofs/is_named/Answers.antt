@@ -5,7 +5,7 @@ use mathlib.Core.Path.{◌≡◌, sym, ◌∙◌}
 use mathlib.Core.Logic.{⊎_elim}
 use lib.ListN.{length, drop, get_or}
 use borrow.Author.Tests.{eq-eqb}
-use Rattle.model.specs.Name.{zero_ended, well_named}
+use Rattle.model.specs.Name.{zero_character, zero_ended, well_named}
 use Rattle.slices.proofs.Ended.{
   named-short,
   named-long,
@@ -43,7 +43,7 @@ loop-i-preserved c =
     let l = c in
     let s = l.args.name.now in
     let i = l.loop-i.i in
-    let other =
+    let other : zero_character (get_or s i 0) (get_or s (i + 1) 0) ≡ false =
     elim c.if-name-i-eq0.branch [
       then-name-i-eq0+else-name-i-eq0-2 w ↦ high_byte (get_or s i 0) (get_or s (i + 1) 0) w.if-name-i-eq0-2.false
       | else-name-i-eq0 w ↦ low_byte (get_or s i 0) (get_or s (i + 1) 0) w.if-name-i-eq0.false
