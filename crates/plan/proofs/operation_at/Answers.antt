@@ -12,5 +12,5 @@ use Rattle.plan.proofs.operation_at.Goals as goal
 pub returns : goal.returns
 returns c =
     let a = c.args in
-    let l : length a.t1 ≡ 12 = c.well_formed.0.1.0.1 in
-    sym (ap (λ (o : Op). operation_of o.step) (get_or-eq_default a.t1 (op Nothing) (omega (arith, c.if-i-lt-OPERATIONS.false))))
+    let l : length a.plan ≡ 12 = c.well_formed.0.1.0.1 in
+    sym (ap (λ (o : Op). operation_of o.step) (get_or-eq_default a.plan (op Nothing) (omega (arith, c.if-i-lt-OPERATIONS.false))))

@@ -3,6 +3,7 @@ use Prim.Native.Nat.{◌+◌, ◌-◌, ◌≤◌}
 use native.Mathlib.Omega.{arith}
 use mathlib.Core.Path.{◌≡◌, sym, ◌∙◌}
 use mathlib.Core.Logic.{⊎_elim}
+use mathlib.Core.Bool.{false}
 use lib.ListN.{length, drop, get_or}
 use borrow.Author.Tests.{eq-eqb}
 use Rattle.model.specs.Name.{zero_character, zero_ended, well_named}
