@@ -1,0 +1,16 @@
+-- `records::look_through` meets its contract. The loop's invariant: what is told of all records is what comes of going on, from what is told now,
+-- through the records left. Assumes nothing.
+use Prim.Native.Nat.{◌-◌, ◌≤◌}
+use native.Mathlib.Omega.{arith}
+use mathlib.Core.Path.{◌≡◌, refl, sym, ◌∙◌}
+use lib.ListN.{length, drop, get_or}
+use borrow.Author.Rules.{rules}
+use Rattle.records.specs.Passed.{unread, onward, through}
+use Rattle.records.proofs.Passed.{onward-count, through-next, through-end}
+use Rattle.records.proofs.look_through.Given as goal
+
+abbrev pub invariant-loop-i : goal.invariant-loop-i
+invariant-loop-i l = (l.i ≤ length l.records) × (l.l.used ≤ l.i) × (through unread 0 l.records ≡ through l.l l.i (drop l.i l.records))
+
+abbrev pub decreases-loop-i : goal.decreases-loop-i
+decreases-loop-i l = length l.records - l.i
