@@ -1,0 +1,22 @@
+-- `limits::breaks` meets its contract. The loop's invariant: a rule for the name is broken just if one of those in use from `i` on is. Assumes nothing.
+use Prim.Native.Nat.{ℕ, min, ◌-◌, ◌≤◌}
+use native.Mathlib.Omega.{arith}
+use mathlib.Core.Path.{◌≡◌, refl, sym, ap, ◌∙◌}
+use mathlib.Core.Bool.{Bool}
+use mathlib.Core.List.{List, ◌++◌}
+use Rattle.model.specs.Name.{Key, keyed}
+use Rattle.model.specs.Limits.{limit_of, limit_at}
+use Rattle.model.proofs.Tables.{any_from, from_end, from-here, from_next}
+use Rattle.limits.specs.Broken.{breaks_for}
+use Rattle.limits.proofs.Tried.{by-places}
+use borrow.Author.Rules.{rules}
+use Rattle.limits.proofs.breaks.Given as goal
+
+abbrev pub invariant-loop-i : goal.invariant-loop-i
+invariant-loop-i l =
+    (l.i ≤ min l.rules 32)
+    × (any_from (λ j. breaks_for (keyed l.name l.vendor) l.stands (l.old ++ l.own) (limit_at l.limits j)) (min l.rules 32) 0
+    ≡ any_from (λ j. breaks_for (keyed l.name l.vendor) l.stands (l.old ++ l.own) (limit_at l.limits j)) (min l.rules 32) l.i)
+
+abbrev pub decreases-loop-i : goal.decreases-loop-i
+decreases-loop-i l = 32 - l.i

@@ -1,0 +1,43 @@
+-- `limits::is_listed` meets its contract. The loop's invariant: the number is listed just if it is at one of the places in use from `i` on. Assumes nothing.
+use Prim.Native.Nat.{ℕ, min, ◌+◌, ◌*◌, ◌-◌, ◌≤◌}
+use native.Mathlib.Omega.{arith}
+use mathlib.Core.Path.{◌≡◌, refl, sym, ap, ◌∙◌}
+use mathlib.Core.Bool.{Bool}
+use lib.Dec.{eqb}
+use borrow.Author.Tests.{eq-eqb, ne_eqb}
+use Rattle.model.specs.Lists.{u32_at}
+use Rattle.model.proofs.Tables.{any_from, from_end, from-here, from_next}
+use Rattle.limits.proofs.Tried.{by-list}
+use borrow.Author.Rules.{rules}
+use Rattle.limits.proofs.is_listed.Goals as goal
+
+pub loop-i-init : goal.loop-i-init
+loop-i-init c = (omega arith, refl)
+
+pub returns-then-used-i : goal.returns-then-used-i
+returns-then-used-i c =
+    let l = c in
+    let a = l.args in
+    let f : ℕ → Bool = λ j. eqb a.n (u32_at a.t.now (40 + 4 * j)) in
+    sym (by-list a.t.now a.count a.n ∙ l.loop-i.invariant.1 ∙ from_end f (min a.count 8) l.loop-i.i (omega arith))
+
+pub returns-then-u32_at-n : goal.returns-then-u32_at-n
+returns-then-u32_at-n c =
+    let l = c in
+    let a = l.args in
+    let f : ℕ → Bool = λ j. eqb a.n (u32_at a.t.now (40 + 4 * j)) in
+    sym (by-list a.t.now a.count a.n ∙ l.loop-i.invariant.1 ∙ from-here f (min a.count 8) l.loop-i.i (omega arith) (eq-eqb _ _ (sym (sym c.u32_at.ensures ∙ c.if-u32_at-n.true))))
+
+pub loop-i-preserved : goal.loop-i-preserved
+loop-i-preserved c =
+    let l = c in
+    let a = l.args in
+    let f : ℕ → Bool = λ j. eqb a.n (u32_at a.t.now (40 + 4 * j)) in
+    (omega arith, l.loop-i.invariant.1 ∙ from_next f (min a.count 8) l.loop-i.i (omega arith) (ne_eqb _ _ (λ e. c.if-u32_at-n.false (c.u32_at.ensures ∙ sym e))))
+
+pub returns : goal.returns
+returns c =
+    let l = c in
+    let a = l.args in
+    let f : ℕ → Bool = λ j. eqb a.n (u32_at a.t.now (40 + 4 * j)) in
+    sym (by-list a.t.now a.count a.n ∙ l.loop-i.invariant.1 ∙ from_end f (min a.count 8) l.loop-i.i (omega arith))

@@ -1,0 +1,20 @@
+-- `limits::is_listed` meets its contract. The loop's invariant: the number is listed just if it is at one of the places in use from `i` on. Assumes nothing.
+use Prim.Native.Nat.{ℕ, min, ◌+◌, ◌*◌, ◌-◌, ◌≤◌}
+use native.Mathlib.Omega.{arith}
+use mathlib.Core.Path.{◌≡◌, refl, sym, ap, ◌∙◌}
+use mathlib.Core.Bool.{Bool}
+use lib.Dec.{eqb}
+use borrow.Author.Tests.{eq-eqb, ne_eqb}
+use Rattle.model.specs.Lists.{u32_at}
+use Rattle.model.proofs.Tables.{any_from, from_end, from-here, from_next}
+use Rattle.limits.proofs.Tried.{by-list}
+use borrow.Author.Rules.{rules}
+use Rattle.limits.proofs.is_listed.Given as goal
+
+abbrev pub invariant-loop-i : goal.invariant-loop-i
+invariant-loop-i l =
+    (l.i ≤ min l.count 8)
+    × (any_from (λ j. eqb l.n (u32_at l.t (40 + 4 * j))) (min l.count 8) 0 ≡ any_from (λ j. eqb l.n (u32_at l.t (40 + 4 * j))) (min l.count 8) l.i)
+
+abbrev pub decreases-loop-i : goal.decreases-loop-i
+decreases-loop-i l = 8 - l.i

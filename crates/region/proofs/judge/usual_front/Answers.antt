@@ -1,0 +1,22 @@
+-- `region::judge::usual_front` meets its contract: the word of eight bytes at the front tells each of the fields in it. Assumes nothing.
+use Rattle.std.proofs.Common.{◌≡◌, ℕ, ◌+◌, ◌*◌, ◌/◌, ◌%◌, ◌<◌, sym, ap, ◌∙◌, true≢false, arith, rules}
+use Rattle.region.proofs.Usuals.{front-fields}
+use Rattle.region.proofs.judge.usual_front.Goals as goal
+
+pub returns-then-front-eq30068921770 : goal.returns-then-front-eq30068921770
+returns-then-front-eq30068921770 c =
+    let k = c in
+    let s = k.args.s.now in
+    let is : k.standing_eight-front.result ≡ 0x7003F55AA = c.if-front-eq30068921770.true in
+    λ t. front-fields s (λ i. omega (arith, k.type_inv.s i)) k.standing_eight-front.result k.standing_eight-front.ensures (omega arith) (rw is)
+
+pub returns-then-front-ne4150698 : goal.returns-then-front-ne4150698
+returns-then-front-ne4150698 c = λ e. absurd (true≢false (sym e))
+
+pub returns : goal.returns
+returns c =
+    let k = c in
+    let s = k.args.s.now in
+    λ t.
+    front-fields s (λ i. omega (arith, k.type_inv.s i)) k.standing_eight-front.result k.standing_eight-front.ensures (omega arith)
+    (sym c.plain_attributes.ensures ∙ t)

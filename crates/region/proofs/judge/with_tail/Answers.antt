@@ -1,0 +1,6 @@
+-- `region::judge::with_tail` meets its contract: the tail is cut and read. Assumes nothing.
+use Rattle.std.proofs.Common.{rules}
+use Rattle.region.proofs.judge.with_tail.Goals as goal
+
+pub returns : goal.returns
+returns c = rw (c.is_blank.ensures, c.cut.ensures)

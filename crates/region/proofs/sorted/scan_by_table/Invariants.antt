@@ -1,0 +1,21 @@
+-- `region::sorted::scan_by_table` meets its contract. The loop's invariant: what the whole walk tells of each entry by itself is what the walk from here on tells; while all
+-- are settled, every entry passed is at its place; no name is doubled in the whole walk just if none from here on is, neither among themselves nor with those passed.
+-- What is left of the region falls.
+-- Assumes nothing.
+use Rattle.std.proofs.Common.{◌≡◌, ◌-◌, Bool, not, ◌&&◌, length, sym, ap, ◌∙◌, arith, rules}
+use borrow.Author.Tests.{not-true, not-false}
+use Rattle.model.specs.Walk.{walk_end_def}
+use Rattle.model.specs.Beside.{from_in}
+use Rattle.region.proofs.Judging.{front-sound}
+use Rattle.region.proofs.Passing.{Passing, start, ended, doubled}
+use Rattle.region.proofs.Scanning.{singly, scanned, scan-begin, scan-next, scan-stop, scan-right, scan-wrong, scan-doubled}
+use Rattle.region.proofs.Settled.{Settled, next}
+use Rattle.region.proofs.Turns.{at_entry, at-end}
+use Rattle.region.proofs.sorted.scan_by_table.Given as goal
+
+abbrev pub invariant-loop-e : goal.invariant-loop-e
+invariant-loop-e l =
+    (singly l.y l.region ≡ scanned (length l.region) l.at (from_in l.y l.region l.at)) × Passing l.y l.region (Settled l.y l.region l.table l.settled) l.at
+
+abbrev pub decreases-loop-e : goal.decreases-loop-e
+decreases-loop-e l = length l.region - l.at

@@ -1,0 +1,9 @@
+-- `session::lent::renew` meets its contract: its five stores leave a fresh session. Assumes nothing.
+use Rattle.session.proofs.Fresh.{renewed}
+use borrow.Author.Rules.{rules}
+use Rattle.session.proofs.lent.renew.Goals as goal
+
+pub returns : goal.returns
+returns c =
+    renewed c.args.s.now c.long.ensures
+    c.put_number.ensures c.keep_flag.ensures c.keep_reserve.ensures c.keep_reserve-2.ensures c.put_fill.ensures.buffer
