@@ -4,14 +4,13 @@ use Prim.Native.Nat.{◌+◌, ◌-◌, ◌≤◌}
 use mathlib.Core.Path.{◌≡◌, refl, sym, ◌∙◌}
 use lib.ListN.{length, get_or}
 use Rattle.profile.specs.Reader.{no_setting}
-use Rattle.profile.proofs.Listed.{settings-long}
 use Rattle.profile.proofs.Keys.{recurs_from, recurs-here, recurs-after, recurs-nowhere}
 use Rattle.profile.proofs.recurs.Goals as goal
 
 pub loop-j-init : goal.loop-j-init
 loop-j-init c =
     let s = c in
-    (search rules, settings-long s.args.p.list 8 s.well_formed.1.0.1.1.1.1.0.1.0.1, refl)
+    (search rules, s.well_formed.1.0.1.1.1.1.0.1.0.1, refl)
 
 pub returns-then-same_key : goal.returns-then-same_key
 returns-then-same_key c =

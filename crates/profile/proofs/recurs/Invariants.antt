@@ -4,7 +4,6 @@ use Prim.Native.Nat.{◌+◌, ◌-◌, ◌≤◌}
 use mathlib.Core.Path.{◌≡◌, refl, sym, ◌∙◌}
 use lib.ListN.{length, get_or}
 use Rattle.profile.specs.Reader.{no_setting}
-use Rattle.profile.proofs.Listed.{settings-long}
 use Rattle.profile.proofs.Keys.{recurs_from, recurs-here, recurs-after, recurs-nowhere}
 use Rattle.profile.proofs.recurs.Given as goal
 

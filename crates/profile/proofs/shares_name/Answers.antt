@@ -5,7 +5,6 @@ use mathlib.Core.Path.{◌≡◌, sym, ◌∙◌}
 use lib.ListN.{length}
 use Rattle.model.specs.Profile.{shares_name_def}
 use Rattle.profile.specs.Reader.{requests_in}
-use Rattle.profile.proofs.Listed.{settings-long}
 use Rattle.profile.proofs.Keys.{shares_from, from_first, shares-here, shares-after, shares-nowhere}
 use Rattle.profile.proofs.shares_name.Goals as goal
 
@@ -13,7 +12,7 @@ pub loop-i-init : goal.loop-i-init
 unfolding requests_in
 loop-i-init c =
     let a = c.args in
-    (search rules, settings-long a.p.list 8 c.well_formed.1.0.1.1.1.1.0.1.0.1, from_first a.file.now a.p.list a.p.count)
+    (search rules a.p.list 8 c.well_formed.1.0.1.1.1.1.0.1.0.1, from_first a.file.now a.p.list a.p.count)
 
 pub returns-then-recurs : goal.returns-then-recurs
 returns-then-recurs c =

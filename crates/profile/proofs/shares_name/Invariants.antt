@@ -5,7 +5,6 @@ use mathlib.Core.Path.{◌≡◌, sym, ◌∙◌}
 use lib.ListN.{length}
 use Rattle.model.specs.Profile.{shares_name_def}
 use Rattle.profile.specs.Reader.{requests_in}
-use Rattle.profile.proofs.Listed.{settings-long}
 use Rattle.profile.proofs.Keys.{shares_from, from_first, shares-here, shares-after, shares-nowhere}
 use Rattle.profile.proofs.shares_name.Given as goal
 

@@ -19,23 +19,23 @@ returns-then-count-i c =
     let l = c in
     let a = l.args in
     let k : Key = record { name = a.name.now; vendor = a.vendor.now } in
-    let f : ℕ → Bool = λ j. holds a.locks.now j (get_or a.t2 j 0) k in
-    sym (held-places a.t2 a.locks.now a.used k ∙ l.loop-i.invariant.1 ∙ from_end f (min a.used 16) l.loop-i.i (omega arith))
+    let f : ℕ → Bool = λ j. holds a.locks.now j (get_or a.sizes j 0) k in
+    sym (held-places a.sizes a.locks.now a.used k ∙ l.loop-i.invariant.1 ∙ from_end f (min a.used 16) l.loop-i.i (omega arith))
 
 pub returns-then-is_place : goal.returns-then-is_place
 returns-then-is_place c =
     let l = c in
     let a = l.args in
     let k : Key = record { name = a.name.now; vendor = a.vendor.now } in
-    let f : ℕ → Bool = λ j. holds a.locks.now j (get_or a.t2 j 0) k in
-    sym (held-places a.t2 a.locks.now a.used k ∙ l.loop-i.invariant.1 ∙ from-here f (min a.used 16) l.loop-i.i (omega arith) (sym c.is_place.ensures ∙ c.if-is_place.true))
+    let f : ℕ → Bool = λ j. holds a.locks.now j (get_or a.sizes j 0) k in
+    sym (held-places a.sizes a.locks.now a.used k ∙ l.loop-i.invariant.1 ∙ from-here f (min a.used 16) l.loop-i.i (omega arith) (sym c.is_place.ensures ∙ c.if-is_place.true))
 
 pub loop-i-preserved : goal.loop-i-preserved
 loop-i-preserved c =
     let l = c in
     let a = l.args in
     let k : Key = record { name = a.name.now; vendor = a.vendor.now } in
-    let f : ℕ → Bool = λ j. holds a.locks.now j (get_or a.t2 j 0) k in
+    let f : ℕ → Bool = λ j. holds a.locks.now j (get_or a.sizes j 0) k in
     (omega arith, l.loop-i.invariant.1 ∙ from_next f (min a.used 16) l.loop-i.i (omega arith) (sym c.is_place.ensures ∙ c.if-is_place.false))
 
 pub returns : goal.returns
@@ -43,5 +43,5 @@ returns c =
     let l = c in
     let a = l.args in
     let k : Key = record { name = a.name.now; vendor = a.vendor.now } in
-    let f : ℕ → Bool = λ j. holds a.locks.now j (get_or a.t2 j 0) k in
-    sym (held-places a.t2 a.locks.now a.used k ∙ l.loop-i.invariant.1 ∙ from_end f (min a.used 16) l.loop-i.i (omega arith))
+    let f : ℕ → Bool = λ j. holds a.locks.now j (get_or a.sizes j 0) k in
+    sym (held-places a.sizes a.locks.now a.used k ∙ l.loop-i.invariant.1 ∙ from_end f (min a.used 16) l.loop-i.i (omega arith))

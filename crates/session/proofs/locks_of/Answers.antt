@@ -14,7 +14,7 @@ pub returns-then-most-place : goal.returns-then-most-place
 returns-then-most-place c =
     let l = c in
     let a = l.args in
-    let e = count-end a.guid.now a.modem a.t4 a.locks.now a.used l.loop-place.place (omega arith) in
+    let e = count-end a.guid.now a.modem a.sizes a.locks.now a.used l.loop-place.place (omega arith) in
     let h = l.loop-place.invariant.2 in
     omega arith
 
@@ -22,7 +22,7 @@ pub loop-place-preserved : goal.loop-place-preserved
 loop-place-preserved c =
     let l = c in
     let a = l.args in
-    let e = count-here a.guid.now a.modem a.t4 a.locks.now a.used l.loop-place.place c.is_sides.result (omega arith) c.is_sides.ensures in
+    let e = count-here a.guid.now a.modem a.sizes a.locks.now a.used l.loop-place.place c.is_sides.result (omega arith) c.is_sides.ensures in
     let o = c.one-n.ensures.0 in
     let h = l.loop-place.invariant.2 in
     let few = c.one-n.ensures.1 in
@@ -32,6 +32,6 @@ pub returns : goal.returns
 returns c =
     let l = c in
     let a = l.args in
-    let e = count-end a.guid.now a.modem a.t4 a.locks.now a.used l.loop-place.place (omega arith) in
+    let e = count-end a.guid.now a.modem a.sizes a.locks.now a.used l.loop-place.place (omega arith) in
     let h = l.loop-place.invariant.2 in
     omega arith

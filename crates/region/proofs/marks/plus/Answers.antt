@@ -5,4 +5,4 @@ use Rattle.region.proofs.marks.plus.Goals as goal
 
 pub returns : goal.returns
 unfolding plus
-returns c = c.wrapping_add_u64.ensures
+returns c = c.wrapping_add_u64.ensures.value

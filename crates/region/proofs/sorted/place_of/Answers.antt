@@ -4,6 +4,7 @@ use borrow.Author.Tests.{lt-leb}
 use Rattle.model.specs.declared.Layout.{Layout}
 use Rattle.region.specs.Sorted.{is_before_def, halving, place_of_def}
 use Rattle.region.proofs.sorted.place_of.Goals as goal
+use Rattle.region.proofs.sorted.place_of.Goals.{then-is_before, else-is_before}
 
 abbrev before : Layout → List ℕ → List ℕ → ℕ → List ℕ → ℕ → Bool
 before y r table state key i = is_before_def y r (get_or table i 65535) state key
@@ -38,10 +39,10 @@ loop-left-preserved c =
     let f = before a.y a.region.now a.table.now a.state a.key.now in
     let asked = c.is_before.ensures ∙ ap (λ (o : ℕ). is_before_def a.y a.region.now o a.state a.key.now) c.offset_at.ensures in
     let on = l.loop-left.invariant.2 ∙ one_more f l.loop-left.left l.loop-left.step l.loop-left.low (omega arith) in
-    ⊎_elim
-    (λ w. (omega arith, omega arith, on ∙ ap (halving f (l.loop-left.left - 1) (l.loop-left.step / 2)) (rw (sym asked ∙ w.0.taken) (sym w.1))))
-    (λ w. (omega arith, omega arith, on ∙ ap (halving f (l.loop-left.left - 1) (l.loop-left.step / 2)) (rw (sym asked ∙ w.0.left) (sym w.1))))
-    c.if-is_before.branch
+    elim c.if-is_before.branch [
+      then-is_before w ↦ (omega arith, omega arith, on ∙ ap (halving f (l.loop-left.left - 1) (l.loop-left.step / 2)) (rw (sym asked ∙ w.if-is_before.true) (sym w.low-is)))
+      | else-is_before w ↦ (omega arith, omega arith, on ∙ ap (halving f (l.loop-left.left - 1) (l.loop-left.step / 2)) (rw (sym asked ∙ w.if-is_before.false) (sym w.low-is)))
+    ]
 
 pub returns : goal.returns
 unfolding place_of_def

@@ -21,7 +21,7 @@ returns-then-not-told c =
     let s : Session = session_of a.s.now in
     let k : Key = record { name = a.name.now; vendor = a.vendor.now } in
     let e = c.comes_to-told.ensures in
-    let stays = c.if-not-told.true in
+    let stays = not-true _ c.if-not-told.true in
     (e.0 ∙ outcome-by a.modem s k, session-by a.modem s k false (sym stays ∙ e.1))
 
 pub enlist-requires : goal.enlist-requires
@@ -29,7 +29,7 @@ enlist-requires c =
     let a = c.args in
     let b : List ℕ = a.s.now in
     let k : Key = record { name = a.name.now; vendor = a.vendor.now } in
-    let enters = c.if-not-told.false in
+    let enters = not-false _ c.if-not-told.false in
     let f = enters-free a.modem (u32_at b 0) (u32_at b 6960) (numbers_at b 6964 16) (part 7028 2304 b) (part 28 16 b) k (sym c.comes_to-told.ensures.1 ∙ enters) in
     (subst (λ (m : ℕ). m < 16) (sym c.u32_at-place.ensures) f.1, f.0)
 
@@ -40,7 +40,7 @@ returns c =
     let s : Session = session_of a.s.now in
     let k : Key = record { name = a.name.now; vendor = a.vendor.now } in
     let e = c.comes_to-told.ensures in
-    let enters = c.if-not-told.false in
+    let enters = not-false _ c.if-not-told.false in
     let f = enters-free a.modem s.phase s.count s.sizes s.locks s.setup.modem.vendor k (sym e.1 ∙ enters) in
     let here : s.count ≡ c.u32_at-place.result = sym c.u32_at-place.ensures in (
       e.0 ∙ outcome-by a.modem s k,
