@@ -12,7 +12,7 @@ pub loop-i-init : goal.loop-i-init
 unfolding requests_in
 loop-i-init c =
     let a = c.args in
-    (search rules a.p.list 8 c.well_formed.1.0.1.1.1.1.0.1.0.1, from_first a.file.now a.p.list a.p.count)
+    (search rules, c.well_formed.1.0.1.1.1.1.0.1.0.1, from_first a.file.now a.p.list a.p.count)
 
 pub returns-then-recurs : goal.returns-then-recurs
 returns-then-recurs c =

@@ -1,0 +1,15 @@
+-- `flash::clear` meets its contract. The loop's invariant: the block's first i bytes are FF. Assumes nothing.
+use Prim.Native.Nat.{◌*◌, ◌-◌, ◌≤◌}
+use native.Mathlib.Omega.{arith}
+use mathlib.Core.Path.{◌≡◌, refl, sym, ◌∙◌}
+use lib.ListN.{length, length-set}
+use borrow.Author.Rules.{rules}
+use Rattle.model.specs.Image.{block}
+use Rattle.flash.proofs.Turns.{filled, filled_none, filled_more, filled-block}
+use Rattle.flash.proofs.clear.Given as goal
+
+abbrev pub invariant-loop-i : goal.invariant-loop-i
+invariant-loop-i l = (l.i ≤ 4096) × (length l.image ≡ length l.initial.image) × (l.image ≡ filled l.at l.i l.initial.image)
+
+abbrev pub decreases-loop-i : goal.decreases-loop-i
+decreases-loop-i l = 4096 - l.i

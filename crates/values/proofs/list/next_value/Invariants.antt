@@ -1,0 +1,20 @@
+-- `values::list::next_value` meets its contract. The loop's invariant: the first value from the start on is the first from here on.
+-- What is left of the region falls.
+-- Assumes nothing.
+use Prim.Native.Nat.{◌-◌}
+use mathlib.Core.Path.{◌≡◌, refl, sym, ap, ◌∙◌}
+use lib.ListN.{length}
+use borrow.Author.Rules.{rules}
+use Rattle.model.specs.Lists.{first}
+use Rattle.model.specs.Region.{entries_in, is_value}
+use Rattle.model.specs.Beside.{from_in}
+use Rattle.region.proofs.Turns.{at_entry, at-end}
+use Rattle.values.specs.Found.{next_of}
+use Rattle.values.proofs.Finds.{first-none, first-here, first_next, next-at}
+use Rattle.values.proofs.list.next_value.Given as goal
+
+abbrev pub invariant-loop-e : goal.invariant-loop-e
+invariant-loop-e l = first (is_value (entries_in l.y l.region)) (from_in l.y l.region l.at) ≡ first (is_value (entries_in l.y l.region)) (from_in l.y l.region l.here)
+
+abbrev pub decreases-loop-e : goal.decreases-loop-e
+decreases-loop-e l = length l.region - l.here

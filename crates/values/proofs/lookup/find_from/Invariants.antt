@@ -1,0 +1,22 @@
+-- `values::lookup::find_from` meets its contract. The loop's invariant: the first such entry from the start on is the first from here on.
+-- What is left of the region falls.
+-- Assumes nothing.
+use Prim.Native.Nat.{◌-◌}
+use mathlib.Core.Path.{◌≡◌, refl, sym, ◌∙◌}
+use lib.ListN.{length}
+use borrow.Author.Rules.{rules}
+use Rattle.model.specs.Lists.{first}
+use Rattle.model.specs.Name.{keyed}
+use Rattle.model.specs.Region.{is_entry_def}
+use Rattle.model.specs.Beside.{from_in}
+use Rattle.region.proofs.Turns.{at_entry, at-end}
+use Rattle.values.specs.Found.{found_of}
+use Rattle.values.proofs.Finds.{found_none, found_here, found-next}
+use Rattle.values.proofs.lookup.find_from.Given as goal
+
+abbrev pub invariant-loop-e : goal.invariant-loop-e
+invariant-loop-e l =
+    found_of (first (is_entry_def l.state (keyed l.name l.vendor)) (from_in l.y l.region l.at)) ≡ found_of (first (is_entry_def l.state (keyed l.name l.vendor)) (from_in l.y l.region l.here))
+
+abbrev pub decreases-loop-e : goal.decreases-loop-e
+decreases-loop-e l = length l.region - l.here

@@ -1,0 +1,24 @@
+-- `values::lookup::places` meets its contract. The loop's invariant: the first 3F entry of all is the one found so far, else the first from here on, and
+-- so for 3E. What is left of the region falls.
+-- Assumes nothing.
+use Prim.Native.Nat.{◌-◌}
+use native.Mathlib.Omega.{arith}
+use mathlib.Core.Path.{◌≡◌, refl, sym, ◌∙◌}
+use lib.ListN.{length}
+use borrow.Author.Rules.{rules}
+use Rattle.model.specs.Lists.{first}
+use Rattle.model.specs.Region.{entries_in, entries, is_entry_def, added, replacing}
+use Rattle.model.specs.Name.{Key, keyed}
+use Rattle.model.specs.Beside.{from, from_in}
+use Rattle.region.proofs.Turns.{at_entry, at-end}
+use Rattle.values.specs.Found.{found_of, else_found}
+use Rattle.values.proofs.Finds.{found-later, found-hit, found-miss, else-none, one_state}
+use Rattle.values.proofs.lookup.places.Given as goal
+
+abbrev pub invariant-loop-e : goal.invariant-loop-e
+invariant-loop-e l =
+    (found_of (added (keyed l.name l.vendor) (entries l.region)) ≡ else_found l.added (found_of (first (is_entry_def 0x3F (keyed l.name l.vendor)) (from l.region l.at))))
+    × (found_of (replacing (keyed l.name l.vendor) (entries l.region)) ≡ else_found l.replacing (found_of (first (is_entry_def 0x3E (keyed l.name l.vendor)) (from l.region l.at))))
+
+abbrev pub decreases-loop-e : goal.decreases-loop-e
+decreases-loop-e l = length l.region - l.at
