@@ -5,14 +5,10 @@ use native.Mathlib.Omega.{arith}
 use mathlib.Core.Path.{◌≡◌}
 use Rattle.layout.proofs.Bytes.{second-byte, fourth-byte}
 use borrow.Author.Rules.{rules}
-use Rattle.compose.proofs.bytes32.Statement.{statement}
-use Rattle.compose.proofs.bytes32.Tie as tie
+use Rattle.compose.proofs.bytes32.Goals as goal
 
-returns : tie.Need-returns
+pub returns : goal.returns
 returns c =
     let n = c.args.n in
     let low : n % 256 ≡ n % 65536 % 256 = omega arith in
     rw (low, second-byte n, fourth-byte n)
-
-pub bytes32-spec : {M : Type 1} → statement M
-bytes32-spec = tie.close (tie.spec (λ c. search rules) (λ c. search rules) (λ c. search rules) (λ c. search rules) returns)
