@@ -1,11 +1,11 @@
 -- What a query tells a side is not altered by the other: where shares fit and are kept to, what is left of the side's share is there, and so is what is left of H, which is ours.
 -- Assumes nothing.
-use Prim.Native.Nat.{ℕ, ◌+◌, ◌*◌, ◌-◌, ◌/◌, ◌≤◌, min}
+use Prim.Native.Nat.{ℕ, ◌+◌, ◌*◌, ◌-◌, ◌/◌, min}
 use native.Mathlib.Omega.{arith}
-use mathlib.Core.Path.{◌≡◌, refl, sym, ap, ap₂, ◌∙◌}
+use mathlib.Core.Path.{◌≡◌, sym, ap, ap₂, ◌∙◌}
 use mathlib.Core.Bool.{Bool, true, false, cond, ◌||◌}
 use mathlib.Core.List.{List, [], ◌∷◌}
-use mathlib.Core.Option.{Option, none, some}
+use mathlib.Core.Option.{Option}
 use lib.Dec.{eqb}
 use Rattle.model.specs.declared.Setup.{Setup}
 use Rattle.model.specs.declared.Session.{Session}
@@ -16,14 +16,13 @@ use Rattle.model.specs.Lists.{on_some}
 use Rattle.model.specs.Image.{region_header_size, region_size}
 use Rattle.model.specs.Entry.{Value}
 use Rattle.model.specs.Region.{record_bit, values_of}
-use Rattle.model.specs.Session.{at_runtime_def, share_of, reserved, kept}
+use Rattle.model.specs.Session.{at_runtime_def, kept}
 use Rattle.model.specs.Change.{space_of, space_in, record_sizes, other_sizes}
-use Rattle.model.specs.Sides.{view, side_sizes}
+use Rattle.model.specs.Sides.{side_sizes}
 use Rattle.model.specs.Rules.{first_broken, rule4, terms_if, terms_for_def}
 use Rattle.model.specs.Query.{record_share_def, storage_for, remaining_for, largest_for, query_broken, query_outcome, query_gives}
 use Rattle.model.specs.Answers.{Outcome, done, refused, rule_number}
 use Rattle.recovery.specs.Tenants.{World, finished_start_up, queried, QueryNoInterference}
-use Rattle.recovery.proofs.StartingUp.{Ready}
 use Rattle.recovery.proofs.Shares.{Within, split}
 use Rattle.recovery.proofs.Judging.{image-passed, ready-named, records-seen}
 use Rattle.recovery.proofs.Isolation.{Good, Alike, runtime-alike, views-alike, room-alike, same_asked, good-history, begins-good}

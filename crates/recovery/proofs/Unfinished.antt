@@ -20,7 +20,7 @@ use Rattle.model.specs.Stores.{Store, apply, apply_all, after, Cut}
 use Rattle.model.specs.Set.{Plan}
 use Rattle.model.specs.Answers.{stores_of}
 use Rattle.model.specs.Book.{Call, call_broken, Kind, reads, writes, starts_up, kind_of, plan_of, Sized}
-use Rattle.recovery.specs.Wear.{busy_by, busy_start_up, Step, steps_in, count, busy_start_ups, unfinished, StartUpsBounded}
+use Rattle.recovery.specs.Wear.{busy_by, busy_start_up, Step, count, busy_start_ups, unfinished, StartUpsBounded}
 use Rattle.recovery.proofs.Invariant.{Holding, holding-blocks}
 use Rattle.recovery.proofs.StartingUp.{Ready, ready_of, ready-is, ready-rests}
 use Rattle.recovery.proofs.EveryCall.{plan-refused}

@@ -2,7 +2,7 @@
 -- bytes do wherever they are cut, and a header does where its state is blank, since FF is stored there or nothing.
 -- Assumes nothing.
 use Prim.Native.Nat.{ℕ, zero, suc, ◌+◌, ◌*◌, ◌-◌, ◌≤◌, ◌<◌}
-use native.Mathlib.Nat.{add-zero, add-suc, suc-add, mul-zero}
+use native.Mathlib.Nat.{add-zero, mul-zero}
 use native.Mathlib.Numerals.{add-one}
 use native.Mathlib.Omega.{arith}
 use mathlib.Core.Path.{◌≡◌, refl, sym, ap, ◌∙◌, subst}
@@ -12,14 +12,14 @@ use mathlib.Core.List.{List, [], ◌∷◌, ◌++◌}
 use mathlib.Core.Option.{none}
 use lib.ListN.{length, get_or, set}
 use lib.Seq.{sets, set-get_or, get_or-set_other}
-use lib.Dec.{eqb, leb}
-use borrow.Author.Tests.{eqb-true, leb-false, le-leb, lt-ltb, not-true}
+use lib.Dec.{eqb}
+use borrow.Author.Tests.{leb-false, le-leb, lt-ltb, not-true}
 use Rattle.model.specs.declared.Session.{Session}
 use Rattle.model.specs.Layout.{authenticated}
 use Rattle.model.specs.Lists.{all, all_ff}
 use Rattle.model.specs.Image.{block, blocks, right_length, region_size, region, work, spare}
 use Rattle.model.specs.Entry.{Value}
-use Rattle.model.specs.Region.{entries, values, values_of, values_in, sound, clean, tail}
+use Rattle.model.specs.Region.{values_of, values_in, sound, tail}
 use Rattle.model.specs.Work.{record_space, used_records, idle, pending, ready_for_call}
 use Rattle.model.specs.Request.{Request}
 use Rattle.model.specs.Profile.{items_in}
@@ -41,8 +41,7 @@ use Rattle.model.proofs.Profiles.{profile-length, profile-ready, profile-fitting
 use Rattle.model.proofs.Stores.{apply_all-append, stores-append, stores-mark, pages-sets, one_left, every_map}
 use Rattle.recovery.proofs.Cuts.{every_append}
 use Rattle.recovery.proofs.Compaction.{mul-add-one, clean-sound}
-use Rattle.recovery.proofs.StartingUp.{Ready, ready_of, pending-parts}
-use Rattle.recovery.proofs.BitsOfSets.{clean-chunked}
+use Rattle.recovery.proofs.StartingUp.{ready_of, pending-parts}
 use Rattle.recovery.proofs.Chip.{blocks-whole}
 use Rattle.recovery.specs.Chip.{WholePage, WholeOrRecord, InWholePages, compacts, WholePagesStored, StateBlank, StatesBlank, StoresLeave}
 
