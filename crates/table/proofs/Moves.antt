@@ -16,7 +16,7 @@ use Rattle.model.specs.Image.{region_size}
 use Rattle.model.specs.Compact.{encode_in}
 use Rattle.model.specs.Move.{moved_values, move_broken, moved, image_moved, move_answer}
 use Rattle.model.specs.Answers.{Outcome, done, refused, rule_number}
-use Rattle.table.proofs.Row.{computed, ff, zeros, header, header_of, image, empty, guid, rate, four, behind_state, start_id, rate_entry, rate_stands}
+use Rattle.table.proofs.Row.{computed, ff, zeros, header, header_of, image, guid, rate, four, behind_state, start_id, rate_entry, rate_stands}
 
 pub record Move : Type 0 where
   pub from : Layout

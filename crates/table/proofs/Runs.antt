@@ -118,7 +118,7 @@ pub lost-laid : {start img : List ℕ}
     → (values_of (laid_all ps img) ≡ book → ⊥)
     → Demand3
     → ⊥
-unfolding listed width_of
+unfolding width_of
 lost-laid {img = img} up run ps plan inside other =
     let n = length (flat ps) in
     let whole : todays (as_writes ps ++ []) ≡ flat ps = ap todays (append-nil (as_writes ps)) ∙ as-flat ps in

@@ -609,7 +609,6 @@ table =
     ∷ []
 
 pub tenants : HoldAll table
-unfolding table
 tenants =
     share_exact-holds
     and share_short-holds
