@@ -167,10 +167,10 @@ unfolding computed
 all_refused-holds = held all_refused refl refl tt tt refl refl
 
 -- a name asked twice takes its room twice
-twice_holds : gets_reply false boot (A ∷ A ∷ []) (room 10) settings
+twice-holds : gets_reply false boot (A ∷ A ∷ []) (room 10) settings
     ≡ gives (had 5 0x07 ∷ had 5 0x07 ∷ []) (five ++ five)
 unfolding computed
-twice_holds = refl
+twice-holds = refl
 
 twice_short-holds : gets_reply false boot (A ∷ A ∷ []) (room 9) settings
     ≡ gives (had 5 0x07 ∷ lacked 14 5 ∷ []) (five ++ room 4)

@@ -156,9 +156,9 @@ over-holds = held over refl refl tt tt refl refl
 abbrev cut : Row
 cut = broken (one ((0x03 ∷ 0x0A ∷ 0x03 ∷ []) ++ guid ++ trig ++ two)) 25
 
-cut_holds : Holds cut
+cut-holds : Holds cut
 unfolding computed
-cut_holds = held cut refl refl tt tt refl refl
+cut-holds = held cut refl refl tt tt refl refl
 
 abbrev missing : Row
 missing = broken (0x02 ∷ the_trig) 25
@@ -200,9 +200,9 @@ short-holds = refl
 abbrev twice : Row
 twice = broken (pair (item 0x07 guid (0x01 ∷ []) []) (item 0x03 guid (0x01 ∷ []) two)) 26
 
-twice_holds : Holds twice
+twice-holds : Holds twice
 unfolding computed
-twice_holds = held twice refl refl tt tt refl refl
+twice-holds = held twice refl refl tt tt refl refl
 
 abbrev twice_last : Row
 twice_last = broken ((0x03 ∷ []) ++ the_trig ++ the_rate 0x65 ++ the_trig) 26
@@ -550,12 +550,12 @@ profiles-hold =
     and nine-holds
     and eight-holds
     and over-holds
-    and cut_holds
+    and cut-holds
     and missing-holds
     and timed-holds
     and no_attributes-holds
     and unready-holds
-    and twice_holds
+    and twice-holds
     and twice_last-holds
     and twice_later-holds
     and twice_over-holds

@@ -95,14 +95,14 @@ pub resumption : (img : List ℕ) (ps : List Piece)
     → and_then tidy_spare (and_then tidy_work tidy_tail) (laid_all ps img) ≡ []
     → start_up_plan plain img ≡ make [] (as_writes ps ++ [])
 unfolding start_up_plan start_up_stores
-resumption img ps sound writes inside None-more =
+resumption img ps sound writes inside none-more =
     let tidy = and_then tidy_spare (and_then tidy_work tidy_tail) in
     let then : tidy (left_by_def (resume img) img) ≡ [] =
     ap (λ ws. tidy (left_by_def ws img)) writes
     ∙ ap tidy (sym (left-today (as_writes ps) img))
     ∙ ap (λ ss. tidy (apply_all ss img)) (stores-todays (as_writes ps) ∙ as-flat ps)
     ∙ ap tidy (flat-laid ps img inside)
-    ∙ None-more in
+    ∙ none-more in
     ap (λ o. on_some o refuse (make [] (start_up_stores img))) sound
     ∙ ap (λ ws. make [] (resume img ++ ws)) then
     ∙ ap (λ ws. make [] (ws ++ [])) writes
