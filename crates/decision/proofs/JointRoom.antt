@@ -204,8 +204,8 @@ module _ (t : Terms) (r : List ℕ) (sounds : sound r ≡ true) (ours : t.modem 
         where
           go : (c : Change) → Own key_pk c → Other key_mode c
           go nothing o = tt
-          go (remove j) o = rw o names-differ
-          go (put v) o = rw o names-differ
+          go (remove j) o = ap (λ (i : Key). same_key_def i key_mode) o ∙ names-differ
+          go (put v) o = ap (λ (i : Key). same_key_def i key_mode) o ∙ names-differ
 
       -- the sizes of a class after both
       class-after : (x : Class t.vendor t.modem)

@@ -1,0 +1,54 @@
+-- `decision::decide` meets its contract: what is there of the name is the 3F entry of the two places found, else the 3E entry. Assumes nothing.
+use mathlib.Core.Path.{◌≡◌, sym, ap, ap₂, ◌∙◌, subst}
+use lib.ListN.{length}
+use Rattle.model.specs.Name.{keyed}
+use Rattle.model.specs.Region.{entries, values, added, replacing, standing}
+use Rattle.model.specs.Limits.{limits_in}
+use Rattle.values.specs.Found.{else_found}
+use Rattle.values.specs.declared.Found.{Found}
+use Rattle.values.proofs.Finds.{found-else}
+use Rattle.decision.specs.Decision.{request_of}
+use Rattle.decision.specs.Parts.{value_by}
+use Rattle.decision.proofs.Assembled.{value-here}
+use Rattle.decision.proofs.Accepted.{put-formed}
+use borrow.Author.Rules.{rules}
+use Rattle.decision.proofs.decide.Goals as goal
+
+pub decide_over-joined-requires : goal.decide_over-joined-requires
+unfolding standing
+decide_over-joined-requires c =
+    let a = c.args in
+    let p = c.requires in
+    let es = entries a.region.now in
+    let k = keyed a.name.now a.vendor.now in
+    let l = c.places-places.ensures in
+    record {
+      region_value = p.region_value;
+      region_len_bound = p.region_len_bound;
+      tail_value = p.tail_value;
+      foreign_value = p.foreign_value;
+      value = c.standing-old.ensures ∙ ap₂ else_found l.0 l.1 ∙ sym (found-else (added k es) (replacing k es));
+    }
+
+pub returns : goal.returns
+unfolding standing
+returns c =
+    let a = c.args in
+    let p = c.requires in
+    let r = a.region.now in
+    let es = entries r in
+    let k = keyed a.name.now a.vendor.now in
+    let q = request_of a.name.now a.vendor.now a.asking.attributes a.bytes.now a.asking.presence a.asking.verdict in
+    let l = c.places-places.ensures in
+    let found = c.standing-old.result in
+    let here = c.standing-old.ensures in
+    let old = here ∙ ap₂ else_found l.0 l.1 ∙ sym (found-else (added k es) (replacing k es)) in
+    let over = c.decide_over-joined.ensures in (
+      over.0,
+      over.1,
+      over.2,
+      l.0,
+      l.1,
+      λ e. ap (λ (f : Found). value_by r a.name.now a.vendor.now a.bytes.now f c.value-value.result) (sym here)
+          ∙ value-here a.t q r p.region_value found old (put-formed (limits_in a.limits.now a.t.rules k) a.t q (length r) (values es) (sym over.0 ∙ e)) c.value-value.result c.value-value.ensures,
+    )

@@ -1,0 +1,15 @@
+-- `decision::rules::platform` meets its contract: what is looked up is PlatMode. Assumes nothing.
+use mathlib.Core.Path.{ap, ap₂, ◌∙◌}
+use Rattle.model.specs.Name.{Key, keyed}
+use Rattle.model.specs.Region.{entries, standing}
+use Rattle.model.specs.Request.{key_mode}
+use Rattle.values.specs.Found.{found_of}
+use borrow.Author.Rules.{rules}
+use Rattle.decision.proofs.rules.platform.Goals as goal
+
+pub returns : goal.returns
+unfolding key_mode
+returns c =
+    let es = entries c.args.region.now in
+    c.find.ensures
+    ∙ ap (λ (k : Key). found_of (standing k es)) (ap₂ keyed c.mode_name-name.ensures c.global_vendor-vendor.ensures)

@@ -1,0 +1,16 @@
+-- `query::is_seen` meets its contract: of an entry that may be seen `is_value` decides.
+-- Assumes nothing.
+use mathlib.Core.Path.{sym, ◌∙◌}
+use Rattle.query.proofs.Seen.{seen_value, not-visible}
+use borrow.Author.Rules.{rules}
+use Rattle.query.proofs.is_seen.Goals as goal
+
+pub returns-then-is_visible : goal.returns-then-is_visible
+returns-then-is_visible c =
+    let a = c.args in
+    c.is_value.ensures ∙ sym (seen_value a.runtime a.region.now a.at a.e (sym c.is_visible.ensures ∙ c.if-is_visible.true))
+
+pub returns : goal.returns
+returns c =
+    let a = c.args in
+    sym (not-visible a.runtime a.region.now a.at a.e (sym c.is_visible.ensures ∙ c.if-is_visible.false))

@@ -1,0 +1,16 @@
+-- `query::is_shown` meets its contract: of an entry that is seen its owner decides. Assumes nothing.
+use mathlib.Core.Path.{sym, ◌∙◌}
+use Rattle.query.proofs.Seen.{shown-seen, shown-unseen}
+use borrow.Author.Rules.{rules}
+use Rattle.query.proofs.is_shown.Goals as goal
+
+pub returns-then-is_seen : goal.returns-then-is_seen
+returns-then-is_seen c =
+    let a = c.args in
+    c.is_own.ensures
+    ∙ sym (shown-seen a.guid.now a.modem a.runtime a.region.now a.at a.e (sym c.is_seen.ensures ∙ c.if-is_seen.true))
+
+pub returns : goal.returns
+returns c =
+    let a = c.args in
+    sym (shown-unseen a.guid.now a.modem a.runtime a.region.now a.at a.e (sym c.is_seen.ensures ∙ c.if-is_seen.false))

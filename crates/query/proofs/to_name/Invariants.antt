@@ -1,0 +1,21 @@
+-- `query::to_name` meets its contract: before the entry that holds the name's value none is a value of that name. The loop's invariant: the entry to name is, once the
+-- name is passed, the first of those shown from here on, and else the one that follows the name among them. What is left of the region falls.
+-- Assumes nothing.
+use Prim.Native.Nat.{◌-◌}
+use mathlib.Core.Path.{◌≡◌, sym, ◌∙◌}
+use lib.ListN.{length}
+use Rattle.model.specs.Name.{keyed}
+use Rattle.model.specs.Region.{entries}
+use Rattle.region.proofs.Turns.{at_entry, at-end}
+use Rattle.query.specs.Query.{going_on, entry_to_name}
+use Rattle.query.proofs.Seen.{shown_from, shown-none, going-none, name-here, name-next, name-before}
+use Rattle.query.proofs.Leading.{name-none, name-begin}
+use borrow.Author.Rules.{rules}
+use Rattle.query.proofs.to_name.Given as goal
+
+abbrev pub invariant-loop-e : goal.invariant-loop-e
+invariant-loop-e l =
+    entry_to_name l.guid l.modem l.runtime (keyed l.name l.vendor) (entries l.region) ≡ going_on l.passed (keyed l.name l.vendor) (shown_from l.guid l.modem l.runtime l.region l.here)
+
+abbrev pub decreases-loop-e : goal.decreases-loop-e
+decreases-loop-e l = length l.region - l.here

@@ -1,0 +1,23 @@
+-- `query::walk_to_get` meets its contract: before the entry that holds the name's value none is a value of that name. The loop's invariant: the entry to get is the first of that
+-- name among those seen from here on. What is left of the region falls.
+-- Assumes nothing.
+use Prim.Native.Nat.{◌-◌}
+use mathlib.Core.Path.{◌≡◌, sym, ap, ◌∙◌}
+use lib.ListN.{length}
+use Rattle.model.specs.Lists.{first}
+use Rattle.model.specs.Name.{keyed, same_key_def}
+use Rattle.model.specs.Walk.{entry_key}
+use Rattle.model.specs.Region.{entries}
+use Rattle.region.proofs.Turns.{at_entry, at-end}
+use Rattle.query.specs.Query.{entry_to_get}
+use Rattle.query.proofs.Seen.{seen_from, seen_none, get-here, get-next}
+use Rattle.query.proofs.Leading.{get_none, get-begin}
+use borrow.Author.Rules.{rules}
+use Rattle.query.proofs.walk_to_get.Given as goal
+
+abbrev pub invariant-loop-e : goal.invariant-loop-e
+invariant-loop-e l =
+    entry_to_get l.runtime (keyed l.name l.vendor) (entries l.region) ≡ first (λ e. same_key_def (entry_key e) (keyed l.name l.vendor)) (seen_from l.runtime l.region l.at)
+
+abbrev pub decreases-loop-e : goal.decreases-loop-e
+decreases-loop-e l = length l.region - l.at
