@@ -1,0 +1,30 @@
+-- `planner::put::in_tail` meets its contract: the entry stands at the content's front. Assumes nothing.
+use native.Mathlib.Omega.{arith}
+use mathlib.Core.Path.{◌≡◌, sym}
+use lib.ListN.{length, length-append}
+use Rattle.planner.proofs.Ready.{value-short}
+use Rattle.planner.proofs.Tail.{tail-asked, tail-planned}
+use borrow.Author.Rules.{rules}
+use Rattle.planner.proofs.put.in_tail.Goals as goal
+
+pub put_entry-requires : goal.put_entry-requires
+put_entry-requires c =
+    let s = c in
+    let h = value-short _ s.requires.0.ready s.requires.0.room in
+    let l = length-append s.args.old.now s.args.own.now in
+    let st : length s.args.stamp.now ≡ 16 = search rules in
+    let ve : length s.args.vendor.now ≡ 16 = search rules in
+    (omega arith, omega arith, omega arith, omega arith, omega arith, omega arith)
+
+pub tail_write-requires : goal.tail_write-requires
+tail_write-requires c =
+    let s = c in
+    let l = length-append s.args.old.now s.args.own.now in
+    let t = tail-asked s.requires.0 s.requires.1 in
+    (t.0, t.1, omega (arith, t.2))
+
+pub returns : goal.returns
+returns c =
+    let s = c in
+    let ve : length s.args.vendor.now ≡ 16 = search rules in
+    tail-planned s.requires.0 s.requires.1 ve c.put_entry.ensures s.requires.2 (sym (length-append s.args.old.now s.args.own.now)) c.tail_write.ensures c.accept.ensures
