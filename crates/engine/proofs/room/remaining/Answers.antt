@@ -1,0 +1,21 @@
+-- `engine::room::remaining` meets its contract: the two differences, the lesser of them, in whole words.
+-- Assumes nothing.
+use native.Mathlib.Omega.{arith}
+use mathlib.Core.Path.{refl}
+use borrow.Author.Rules.{rules}
+use Rattle.engine.proofs.room.remaining.Goals as goal
+
+pub returns-then-error : goal.returns-then-error
+returns-then-error c =
+    let e = c.least.ensures in
+    let l = c.less.ensures in
+    let s = c.record_share.ensures in
+    let a = c.less-all.ensures in
+    rw c.if-error.true (rw (e, l, a, s) refl, omega (arith, e, l, a))
+
+pub returns : goal.returns
+returns c =
+    let e = c.least-2.ensures in
+    let l = c.less-2.ensures in
+    let a = c.less-all.ensures in
+    rw c.if-error.false (rw (e, l, a) refl, omega (arith, e, l, a))

@@ -1,0 +1,9 @@
+-- `engine::start::is_side_broken` meets its contract: broken where they are not kept to.
+-- Assumes nothing.
+use mathlib.Core.Path.{ap}
+use mathlib.Core.Bool.{not}
+use borrow.Author.Rules.{rules}
+use Rattle.engine.proofs.start.is_side_broken.Goals as goal
+
+pub returns : goal.returns
+returns c = ap not c.is_allotted.ensures
