@@ -1,5 +1,6 @@
 // The reports that `varlist` and `plainlist` print, written into a lent buffer.
 #![tactic(auto)]
+
 ghost use Rattle.std.specs.Prelude.{◌≡◌, ◌+◌, ◌*◌, ◌%◌, ◌^◌, ◌<◌, ◌≤◌, ◌++◌, length};
 ghost use Rattle.model.specs.Walk.{entry_value_def};
 ghost use Rattle.model.specs.Region.{entries_in, values};
