@@ -9,9 +9,9 @@ use mathlib.Core.List.{List, [], ◌∷◌, ◌++◌, append_assoc}
 use lib.ListN.{length, replicate, length-append, length-replicate, replicate-append-replicate}
 use borrow.Author.Tests.{leb-true}
 use Rattle.model.specs.declared.Layout.{Layout}
-use Rattle.model.specs.Layout.{header_length, is_stamped_def}
+use Rattle.model.specs.Layout.{is_stamped_def}
 use Rattle.model.specs.Lists.{bytes32}
-use Rattle.model.specs.Entry.{Value, header_front, header_rest_in, extra_bytes, entry_bytes_in, entry_size_in, plain_size_in, no_stamp_def}
+use Rattle.model.specs.Entry.{header_front, header_rest_in, extra_bytes, entry_bytes_in, entry_size_in, plain_size_in, no_stamp_def}
 use Rattle.output.specs.Text.{Wrote}
 use Rattle.output.proofs.Writing.{wrote-append, wrote_as}
 use Rattle.convert.specs.Bare.{bare_front, bare_sizes, bare_header, bare}

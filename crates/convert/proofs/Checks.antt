@@ -1,7 +1,7 @@
 -- What the rules leave of a move: the first test that fails decides. Header and entries of valid values take just the space that is counted for them, and FF
 -- bytes up to the region's end and those behind it are FF bytes up to the image's end.
 -- Assumes nothing.
-use Prim.Native.Nat.{ℕ, ◌+◌, ◌*◌, ◌-◌, ◌<◌, ◌≤◌}
+use Prim.Native.Nat.{ℕ, ◌+◌, ◌*◌, ◌-◌, ◌≤◌}
 use native.Mathlib.Omega.{arith}
 use mathlib.Core.Path.{◌≡◌, refl, sym, ap, ◌∙◌}
 use mathlib.Core.Bool.{Bool, true, false, cond}

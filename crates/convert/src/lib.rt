@@ -1,5 +1,6 @@
 // A move: the values of a lent image put into another lent image, in another stored form. It writes its target as a buffer and makes no stores.
 #![tactic(auto)]
+
 ghost use Rattle.std.specs.Prelude.{◌≡◌};
 ghost use Rattle.recovery.specs.Interface.{MoveReturned};
 ghost use Rattle.convert.specs.Bare.{checked_of};
