@@ -1,5 +1,5 @@
 .SILENT:
-.PHONY: help kit demo test edits check fmt lib link-test targets-test examples-test host host-test stack rust-test soak bench check-time efi interop volume-test convert-test records-test settings-test shares-test profile-test season-test desk-test install clean
+.PHONY: help kit demo test edits check fmt varlist plainlist season lib link-test targets-test examples-test host host-test stack rust-test soak bench check-time efi interop volume-test convert-test records-test settings-test shares-test profile-test season-test desk-test install clean
 
 CC = cc
 CFLAGS = -std=c11 -O2 -Wall -Wextra -Werror
@@ -9,8 +9,10 @@ LIB = target/staticlib/libcapi.a
 TARGET = x86_64
 MADE = $(if $(filter x86_64,$(TARGET)),$(LIB),target/staticlib/libcapi-$(TARGET).a)
 PREFIX = /usr/local
+# a program, by its name: what it prints of its own input must be what the gate wants
+BUILD = cd crates/$@ && mkdir -p out && rt run <stdin >out/said && cmp out/said stdout
 # what the library is made of
-SOURCES := crates.txt tools/lib c/memory.c c/varstore.h $(shell find crates -path '*/src/*' -type f -o -path '*/specs/*' -type f -o -path '*/proofs/*' -type f)
+SOURCES := crates.txt tools/lib c/memory.c c/varstore.h $(shell find crates -name out -prune -o \( -path '*/src/*' -o -path '*/specs/*' -o -path '*/proofs/*' \) -type f -print)
 
 # these lines; each target has its own in the comment before it
 help:
@@ -26,7 +28,7 @@ test: kit
 # prove the library and varlist, list a sample store, play power cuts in a compaction, and say what was shown
 demo: kit
 	echo "first the proofs, a line for each crate: about five minutes on two cores, seconds where nothing has changed"
-	tools/progress target/varlist.log rt check varlist
+	tools/progress target/varlist.log $(MAKE) -s varlist
 	tools/progress target/lib.log $(MAKE) -s lib
 	printf '\na sample store, crates/varlist/stdin, as tools/varlist lists it:\n'
 	tools/varlist crates/varlist/stdin
@@ -50,9 +52,9 @@ target/staticlib/libcapi-%.a: $(LIB) tools/lib-for
 install: $(MADE)
 	tools/install $(MADE) "$(PREFIX)"
 
-# remove target, where all that is made here is
+# remove target and crates/*/out, where all that is made here is
 clean:
-	rm -rf target
+	rm -rf target crates/*/out
 
 # either calling convention, header and library of one form, varstore_uefi.h, and an installed library
 link-test: $(LIB)
@@ -111,8 +113,7 @@ efi:
 # variables from the library to OVMF and back; first it says which packages are missing
 interop: kit
 	tools/interop --packages
-	$(MAKE) -s lib
-	rt check varlist
+	$(MAKE) -s lib varlist
 	tools/interop
 
 # tools/volume on volumes that the test makes
@@ -147,10 +148,22 @@ season-test:
 desk-test:
 	tools/desk-test
 
-# prove what has changed, and run the programs
+# prove what has changed, try the must-fail edits, and run the programs
 check: kit
-	rt check
+	rt ci
 
 # lay the sources out as the gate wants them
 fmt: kit
-	rt fmt
+	for crate in crates/*/; do (cd "$$crate" && rt fmt) || exit 1; done
+
+# prove and build the program of tools/varlist, crates/varlist/out/varlist, and run it on the sample store
+varlist: kit
+	$(BUILD)
+
+# prove and build the program of tools/plainlist, crates/plainlist/out/plainlist, and run it on its sample
+plainlist: kit
+	$(BUILD)
+
+# prove and build the program of tools/season, crates/season/out/season, and run it on its sample
+season: kit
+	$(BUILD)

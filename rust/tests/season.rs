@@ -1,5 +1,5 @@
 //! 02 (m): a season tried on the desk. The program `season` and the second implementation print the same text of every script: lines worked out by hand, every limit
-//! of the form (27), and scripts by chance, whole and damaged. `rt check season` builds the program.
+//! of the form (27), and scripts by chance, whole and damaged. `make season` builds the program.
 
 mod common;
 

@@ -1,6 +1,7 @@
-// The C interface: every exported function, thin over the engine and the move: the parts of the session that a call needs, one call, and its answer in numbers. Numbers
-// and structs of numbers cross, no enum; c/varstore.h documents them.
+// The calls of the C interface, thin over the engine and the move: the parts of the session that a call needs, one call, and its answer in numbers. Numbers
+// and structs of numbers cross, no enum; c/varstore.h documents them, and capi_c exports them.
 #![tactic(auto)]
+
 ghost use Rattle.std.specs.Prelude.{◌≡◌, false};
 ghost use Rattle.model.specs.Layout.{authenticated, plain};
 ghost use Rattle.model.specs.Name.{keyed};
@@ -114,8 +115,7 @@ fn numbers(a: Answer) -> Answered
     }
 }
 
-#[unsafe(no_mangle)]
-pub extern "C" fn vs_check(image: &[u8]) -> Checked
+pub fn vs_check(image: &[u8]) -> Checked
     ensures { result ≡ checked_of image.now }
 {
     let c = image::check_call(Layout::AUTHENTICATED, image);
@@ -158,8 +158,7 @@ fn mode_number(mode: PlatMode) -> u32
     }
 }
 
-#[unsafe(no_mangle)]
-pub extern "C" fn vs_present_mode(image: &[u8]) -> Present
+pub fn vs_present_mode(image: &[u8]) -> Present
     ensures { result ≡ present_of image.now }
 {
     let p = modes::present(image);
@@ -175,13 +174,7 @@ pub extern "C" fn vs_present_mode(image: &[u8]) -> Present
     }
 }
 
-#[unsafe(no_mangle)]
-pub extern "C" fn vs_query(
-    context: Context,
-    session: Session,
-    image: &[u8],
-    attributes: u32,
-) -> Room
+pub fn vs_query(context: Context, session: Session, image: &[u8], attributes: u32) -> Room
     ensures { (result.answer ≡ numbers_of (query_outcome (at_runtime_def session) attributes image.now))
         × (result.storage ≡ query_gives (at_runtime_def session) attributes image.now
         (storage_for (terms_for_def (side_of context) session) (record_bit attributes) (region_size image.now)))
@@ -206,22 +199,19 @@ pub extern "C" fn vs_query(
     roomed(q)
 }
 
-#[unsafe(no_mangle)]
-pub extern "C" fn vs_session_new(setup: Setup) -> Session
+pub fn vs_session_new(setup: Setup) -> Session
     ensures { result ≡ fresh_session setup }
 {
     Session::fresh(setup)
 }
 
-#[unsafe(no_mangle)]
-pub extern "C" fn vs_phase(session: Session, phase: u32) -> Session
+pub fn vs_phase(session: Session, phase: u32) -> Session
     ensures { result ≡ moved_to_def session phase }
 {
     session.moved_to(phase)
 }
 
-#[unsafe(no_mangle)]
-pub extern "C" fn vs_lock(session: Session, side: u32, name: &[u8], vendor: &[u8; 16]) -> Listed
+pub fn vs_lock(session: Session, side: u32, name: &[u8], vendor: &[u8; 16]) -> Listed
     ensures { (result.answer ≡ numbers_of (lock_outcome (is_modem_def side) session (keyed name.now vendor.now)))
         × (result.session ≡ lock_session (is_modem_def side) session (keyed name.now vendor.now)) }
 {
@@ -234,8 +224,7 @@ pub extern "C" fn vs_lock(session: Session, side: u32, name: &[u8], vendor: &[u8
     }
 }
 
-#[unsafe(no_mangle)]
-pub extern "C" fn vs_get(
+pub fn vs_get(
     context: Context,
     session: Session,
     image: &[u8],
@@ -263,8 +252,7 @@ pub extern "C" fn vs_get(
     }
 }
 
-#[unsafe(no_mangle)]
-pub extern "C" fn vs_get_many(
+pub fn vs_get_many(
     context: Context,
     session: Session,
     image: &[u8],
@@ -287,8 +275,7 @@ pub extern "C" fn vs_get_many(
     numbers(answer)
 }
 
-#[unsafe(no_mangle)]
-pub extern "C" fn vs_next_name(
+pub fn vs_next_name(
     context: Context,
     session: Session,
     image: &[u8],
@@ -316,8 +303,7 @@ pub extern "C" fn vs_next_name(
     }
 }
 
-#[unsafe(no_mangle)]
-pub extern "C" fn vs_set(
+pub fn vs_set(
     context: Context,
     session: Session,
     image: &mut [u8],
@@ -382,8 +368,7 @@ pub extern "C" fn vs_set(
     numbers(answer)
 }
 
-#[unsafe(no_mangle)]
-pub extern "C" fn vs_profile(
+pub fn vs_profile(
     context: Context,
     session: Session,
     image: &mut [u8],
@@ -424,8 +409,7 @@ pub extern "C" fn vs_profile(
     numbers(answer)
 }
 
-#[unsafe(no_mangle)]
-pub extern "C" fn vs_mode(
+pub fn vs_mode(
     context: Context,
     session: Session,
     image: &mut [u8],
@@ -457,8 +441,7 @@ pub extern "C" fn vs_mode(
     numbers(answer)
 }
 
-#[unsafe(no_mangle)]
-pub extern "C" fn vs_format(
+pub fn vs_format(
     context: Context,
     image: &mut [u8],
     content: &mut [u8; layout::CONTENT],
@@ -471,8 +454,7 @@ pub extern "C" fn vs_format(
     numbers(answer)
 }
 
-#[unsafe(no_mangle)]
-pub extern "C" fn vs_start_up(
+pub fn vs_start_up(
     context: Context,
     image: &mut [u8],
     setup: Setup,
@@ -499,8 +481,7 @@ pub extern "C" fn vs_start_up(
     }
 }
 
-#[unsafe(no_mangle)]
-pub extern "C" fn vs_plan_set(
+pub fn vs_plan_set(
     session: Session,
     side: u32,
     image: &[u8],
@@ -567,8 +548,7 @@ pub extern "C" fn vs_plan_set(
     plan::in_numbers(planned)
 }
 
-#[unsafe(no_mangle)]
-pub extern "C" fn vs_plan_profile(
+pub fn vs_plan_profile(
     session: Session,
     side: u32,
     image: &[u8],
@@ -608,8 +588,7 @@ pub extern "C" fn vs_plan_profile(
     plan::in_numbers(planned)
 }
 
-#[unsafe(no_mangle)]
-pub extern "C" fn vs_plan_mode(
+pub fn vs_plan_mode(
     session: Session,
     side: u32,
     image: &[u8],
@@ -641,12 +620,7 @@ pub extern "C" fn vs_plan_mode(
     plan::in_numbers(planned)
 }
 
-#[unsafe(no_mangle)]
-pub extern "C" fn vs_plan_start_up(
-    image: &[u8],
-    setup: Setup,
-    content: &mut [u8; layout::CONTENT],
-) -> HostPlan
+pub fn vs_plan_start_up(image: &[u8], setup: Setup, content: &mut [u8; layout::CONTENT]) -> HostPlan
     ensures { StartUpPlanned setup image.now content.new result
         × Kept (start_up_plan setup image.now) content.old content.new
         × Numbered (start_up_plan setup image.now) image.now content.old content.new result }
@@ -656,8 +630,7 @@ pub extern "C" fn vs_plan_start_up(
     plan::in_numbers(planned)
 }
 
-#[unsafe(no_mangle)]
-pub extern "C" fn vs_plan_format(image: &[u8], content: &mut [u8; layout::CONTENT]) -> HostPlan
+pub fn vs_plan_format(image: &[u8], content: &mut [u8; layout::CONTENT]) -> HostPlan
     ensures { Told (format_plan image.now) content.new result
         × Kept (format_plan image.now) content.old content.new
         × Numbered (format_plan image.now) image.now content.old content.new result }
@@ -666,8 +639,7 @@ pub extern "C" fn vs_plan_format(image: &[u8], content: &mut [u8; layout::CONTEN
     plan::in_numbers(planned)
 }
 
-#[unsafe(no_mangle)]
-pub extern "C" fn vs_from_plain(image: &[u8], target: &mut [u8]) -> Answered
+pub fn vs_from_plain(image: &[u8], target: &mut [u8]) -> Answered
     ensures { (result ≡ numbers_of (move_answer plain authenticated image.now target.old))
         × (target.new ≡ image_moved plain authenticated image.now target.old) }
 {
@@ -675,8 +647,7 @@ pub extern "C" fn vs_from_plain(image: &[u8], target: &mut [u8]) -> Answered
     numbers(answer)
 }
 
-#[unsafe(no_mangle)]
-pub extern "C" fn vs_to_plain(image: &[u8], target: &mut [u8]) -> Answered
+pub fn vs_to_plain(image: &[u8], target: &mut [u8]) -> Answered
     ensures { (result ≡ numbers_of (move_answer authenticated plain image.now target.old))
         × (target.new ≡ image_moved authenticated plain image.now target.old) }
 {
@@ -686,22 +657,19 @@ pub extern "C" fn vs_to_plain(image: &[u8], target: &mut [u8]) -> Answered
 
 // The calls that have their session in the host's memory.
 
-#[unsafe(no_mangle)]
-pub extern "C" fn vs_session_fresh(session: &mut [u8; lent::SESSION])
+pub fn vs_session_fresh(session: &mut [u8; lent::SESSION])
     ensures { session_of session.new ≡ fresh_session (session_of session.old).setup }
 {
     lent::renew(session);
 }
 
-#[unsafe(no_mangle)]
-pub extern "C" fn vs_phase_lent(session: &mut Session, phase: u32)
+pub fn vs_phase_lent(session: &mut Session, phase: u32)
     ensures { session.new ≡ moved_to_def session.old phase }
 {
     *session = (*session).moved_to(phase);
 }
 
-#[unsafe(no_mangle)]
-pub extern "C" fn vs_lock_lent(
+pub fn vs_lock_lent(
     session: &mut [u8; lent::SESSION],
     side: u32,
     name: &[u8],
@@ -714,8 +682,7 @@ pub extern "C" fn vs_lock_lent(
     numbers(told)
 }
 
-#[unsafe(no_mangle)]
-pub extern "C" fn vs_get_lent(
+pub fn vs_get_lent(
     context: Context,
     session: &[u8; lent::SESSION],
     image: &[u8],
@@ -742,8 +709,7 @@ pub extern "C" fn vs_get_lent(
     }
 }
 
-#[unsafe(no_mangle)]
-pub extern "C" fn vs_get_many_lent(
+pub fn vs_get_many_lent(
     context: Context,
     session: &[u8; lent::SESSION],
     image: &[u8],
@@ -765,8 +731,7 @@ pub extern "C" fn vs_get_many_lent(
     numbers(reply)
 }
 
-#[unsafe(no_mangle)]
-pub extern "C" fn vs_next_name_lent(
+pub fn vs_next_name_lent(
     context: Context,
     session: &[u8; lent::SESSION],
     image: &[u8],
@@ -793,8 +758,7 @@ pub extern "C" fn vs_next_name_lent(
     }
 }
 
-#[unsafe(no_mangle)]
-pub extern "C" fn vs_set_lent(
+pub fn vs_set_lent(
     context: Context,
     session: &[u8; lent::SESSION],
     image: &mut [u8],
@@ -832,8 +796,7 @@ pub extern "C" fn vs_set_lent(
     numbers(told)
 }
 
-#[unsafe(no_mangle)]
-pub extern "C" fn vs_profile_lent(
+pub fn vs_profile_lent(
     context: Context,
     session: &[u8; lent::SESSION],
     image: &mut [u8],
@@ -857,8 +820,7 @@ pub extern "C" fn vs_profile_lent(
     numbers(told)
 }
 
-#[unsafe(no_mangle)]
-pub extern "C" fn vs_mode_lent(
+pub fn vs_mode_lent(
     context: Context,
     session: &[u8; lent::SESSION],
     image: &mut [u8],
@@ -881,8 +843,7 @@ pub extern "C" fn vs_mode_lent(
     numbers(told)
 }
 
-#[unsafe(no_mangle)]
-pub extern "C" fn vs_start_up_lent(
+pub fn vs_start_up_lent(
     context: Context,
     image: &mut [u8],
     session: &mut [u8; lent::SESSION],
@@ -901,8 +862,7 @@ pub extern "C" fn vs_start_up_lent(
     numbers(told)
 }
 
-#[unsafe(no_mangle)]
-pub extern "C" fn vs_plan_start_up_lent(
+pub fn vs_plan_start_up_lent(
     session: &[u8; lent::SESSION],
     image: &[u8],
     content: &mut [u8; layout::CONTENT],
@@ -918,8 +878,7 @@ pub extern "C" fn vs_plan_start_up_lent(
     plan::in_numbers(told)
 }
 
-#[unsafe(no_mangle)]
-pub extern "C" fn vs_plan_set_lent(
+pub fn vs_plan_set_lent(
     session: &[u8; lent::SESSION],
     side: u32,
     image: &[u8],
@@ -958,8 +917,7 @@ pub extern "C" fn vs_plan_set_lent(
     plan::in_numbers(told)
 }
 
-#[unsafe(no_mangle)]
-pub extern "C" fn vs_plan_profile_lent(
+pub fn vs_plan_profile_lent(
     session: &[u8; lent::SESSION],
     side: u32,
     image: &[u8],
@@ -986,8 +944,7 @@ pub extern "C" fn vs_plan_profile_lent(
     plan::in_numbers(told)
 }
 
-#[unsafe(no_mangle)]
-pub extern "C" fn vs_plan_mode_lent(
+pub fn vs_plan_mode_lent(
     session: &[u8; lent::SESSION],
     side: u32,
     image: &[u8],
@@ -1013,8 +970,7 @@ pub extern "C" fn vs_plan_mode_lent(
     plan::in_numbers(told)
 }
 
-#[unsafe(no_mangle)]
-pub extern "C" fn vs_query_lent(
+pub fn vs_query_lent(
     context: Context,
     session: &[u8; lent::SESSION],
     image: &[u8],
