@@ -100,9 +100,9 @@ soak: $(LIB)
 bench: $(LIB)
 	tools/bench
 
-# the check of a full image on the library of a revision (BEFORE=REVISION; the one before 02 (c) if none is given) and on this one: it may take no longer
+# the check of a full image on the library of a revision (BEFORE=REVISION, one of this kit's) and on this one: it may take no longer
 check-time: $(LIB)
-	tools/check-time $(or $(BEFORE),3b92912)
+	tools/check-time $(BEFORE)
 
 # the library inside a firmware, under its timer interrupts: EDK II's OVMF in qemu (TARGET=aarch64: AAVMF); first it says which packages are missing
 efi:
