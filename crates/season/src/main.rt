@@ -1,8 +1,7 @@
 // season: reads a script on standard input, plays it on an empty image, and prints a line for each of its steps; or that it is refused.
 #![tactic(auto)]
-ghost use Rattle.std.specs.Prelude.{◌≡◌, length};
 
-use libc::{STDERR_FILENO, STDOUT_FILENO};
+ghost use Rattle.std.specs.Prelude.{◌≡◌, length};
 
 // One byte more than a script may have, so that a longer one is seen.
 fn input() -> [u8; 65537]
@@ -11,19 +10,16 @@ fn input() -> [u8; 65537]
     [0; 65537]
 }
 
-fn main() {
+fn main(rt: HostRuntime) {
     let mut script = input();
     // what a read that fails leaves is the front of a script, which is none
-    let n = io::read_full(0, &mut script);
+    let n = streams::read_full(&mut rt.stdin(), &mut script);
     let mut image = [0; desk::LARGEST_IMAGE];
     let mut content = [0; layout::CONTENT];
-    let mut out = io::large_buffer();
+    let mut out = [0; 65536];
     let length = desk::season(&script[..n], &mut image, &mut content, &mut out);
-    if !io::write_all(STDOUT_FILENO, slices::cut(&out, 0, length)) {
-        // a program has no exit status of its own
-        io::write_all(
-            STDERR_FILENO,
-            b"season: standard output has not taken the lines\n",
-        );
+    if rt.write_all(slices::cut(&out, 0, length)).is_err() {
+        // the program has no exit status of its own
+        let _ = rt.eprint("season: standard output has not taken the lines\n");
     }
 }

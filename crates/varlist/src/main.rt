@@ -1,18 +1,15 @@
 // varlist: reads an image on standard input and prints its variables, or the rule that it breaks.
 #![tactic(auto)]
-use libc::{STDERR_FILENO, STDOUT_FILENO};
+
 use model::Layout;
 
-fn main() {
-    let mut image = io::large_buffer();
-    let n = io::read_full(0, &mut image);
-    let mut out = io::large_buffer();
+fn main(rt: HostRuntime) {
+    let mut image = [0; 65536];
+    let n = streams::read_full(&mut rt.stdin(), &mut image);
+    let mut out = [0; 65536];
     let length = report::report(Layout::AUTHENTICATED, &image[..n], &mut out);
-    if !io::write_all(STDOUT_FILENO, slices::cut(&out, 0, length)) {
-        // a program has no exit status of its own
-        io::write_all(
-            STDERR_FILENO,
-            b"varlist: standard output has not taken the list\n",
-        );
+    if rt.write_all(slices::cut(&out, 0, length)).is_err() {
+        // the program has no exit status of its own
+        let _ = rt.eprint("varlist: standard output has not taken the list\n");
     }
 }
