@@ -1,6 +1,6 @@
 // The fields of a step: numbers are little-endian, and what is past the end counts as zeros or empty.
 ghost use Rattle.std.specs.Prelude.{◌<◌, ◌≤◌, ◌^◌, length};
-ghost use Rattle.io.specs.Counts.{IsPrefixLen};
+ghost use Rattle.std.specs.Counts.{IsPrefixLen};
 
 // A byte, zero past the end.
 pub(crate) fn byte(s: &[u8], at: usize) -> u8 {

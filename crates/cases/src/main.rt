@@ -1,6 +1,7 @@
 // cases: for each file that an argument names, its name, and what varlist prints of it if it is an image, or the lines of its steps if it is a
 // script of calls.
 #![tactic(auto)]
+
 mod fields;
 mod many;
 mod play;
@@ -8,7 +9,8 @@ mod print;
 mod rules;
 mod tenants;
 
-use libc::STDOUT_FILENO;
+use std::rt::{Env, Files};
+use std::{fs, io, str};
 
 // Whether a path ends as a script's does.
 fn is_script(path: &[u8]) -> bool {
@@ -18,42 +20,51 @@ fn is_script(path: &[u8]) -> bool {
     slices::equal(&path[path.len() - 6..], b".calls")
 }
 
-fn run(path: &[u8], bytes: &[u8]) {
+fn run(rt: &impl Print, path: &[u8], bytes: &[u8]) {
     if is_script(path) {
-        play::play(bytes);
+        play::play(rt, bytes);
         return;
     }
-    play::varlist(bytes);
+    play::varlist(rt, bytes);
 }
 
-fn run_file(path: &[u8]) {
-    io::write_all(STDOUT_FILENO, path);
-    io::write_all(STDOUT_FILENO, b"\n");
-    let fd = os::open_read(path);
-    if fd < 0 {
-        os::fail(path);
-        return;
+// The file of a path, to be read. A path is text.
+fn open<R: Files>(rt: &R, path: &[u8]) -> io::Result<R::File> {
+    match str::from_utf8(path) {
+        Ok(name) => fs::open(rt, name),
+        Err(_) => Err(io::Error::from(io::ErrorKind::InvalidInput)),
     }
-    let mut bytes = io::large_buffer();
-    let n = io::read_full(fd, &mut bytes);
-    libc::close(fd);
-    run(path, &bytes[..n]);
+}
+
+fn run_file(rt: &(impl Files + Print + Eprint), path: &[u8]) {
+    print::word(rt, path);
+    print::end(rt);
+    let mut bytes = [0; 65536];
+    let n = match open(rt, path) {
+        Ok(mut file) => streams::read_full(&mut file, &mut bytes),
+        Err(e) => {
+            let name = str::from_utf8(path).unwrap_or("a path");
+            let _ = eprintln!(rt; "{name}: {e}");
+            return;
+        }
+    };
+    run(rt, path, &bytes[..n]);
 }
 
 // Whether there is an argument i; its file is run.
-fn run_arg(i: usize) -> bool {
-    let mut path = io::buffer();
-    let n = os::arg(i, &mut path);
+fn run_arg(rt: &(impl Env + Files + Print + Eprint), i: usize) -> bool {
+    let mut path = [0; 4096];
+    let n = rt.arg(i, &mut path).unwrap_or(0);
     if n == 0 {
         return false;
     }
-    run_file(&path[..n]);
+    run_file(rt, &path[..n]);
     true
 }
 
-fn main() {
+fn main(rt: HostRuntime) {
     let mut i: usize = 1;
-    while i < 100000 && run_arg(i) {
+    while i < 100000 && run_arg(&rt, i) {
         i += 1;
     }
 }

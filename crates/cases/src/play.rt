@@ -33,7 +33,7 @@
 ghost use Rattle.std.specs.Prelude.{◌≡◌, ◌<◌, ◌^◌};
 ghost use Rattle.model.specs.Name.{keyed};
 ghost use Rattle.model.specs.Rules.{terms_for_def, terms_of};
-ghost use Rattle.io.specs.Counts.{IsPrefixLen};
+ghost use Rattle.std.specs.Counts.{IsPrefixLen};
 
 use crate::{fields, many, print, rules, tenants};
 use decision::Asking;
@@ -89,9 +89,9 @@ fn context(step: &[u8], before: Context) -> Context {
 }
 
 // An answer alone on its line.
-fn print_answer(call: &[u8], a: Answer) {
-    print::answer(call, a);
-    print::end();
+fn print_answer(rt: &impl Print, call: &[u8], a: Answer) {
+    print::answer(rt, call, a);
+    print::end(rt);
 }
 
 // Room for what a call composes.
@@ -99,12 +99,12 @@ fn content() -> [u8; layout::CONTENT] {
     [0; layout::CONTENT]
 }
 
-fn format(c: Context, image: &mut [u8]) {
+fn format(rt: &impl Print, c: Context, image: &mut [u8]) {
     let mut content = content();
-    print_answer(b"format", engine::write::format(c, image, &mut content));
+    print_answer(rt, b"format", engine::write::format(c, image, &mut content));
 }
 
-fn start_up(c: Context, step: &[u8], image: &mut [u8], ruled: Setup) -> Session {
+fn start_up(rt: &impl Print, c: Context, step: &[u8], image: &mut [u8], ruled: Setup) -> Session {
     let mut setup = ruled;
     setup.custom = fields::byte(step, 5) as u32;
     setup.reserve = fields::long(step, 6) as u32;
@@ -112,6 +112,7 @@ fn start_up(c: Context, step: &[u8], image: &mut [u8], ruled: Setup) -> Session 
     let tenant = setup.modem;
     let mut content = content();
     print_answer(
+        rt,
         b"start-up",
         engine::start::start_up(c, setup.share, setup.records, tenant, image, &mut content),
     );
@@ -154,7 +155,7 @@ fn asking(step: &[u8]) -> Asking {
     }
 }
 
-fn set(c: Context, step: &[u8], image: &mut [u8], s: Session) {
+fn set(rt: &impl Print, c: Context, step: &[u8], image: &mut [u8], s: Session) {
     let vendor = fields::vendor(step, 11);
     let size = fields::short(step, 27);
     let name = slices::cut(step, 33, size);
@@ -172,10 +173,10 @@ fn set(c: Context, step: &[u8], image: &mut [u8], s: Session) {
         bytes,
         &mut content,
     );
-    print_answer(b"set", answer);
+    print_answer(rt, b"set", answer);
 }
 
-fn profile(c: Context, step: &[u8], image: &mut [u8], s: Session) {
+fn profile(rt: &impl Print, c: Context, step: &[u8], image: &mut [u8], s: Session) {
     let file = slices::cut(step, 9, fields::long(step, 5));
     let said = said(s, session::is_modem(c.side));
     let sizes = s.sizes;
@@ -195,10 +196,10 @@ fn profile(c: Context, step: &[u8], image: &mut [u8], s: Session) {
         file,
         &mut content,
     );
-    print_answer(b"profile", answer);
+    print_answer(rt, b"profile", answer);
 }
 
-fn mode(c: Context, step: &[u8], image: &mut [u8], s: Session) {
+fn mode(rt: &impl Print, c: Context, step: &[u8], image: &mut [u8], s: Session) {
     let said = said(s, session::is_modem(c.side));
     let sizes = s.sizes;
     let held = Locks {
@@ -209,7 +210,7 @@ fn mode(c: Context, step: &[u8], image: &mut [u8], s: Session) {
     let to = fields::long(step, 5) as u32;
     let mut content = content();
     let answer = engine::modes::mode(c, said, held, &s.locks, image, to, &mut content);
-    print_answer(b"mode", answer);
+    print_answer(rt, b"mode", answer);
 }
 
 // The number of a mode.
@@ -223,25 +224,29 @@ fn number_of(mode: PlatMode) -> u64 {
 }
 
 // The present mode, or the rule that the image breaks.
-fn present(image: &[u8]) {
+fn present(rt: &impl Print, image: &[u8]) {
     let told = engine::modes::present(image);
     match told {
-        Platform::Mode(mode) => print::number(b"present done 0 mode ", number_of(mode)),
-        Platform::Refused(rule) => print::number(b"present refused ", model::number(rule) as u64),
+        Platform::Mode(mode) => print::number(rt, b"present done 0 mode ", number_of(mode)),
+        Platform::Refused(rule) => print::number(
+            rt,
+            b"present refused ",
+            model::number(rule) as u64,
+        ),
     }
-    print::end();
+    print::end(rt);
 }
 
 // A get's answer; of a done one size, attributes and data too.
-fn print_got(got: Got, buffer: &[u8]) {
+fn print_got(rt: &impl Print, got: Got, buffer: &[u8]) {
     let answer = got.answer;
-    if print::answer(b"get", answer) {
-        print::number(b" size ", got.size as u64);
-        print::hex(b" attributes ", &[(got.attributes % 256) as u8]);
-        print::hex(b" data ", slices::cut(buffer, 0, got.size as usize));
+    if print::answer(rt, b"get", answer) {
+        print::number(rt, b" size ", got.size as u64);
+        print::hex(rt, b" attributes ", &[(got.attributes % 256) as u8]);
+        print::hex(rt, b" data ", slices::cut(buffer, 0, got.size as usize));
     }
-    print::needed(got.needed);
-    print::end();
+    print::needed(rt, got.needed);
+    print::end(rt);
 }
 
 // The size of the buffer of a get or a next-name.
@@ -263,21 +268,21 @@ fn got_into(c: Context, step: &[u8], image: &[u8], s: Session, buffer: &mut [u8]
     engine::read::get(c, view(c, s), image, name, &vendor, buffer)
 }
 
-fn get(c: Context, step: &[u8], image: &[u8], s: Session, space: &mut [u8]) {
+fn get(rt: &impl Print, c: Context, step: &[u8], image: &[u8], s: Session, space: &mut [u8]) {
     let size = buffer_size(step, space);
     let got = got_into(c, step, image, s, &mut space[..size]);
-    print_got(got, space);
+    print_got(rt, got, space);
 }
 
 // A next-name's answer; of a done one size and bytes too.
-fn print_named(named: Named, buffer: &[u8]) {
+fn print_named(rt: &impl Print, named: Named, buffer: &[u8]) {
     let answer = named.answer;
-    if print::answer(b"next-name", answer) {
-        print::number(b" size ", named.size as u64);
-        print::hex(b" bytes ", slices::cut(buffer, 0, named.size as usize));
+    if print::answer(rt, b"next-name", answer) {
+        print::number(rt, b" size ", named.size as u64);
+        print::hex(rt, b" bytes ", slices::cut(buffer, 0, named.size as usize));
     }
-    print::needed(named.needed);
-    print::end();
+    print::needed(rt, named.needed);
+    print::end(rt);
 }
 
 fn named_into(c: Context, step: &[u8], image: &[u8], s: Session, buffer: &mut [u8]) -> Named {
@@ -286,62 +291,62 @@ fn named_into(c: Context, step: &[u8], image: &[u8], s: Session, buffer: &mut [u
     engine::read::next_name(c, view(c, s), image, name, &vendor, buffer)
 }
 
-fn next_name(c: Context, step: &[u8], image: &[u8], s: Session, space: &mut [u8]) {
+fn next_name(rt: &impl Print, c: Context, step: &[u8], image: &[u8], s: Session, space: &mut [u8]) {
     let size = buffer_size(step, space);
     let named = named_into(c, step, image, s, &mut space[..size]);
-    print_named(named, space);
+    print_named(rt, named, space);
 }
 
 // A get, a many-get or a next-name, with room for its buffer.
-fn read(c: Context, step: &[u8], image: &[u8], s: Session) {
-    let mut space = io::large_buffer();
+fn read(rt: &impl Print, c: Context, step: &[u8], image: &[u8], s: Session) {
+    let mut space = [0; 65536];
     match fields::byte(step, 0) {
-        b'G' => get(c, step, image, s, &mut space),
-        b'Q' => many::get_many(c, view(c, s), step, image, &mut space),
-        _ => next_name(c, step, image, s, &mut space),
+        b'G' => get(rt, c, step, image, s, &mut space),
+        b'Q' => many::get_many(rt, c, view(c, s), step, image, &mut space),
+        _ => next_name(rt, c, step, image, s, &mut space),
     }
 }
 
-fn lock(c: Context, step: &[u8], s: Session) -> Session {
+fn lock(rt: &impl Print, c: Context, step: &[u8], s: Session) -> Session {
     let vendor = fields::vendor(step, 5);
     let name = slices::cut(step, 23, fields::short(step, 21));
     let listed = session::lock(s, session::is_modem(c.side), name, &vendor);
     let answer = listed.answer;
     let after = listed.session;
-    print::answer(b"lock", answer);
-    print::session(after);
-    print::end();
+    print::answer(rt, b"lock", answer);
+    print::session(rt, after);
+    print::end(rt);
     after
 }
 
-fn phase(step: &[u8], s: Session) -> Session {
+fn phase(rt: &impl Print, step: &[u8], s: Session) -> Session {
     let after = s.moved_to(fields::byte(step, 5) as u32);
-    print::word(b"moved");
-    print::session(after);
-    print::end();
+    print::word(rt, b"moved");
+    print::session(rt, after);
+    print::end(rt);
     after
 }
 
-fn poke(step: &[u8], image: &mut [u8]) {
+fn poke(rt: &impl Print, step: &[u8], image: &mut [u8]) {
     let at = fields::long(step, 5);
     let bytes = fields::bytes(step, 11, fields::short(step, 9));
     output::put_bytes(image, at, bytes);
-    print::number(b"bytes at ", at as u64);
-    print::hex(b" are ", bytes);
-    print::end();
+    print::number(rt, b"bytes at ", at as u64);
+    print::hex(rt, b" are ", bytes);
+    print::end(rt);
 }
 
-fn show(step: &[u8], image: &[u8]) {
+fn show(rt: &impl Print, step: &[u8], image: &[u8]) {
     let at = fields::long(step, 5);
-    print::number(b"at ", at as u64);
-    print::hex(b" ", slices::cut(image, at, fields::short(step, 9)));
-    print::end();
+    print::number(rt, b"at ", at as u64);
+    print::hex(rt, b" ", slices::cut(image, at, fields::short(step, 9)));
+    print::end(rt);
 }
 
-pub(crate) fn varlist(image: &[u8]) {
-    let mut out = io::large_buffer();
+pub(crate) fn varlist(rt: &impl Print, image: &[u8]) {
+    let mut out = [0; 65536];
     let n = report::report(Layout::AUTHENTICATED, image, &mut out);
-    print::word(slices::cut(&out, 0, n));
+    print::word(rt, slices::cut(&out, 0, n));
 }
 
 fn moved(step: &[u8], image: &[u8], target: &mut [u8]) -> Answer {
@@ -351,74 +356,75 @@ fn moved(step: &[u8], image: &[u8], target: &mut [u8]) -> Answer {
     convert::move_values(Layout::authenticated(), Layout::plain(), image, target)
 }
 
-fn move_image(step: &[u8], image: &[u8], target: &mut [u8]) {
-    print_answer(b"move", moved(step, image, target));
+fn move_image(rt: &impl Print, step: &[u8], image: &[u8], target: &mut [u8]) {
+    print_answer(rt, b"move", moved(step, image, target));
 }
 
-fn take_target(image: &mut [u8], target: &[u8]) {
+fn take_target(rt: &impl Print, image: &mut [u8], target: &[u8]) {
     output::put_bytes(image, 0, fields::bytes(target, 0, 65536));
-    print::word(b"target taken\n");
+    print::word(rt, b"target taken\n");
 }
 
 // The number of dead bytes as it is given, also above sixteen.
-fn print_dead(c: Context) {
-    print::number(b"dead ", c.count as u64);
-    print::end();
+fn print_dead(rt: &impl Print, c: Context) {
+    print::number(rt, b"dead ", c.count as u64);
+    print::end(rt);
 }
 
 // The bytes of a page as they are given, also where they count as 1.
-fn print_page(c: Context) {
-    print::number(b"page ", c.width as u64);
-    print::end();
+fn print_page(rt: &impl Print, c: Context) {
+    print::number(rt, b"page ", c.width as u64);
+    print::end(rt);
 }
 
 // The number of rules as it is given, also above 32.
-fn print_rules(step: &[u8]) {
-    print::number(b"rules ", fields::long(step, 5) as u64);
-    print::end();
+fn print_rules(rt: &impl Print, step: &[u8]) {
+    print::number(rt, b"rules ", fields::long(step, 5) as u64);
+    print::end(rt);
 }
 
 // The side as it is given, also where it counts as ours.
-fn print_side(c: Context) {
-    print::number(b"side ", c.side as u64);
-    print::end();
+fn print_side(rt: &impl Print, c: Context) {
+    print::number(rt, b"side ", c.side as u64);
+    print::end(rt);
 }
 
 // Our share and the modem's.
-fn print_shares(step: &[u8]) {
-    print::number(b"shares ", fields::long(step, 5) as u64);
-    print::number(b" ", fields::long(step, 9) as u64);
-    print::end();
+fn print_shares(rt: &impl Print, step: &[u8]) {
+    print::number(rt, b"shares ", fields::long(step, 5) as u64);
+    print::number(rt, b" ", fields::long(step, 9) as u64);
+    print::end(rt);
 }
 
 // A step that leaves the session as it is.
-fn call(c: Context, step: &[u8], image: &mut [u8], target: &mut [u8], s: Session) {
+fn call(rt: &impl Print, c: Context, step: &[u8], image: &mut [u8], target: &mut [u8], s: Session) {
     match fields::byte(step, 0) {
-        b'F' => format(c, image),
-        b'S' => set(c, step, image, s),
-        b'O' => profile(c, step, image, s),
-        b'A' => mode(c, step, image, s),
-        b'C' => present(image),
-        b'G' => read(c, step, image, s),
-        b'N' => read(c, step, image, s),
-        b'Q' => read(c, step, image, s),
-        b'B' => poke(step, image),
-        b'D' => show(step, image),
-        b'V' => varlist(image),
-        b'M' => move_image(step, image, target),
-        b'E' => show(step, target),
-        b'T' => take_target(image, target),
-        b'W' => print_dead(c),
-        b'I' => print_page(c),
-        b'R' => print_rules(step),
-        b'K' => print_side(c),
-        b'X' => print_shares(step),
-        _ => print::word(b"no such step\n"),
+        b'F' => format(rt, c, image),
+        b'S' => set(rt, c, step, image, s),
+        b'O' => profile(rt, c, step, image, s),
+        b'A' => mode(rt, c, step, image, s),
+        b'C' => present(rt, image),
+        b'G' => read(rt, c, step, image, s),
+        b'N' => read(rt, c, step, image, s),
+        b'Q' => read(rt, c, step, image, s),
+        b'B' => poke(rt, step, image),
+        b'D' => show(rt, step, image),
+        b'V' => varlist(rt, image),
+        b'M' => move_image(rt, step, image, target),
+        b'E' => show(rt, step, target),
+        b'T' => take_target(rt, image, target),
+        b'W' => print_dead(rt, c),
+        b'I' => print_page(rt, c),
+        b'R' => print_rules(rt, step),
+        b'K' => print_side(rt, c),
+        b'X' => print_shares(rt, step),
+        _ => print::word(rt, b"no such step\n"),
     }
 }
 
 // A step played; the session after it.
 fn play_step(
+    rt: &impl Print,
     c: Context,
     step: &[u8],
     image: &mut [u8],
@@ -428,25 +434,31 @@ fn play_step(
 ) -> Session {
     let kind = fields::byte(step, 0);
     if kind == b'U' {
-        return start_up(c, step, image, ruled);
+        return start_up(rt, c, step, image, ruled);
     }
     if kind == b'L' {
-        return lock(c, step, s);
+        return lock(rt, c, step, s);
     }
     if kind == b'P' {
-        return phase(step, s);
+        return phase(rt, step, s);
     }
-    call(c, step, image, target, s);
+    call(rt, c, step, image, target, s);
     s
 }
 
-fn carry(step: &[u8], image: &mut [u8], target: &mut [u8], before: Carried) -> Carried {
+fn carry(
+    rt: &impl Print,
+    step: &[u8],
+    image: &mut [u8],
+    target: &mut [u8],
+    before: Carried,
+) -> Carried {
     let context = context(step, before.context);
     let shared = tenants::shared(step, before.shared);
     let ruled = rules::given(step, before.setup);
     let setup = tenants::given(step, shared, image, ruled);
     let held = tenants::held(shared, image, before.session);
-    let session = play_step(context, step, image, target, held, setup);
+    let session = play_step(rt, context, step, image, target, held, setup);
     Carried {
         session,
         context,
@@ -536,7 +548,7 @@ fn nothing() -> Carried {
 }
 
 // The steps of a script, over a buffer for the image and one for the target of moves.
-fn play_steps(script: &[u8], buffer: &mut [u8], other: &mut [u8]) {
+fn play_steps(rt: &impl Print, script: &[u8], buffer: &mut [u8], other: &mut [u8]) {
     let mut carried = nothing();
     let mut size: usize = 0;
     let mut room: usize = 0;
@@ -545,13 +557,13 @@ fn play_steps(script: &[u8], buffer: &mut [u8], other: &mut [u8]) {
         let step = slices::cut(script, at, 65536);
         room = target_size(step, room, other);
         size = image_size(step, size, room, buffer);
-        carried = carry(step, &mut buffer[..size], &mut other[..room], carried);
+        carried = carry(rt, step, &mut buffer[..size], &mut other[..room], carried);
         at += step_size(step);
     }
 }
 
-pub(crate) fn play(script: &[u8]) {
-    let mut buffer = io::large_buffer();
-    let mut other = io::large_buffer();
-    play_steps(script, &mut buffer, &mut other);
+pub(crate) fn play(rt: &impl Print, script: &[u8]) {
+    let mut buffer = [0; 65536];
+    let mut other = [0; 65536];
+    play_steps(rt, script, &mut buffer, &mut other);
 }
