@@ -1,0 +1,14 @@
+-- `capi::vs_get` meets its contract: the side and what the session says to it, one call of the engine, its answer in numbers. Assumes nothing.
+use mathlib.Core.Path.{ap, ◌∙◌}
+use Rattle.model.specs.Answers.{side_of}
+use Rattle.capi.specs.Numbers.{numbers_of}
+use Rattle.capi.proofs.Said.{view-told}
+use borrow.Author.Rules.{rules}
+use Rattle.capi.proofs.vs_get.Goals as goal
+
+pub returns : goal.returns
+returns c =
+    let a = c.args in
+    let m = side_of a.context in
+    let e = c.get-g.ensures m a.session (view-told m a.session c.is_modem.ensures c.view-view.ensures) in
+    (c.numbers.ensures ∙ ap numbers_of e.0.0, e.1)
