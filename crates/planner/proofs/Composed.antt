@@ -1,7 +1,7 @@
 -- What a compaction composes: a header and values that have room in the region, written at the front of a buffer, are with FF bytes after them the region to
 -- store. Of a put they are the values without the changed one's name and then its entry; of a start-up all values.
 -- Assumes nothing.
-use Prim.Native.Nat.{ℕ, ◌+◌, ◌-◌, ◌^◌, ◌≤◌, ◌<◌}
+use Prim.Native.Nat.{ℕ, ◌-◌, ◌^◌, ◌≤◌, ◌<◌}
 use native.Mathlib.Omega.{arith}
 use mathlib.Core.Path.{◌≡◌, ap, ◌∙◌, subst}
 use mathlib.Core.Bool.{true}

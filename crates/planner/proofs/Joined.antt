@@ -4,17 +4,17 @@ use Prim.Native.Nat.{ℕ, zero, suc, ◌*◌, ◌-◌, ◌^◌, ◌≤◌, ◌<�
 use native.Mathlib.Omega.{arith}
 use mathlib.Core.Path.{◌≡◌, refl, sym, ap, ◌∙◌, subst}
 use mathlib.Core.Bool.{Bool, true, false, cond}
-use mathlib.Core.List.{List, [], ◌∷◌, ◌++◌, append-nil}
+use mathlib.Core.List.{List, [], ◌∷◌, ◌++◌}
 use lib.ListN.{length, replicate, length-append}
 use lib.Dec.{eqb}
 use Rattle.model.specs.Layout.{authenticated}
-use Rattle.model.specs.Lists.{same, any, part}
-use Rattle.model.specs.Image.{region, region_size, region_header_def}
+use Rattle.model.specs.Lists.{same, part}
+use Rattle.model.specs.Image.{region, region_header_def}
 use Rattle.model.specs.Name.{Key, same_key_def}
 use Rattle.model.specs.Entry.{Value, key_of, no_stamp_def, entry_bytes}
 use Rattle.model.specs.Region.{entries, values, values_of, values_in, sound}
 use Rattle.model.specs.Request.{global_vendor_def, key_pk, key_mode, mode_value}
-use Rattle.model.specs.Change.{Change, remove, put, steps, space_of}
+use Rattle.model.specs.Change.{remove, put, steps}
 use Rattle.model.specs.Compact.{joined}
 use Rattle.model.specs.Beside.{Valid, changed_keys, put_values_def, without_all}
 use Rattle.model.proofs.Encode.{AllValid}

@@ -1,7 +1,7 @@
 -- The stores of a start-up, by the image that it begins on: the erases of spare and work block leave the region, and that of the spare the work block, so what comes
 -- later looks at what stood there at the start.
 -- Assumes nothing.
-use Prim.Native.Nat.{ℕ, ◌+◌, ◌*◌, ◌-◌}
+use Prim.Native.Nat.{ℕ, ◌+◌, ◌*◌}
 use native.Mathlib.Omega.{arith}
 use mathlib.Core.Path.{◌≡◌, refl, sym, ap, ◌∙◌}
 use mathlib.Core.Bool.{Bool, true, false, cond}

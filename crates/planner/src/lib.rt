@@ -1,6 +1,7 @@
 // The plans of the calls that store: of a set (`entries`, `put`), a profile, a joint change of PK and PlatMode, a start-up, a format. A planner has the image shared and no n; what is to be stored it composes
 // in the content, and its operations are an array in the order in which document 01 has their stores.
 #![tactic(auto)]
+
 ghost use Rattle.std.specs.Prelude.{◌≡◌};
 ghost use Rattle.planner.specs.Fronts.{begun_plan};
 

@@ -1,7 +1,6 @@
 -- `planner::begun` meets its contract: the first two places of an empty plan. Assumes nothing.
 use Rattle.plan.specs.Planned.{nothings}
 use Rattle.planner.specs.Fronts.{begun_plan}
-use borrow.Author.Rules.{rules}
 use Rattle.planner.proofs.begun.Goals as goal
 
 pub returns : goal.returns

@@ -2,7 +2,6 @@
 use Rattle.model.specs.Image.{block}
 use Rattle.planner.specs.Fronts.{begun_plan}
 use Rattle.planner.specs.Compactions.{compact_plan}
-use borrow.Author.Rules.{rules}
 use Rattle.planner.proofs.compaction.compact.Goals as goal
 
 pub returns : goal.returns

@@ -1,7 +1,6 @@
 -- `planner::entries::delete` meets its contract: its operations in their order. Assumes nothing.
 use Rattle.planner.specs.Fronts.{begun_plan}
 use Rattle.planner.specs.Entries.{delete_plan}
-use borrow.Author.Rules.{rules}
 use Rattle.planner.proofs.entries.delete.Goals as goal
 
 pub returns : goal.returns

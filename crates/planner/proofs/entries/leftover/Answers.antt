@@ -1,6 +1,5 @@
 -- `planner::entries::leftover` meets its contract, by what was found. Assumes nothing.
 use Rattle.planner.specs.Entries.{leftover_step}
-use borrow.Author.Rules.{rules}
 use Rattle.planner.proofs.entries.leftover.Goals as goal
 
 pub returns-in-At : goal.returns-in-At

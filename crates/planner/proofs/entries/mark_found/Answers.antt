@@ -4,13 +4,11 @@ use native.Mathlib.Omega.{arith}
 use mathlib.Core.Path.{subst}
 use Rattle.values.specs.declared.Found.{Found}
 use Rattle.planner.specs.Entries.{Below, mark_found_def}
-use borrow.Author.Rules.{rules}
 use Rattle.planner.proofs.entries.mark_found.Goals as goal
 
 pub overflow_add-result : goal.overflow_add-result
 overflow_add-result c =
-    let s = c in
-    let h = subst (λ (f : Found). Below (2 ^ 62) f) c.in-At.is s.requires in
+    let h = subst (λ (f : Found). Below (2 ^ 62) f) c.in-At.is c.requires in
     omega arith
 
 pub returns-in-At : goal.returns-in-At

@@ -2,7 +2,6 @@
 use Rattle.planner.specs.Entries.{mark_found_def, remove_step}
 use Rattle.planner.proofs.EntryPlans.{on-found}
 use mathlib.Core.Path.{◌∙◌}
-use borrow.Author.Rules.{rules}
 use Rattle.planner.proofs.entries.remove.Goals as goal
 
 pub returns-in-At : goal.returns-in-At

@@ -4,13 +4,11 @@ use Prim.Native.Nat.{◌^◌}
 use Rattle.values.specs.declared.Found.{Found}
 use Rattle.planner.specs.Entries.{Below, mark_found_def, retire_step}
 use Rattle.planner.proofs.EntryPlans.{standing-below}
-use borrow.Author.Rules.{rules}
 use Rattle.planner.proofs.entries.retire.Goals as goal
 
 pub mark_found-requires : goal.mark_found-requires
 mark_found-requires c =
-    let s = c in
-    subst (λ (f : Found). Below (2 ^ 62) f) (sym c.standing-old.ensures) (standing-below (2 ^ 62) s.args.places.added s.args.places.replacing s.requires.0 s.requires.1)
+    subst (λ (f : Found). Below (2 ^ 62) f) (sym c.standing-old.ensures) (standing-below (2 ^ 62) c.args.places.added c.args.places.replacing c.requires.0 c.requires.1)
 
 pub returns : goal.returns
 unfolding retire_step

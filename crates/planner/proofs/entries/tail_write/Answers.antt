@@ -1,7 +1,6 @@
 -- `planner::entries::tail_write` meets its contract: its operations in their order. Assumes nothing.
 use Rattle.planner.specs.Fronts.{begun_plan}
 use Rattle.planner.specs.Entries.{tail_plan}
-use borrow.Author.Rules.{rules}
 use Rattle.planner.proofs.entries.tail_write.Goals as goal
 
 pub returns : goal.returns

@@ -1,7 +1,6 @@
 -- `planner::format::wipe` meets its contract: its operations in their order. Assumes nothing.
 use Rattle.planner.specs.Fronts.{begun_plan}
 use Rattle.planner.specs.Format.{wipe_plan}
-use borrow.Author.Rules.{rules}
 use Rattle.planner.proofs.format.wipe.Goals as goal
 
 pub returns : goal.returns

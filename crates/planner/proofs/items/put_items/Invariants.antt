@@ -1,15 +1,12 @@
 -- `planner::items::put_items` meets its contract: what the items passed store is written, and the rest is still to come. Assumes nothing.
-use borrow.Author.Rules.{rules}
 use Prim.Native.Nat.{◌-◌, ◌≤◌}
-use native.Mathlib.Omega.{arith}
-use mathlib.Core.Path.{◌≡◌, refl, ◌∙◌}
+use mathlib.Core.Path.{◌≡◌}
 use lib.ListN.{length}
 use Rattle.model.specs.Compact.{joined}
-use Rattle.output.proofs.Writing.{Partly, partly_none, partly-next, partly-all}
+use Rattle.output.proofs.Writing.{Partly}
 use Rattle.profile.specs.Reader.{requests_in}
-use Rattle.profile.proofs.Listed.{settings-long}
 use Rattle.planner.specs.Asked.{stored_by}
-use Rattle.planner.proofs.Stored.{to_store, all-to-store, next-to-store, none-to-store, next-asked}
+use Rattle.planner.proofs.Stored.{to_store}
 use Rattle.planner.proofs.items.put_items.Given as goal
 
 abbrev pub invariant-loop-i : goal.invariant-loop-i

@@ -1,8 +1,7 @@
 -- `planner::joint::put_mode` meets its contract: the entry of PlatMode's value, or nothing. Assumes nothing.
-use borrow.Author.Rules.{rules}
 use borrow.Author.Tests.{ne_eqb}
 use native.Mathlib.Omega.{arith}
-use mathlib.Core.Path.{◌≡◌, refl, ap, ◌∙◌}
+use mathlib.Core.Path.{refl, ap, ◌∙◌}
 use lib.ListN.{length}
 use Rattle.model.specs.Compact.{joined_in}
 use Rattle.output.proofs.Writing.{wrote_none}
@@ -22,5 +21,4 @@ put_entry-requires c =
 
 pub returns : goal.returns
 returns c =
-    let s = c in
-    mode-wrote s.args.byte c.mode_name-name.ensures c.global_vendor-vendor.ensures refl c.cut-none.ensures (ne_eqb s.args.byte 0 c.if-byte-eq0.false) c.put_entry.ensures
+    mode-wrote c.args.byte c.mode_name-name.ensures c.global_vendor-vendor.ensures refl c.cut-none.ensures (ne_eqb c.args.byte 0 c.if-byte-eq0.false) c.put_entry.ensures

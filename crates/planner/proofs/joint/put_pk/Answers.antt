@@ -10,18 +10,16 @@ use Rattle.planner.proofs.joint.put_pk.Goals as goal
 
 pub put_entry-requires : goal.put_entry-requires
 put_entry-requires c =
-    let s = c in
-    let a = s.args in
-    let h = rw c.if-comes.true at s.requires.1 in
+    let a = c.args in
+    let h = rw c.if-comes.true at c.requires.1 in
     let k = pk-asked a.name.now a.vendor.now a.attributes a.stamp.now a.old.now a.own.now h in
     let st : length a.stamp.now ≡ 16 = search rules in
     let ve : length a.vendor.now ≡ 16 = search rules in
-    (omega (arith, s.requires.0), omega arith, k.0, omega arith, k.1, k.2)
+    (omega (arith, c.requires.0), omega arith, k.0, omega arith, k.1, k.2)
 
 pub returns-then-comes : goal.returns-then-comes
 returns-then-comes c =
-    let s = c in
-    let a = s.args in
+    let a = c.args in
     rw c.if-comes.true
     (pk-wrote a.name.now a.vendor.now a.attributes a.stamp.now a.old.now a.own.now c.put_entry.ensures)
 

@@ -7,20 +7,14 @@ use Rattle.planner.proofs.put.fold.Goals as goal
 
 pub put_after-n-requires : goal.put_after-n-requires
 put_after-n-requires c =
-    let s = c in
-    let ve : length s.args.vendor.now ≡ 16 = search rules in
-    fold-room s.requires.0 ve c.cut.ensures
+    let ve : length c.args.vendor.now ≡ 16 = search rules in
+    fold-room c.requires.0 ve c.cut.ensures
 
 pub compact_front-requires : goal.compact_front-requires
 compact_front-requires c =
-    let p = c in
-    let s = p in
-    let ve : length s.args.vendor.now ≡ 16 = search rules in
-    fold-asked s.requires.0 ve p.cut.ensures p.put_after-n.ensures.0 s.requires.2
+    let ve : length c.args.vendor.now ≡ 16 = search rules in
+    fold-asked c.requires.0 ve c.cut.ensures c.put_after-n.ensures.0 c.requires.2
 
 pub returns : goal.returns
 returns c =
-    let f = c in
-    let p = f in
-    let s = p in
-    fold-planned s.requires.0 p.put_after-n.ensures.1 p.cut.ensures p.put_after-n.ensures.0 s.requires.2 f.compact_front.ensures.1 s.requires.1 f.compact_front.ensures.0 c.accept.ensures
+    fold-planned c.requires.0 c.put_after-n.ensures.1 c.cut.ensures c.put_after-n.ensures.0 c.requires.2 c.compact_front.ensures.1 c.requires.1 c.compact_front.ensures.0 c.accept.ensures

@@ -9,22 +9,19 @@ use Rattle.planner.proofs.put.in_tail.Goals as goal
 
 pub put_entry-requires : goal.put_entry-requires
 put_entry-requires c =
-    let s = c in
-    let h = value-short _ s.requires.0.ready s.requires.0.room in
-    let l = length-append s.args.old.now s.args.own.now in
-    let st : length s.args.stamp.now ≡ 16 = search rules in
-    let ve : length s.args.vendor.now ≡ 16 = search rules in
+    let h = value-short _ c.requires.0.ready c.requires.0.room in
+    let l = length-append c.args.old.now c.args.own.now in
+    let st : length c.args.stamp.now ≡ 16 = search rules in
+    let ve : length c.args.vendor.now ≡ 16 = search rules in
     (omega arith, omega arith, omega arith, omega arith, omega arith, omega arith)
 
 pub tail_write-requires : goal.tail_write-requires
 tail_write-requires c =
-    let s = c in
-    let l = length-append s.args.old.now s.args.own.now in
-    let t = tail-asked s.requires.0 s.requires.1 in
+    let l = length-append c.args.old.now c.args.own.now in
+    let t = tail-asked c.requires.0 c.requires.1 in
     (t.0, t.1, omega (arith, t.2))
 
 pub returns : goal.returns
 returns c =
-    let s = c in
-    let ve : length s.args.vendor.now ≡ 16 = search rules in
-    tail-planned s.requires.0 s.requires.1 ve c.put_entry.ensures s.requires.2 (sym (length-append s.args.old.now s.args.own.now)) c.tail_write.ensures c.accept.ensures
+    let ve : length c.args.vendor.now ≡ 16 = search rules in
+    tail-planned c.requires.0 c.requires.1 ve c.put_entry.ensures c.requires.2 (sym (length-append c.args.old.now c.args.own.now)) c.tail_write.ensures c.accept.ensures

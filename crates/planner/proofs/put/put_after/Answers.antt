@@ -11,21 +11,17 @@ use Rattle.planner.proofs.put.put_after.Goals as goal
 
 pub put_entry-requires : goal.put_entry-requires
 put_entry-requires c =
-    let a = c in
-    let st : length a.args.stamp.now ≡ 16 = search rules in
-    let b = c in
-    let w = others-wrote a.args.region.now (keyed a.args.name.now a.args.vendor.now) a.requires.0 b.left_out-leave.ensures
-    (b.standing.ensures ∙ a.requires.1) b.put_values-next.ensures in
+    let st : length c.args.stamp.now ≡ 16 = search rules in
+    let w = others-wrote c.args.region.now (keyed c.args.name.now c.args.vendor.now) c.requires.0 c.left_out-leave.ensures
+    (c.standing.ensures ∙ c.requires.1) c.put_values-next.ensures in
     let k =
-    put-asked _ (valued a.args.name.now a.args.vendor.now a.args.attributes a.args.stamp.now (a.args.old.now ++ a.args.own.now)) _
-    w (a.requires.3, a.requires.4, a.requires.6) st a.requires.5 in
-    let l = length-append a.args.old.now a.args.own.now in
+    put-asked _ (valued c.args.name.now c.args.vendor.now c.args.attributes c.args.stamp.now (c.args.old.now ++ c.args.own.now)) _
+    w (c.requires.3, c.requires.4, c.requires.6) st c.requires.5 in
+    let l = length-append c.args.old.now c.args.own.now in
     (k.0, k.1, k.2, k.3, omega (arith, k.4), omega (arith, k.4))
 
 pub returns : goal.returns
 returns c =
-    let a = c in
-    let b = c in
-    let w = others-wrote a.args.region.now (keyed a.args.name.now a.args.vendor.now) a.requires.0 b.left_out-leave.ensures
-    (b.standing.ensures ∙ a.requires.1) b.put_values-next.ensures in
-    (put-wrote _ _ _ w c.put_entry.ensures, a.requires.5)
+    let w = others-wrote c.args.region.now (keyed c.args.name.now c.args.vendor.now) c.requires.0 c.left_out-leave.ensures
+    (c.standing.ensures ∙ c.requires.1) c.put_values-next.ensures in
+    (put-wrote _ _ _ w c.put_entry.ensures, c.requires.5)

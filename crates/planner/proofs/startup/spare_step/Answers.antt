@@ -3,17 +3,14 @@ use mathlib.Core.Path.{◌∙◌}
 use Rattle.model.specs.Image.{block}
 use Rattle.planner.specs.Compactions.{spare_step_def}
 use Rattle.planner.proofs.Stages.{blank-told}
-use borrow.Author.Rules.{rules}
 use Rattle.planner.proofs.startup.spare_step.Goals as goal
 
 pub returns-then-is_blank : goal.returns-then-is_blank
 unfolding spare_step_def block
 returns-then-is_blank c =
-    let s = c in
-    rw (blank-told s.args.image.now s.args.b s.requires.0 s.requires.1 s.requires.2 c.cut.ensures c.is_blank.ensures ∙ c.if-is_blank.true)
+    rw (blank-told c.args.image.now c.args.b c.requires.0 c.requires.1 c.requires.2 c.cut.ensures c.is_blank.ensures ∙ c.if-is_blank.true)
 
 pub returns : goal.returns
 unfolding spare_step_def block
 returns c =
-    let s = c in
-    rw (blank-told s.args.image.now s.args.b s.requires.0 s.requires.1 s.requires.2 c.cut.ensures c.is_blank.ensures ∙ c.if-is_blank.false)
+    rw (blank-told c.args.image.now c.args.b c.requires.0 c.requires.1 c.requires.2 c.cut.ensures c.is_blank.ensures ∙ c.if-is_blank.false)

@@ -1,7 +1,6 @@
 -- `planner::startup::work_left` meets its contract: erased where it is not idle, and then no record is used. Assumes nothing.
 use mathlib.Core.Path.{◌∙◌, sym}
 use Rattle.planner.specs.Compactions.{work_step_def}
-use borrow.Author.Rules.{rules}
 use Rattle.planner.proofs.startup.work_left.Goals as goal
 
 pub returns-then-is_idle : goal.returns-then-is_idle
