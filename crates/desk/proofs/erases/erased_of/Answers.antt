@@ -1,0 +1,6 @@
+
+use borrow.Author.Rules.{rules}
+use Rattle.desk.proofs.erases.erased_of.Goals as goal
+
+pub returns-in-Erase : goal.returns-in-Erase
+returns-in-Erase c = rw c.in-Erase.is c.least.ensures
