@@ -4,7 +4,7 @@
 use Prim.Native.Nat.{ℕ, zero, suc, ◌+◌, ◌-◌, ◌≤◌, ◌<◌, min}
 use native.Mathlib.Nat.{zero-add}
 use native.Mathlib.Omega.{arith}
-use mathlib.Core.Path.{◌≡◌, refl, sym, ap, ◌∙◌, subst}
+use mathlib.Core.Path.{◌≡◌, refl, sym, ap, ◌∙◌}
 use mathlib.Core.Bool.{Bool, true, false, cond, ◌&&◌, ◌||◌}
 use mathlib.Core.Logic.{◌≢◌}
 use mathlib.Core.List.{List, [], ◌∷◌, ◌++◌}
@@ -14,7 +14,7 @@ use borrow.Author.Tests.{eqb-true, eqb-false, leb-true, leb-false, le-leb, lt-le
 use Rattle.model.specs.declared.Context.{Context}
 use Rattle.model.specs.Lists.{any, among}
 use Rattle.model.specs.Stores.{Store, page, byte, erase, Write, stores, apply, apply_all, after, falls, fails, reach}
-use Rattle.model.specs.Set.{Plan, refuse, make}
+use Rattle.model.specs.Set.{Plan, make}
 use Rattle.model.specs.Answers.{done, stopped, refused, stores_of, dead_of, page_of, made_of, ended, outcome, image_after}
 use Rattle.model.proofs.Stores.{after-all}
 

@@ -1,7 +1,7 @@
 -- What a loop that stores needs of pages: bytes within one page are one store; a run up to a page end and a run from there on are the run of both; the number of stores
 -- depends on the number of bytes alone, and is no greater. By induction over the bytes. And the widths that there are, one by one.
 -- Assumes nothing.
-use Prim.Native.Nat.{ℕ, zero, suc, ◌+◌, ◌%◌, ◌≤◌, ◌<◌}
+use Prim.Native.Nat.{ℕ, suc, ◌+◌, ◌%◌, ◌≤◌, ◌<◌}
 use native.Mathlib.Nat.{add-zero, mod-add-mod, mod-eq_of_lt}
 use native.Mathlib.Numerals.{add-one}
 use native.Mathlib.Omega.{arith}

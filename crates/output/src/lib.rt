@@ -1,6 +1,7 @@
 // Text written into a lent buffer. A function is given the place of its first byte and gives back the place behind its last one. Bytes past the
 // buffer's end are counted and not stored: a last place beyond the buffer tells the caller how long the buffer should have been.
 #![tactic(auto)]
+
 ghost use Rattle.std.specs.Prelude.{◌≡◌, ◌+◌, ◌*◌, ◌-◌, ◌^◌, ◌<◌, ◌≤◌, min, [], ◌∷◌, length, replicate};
 ghost use Rattle.output.specs.Text.{Wrote, digit, hex_of, decimal_of};
 

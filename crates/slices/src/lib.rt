@@ -1,5 +1,6 @@
 // Byte slices: compared, cut, tested.
 #![tactic(auto)]
+
 ghost use Rattle.std.specs.Prelude.{◌≡◌, true, ◌&&◌, ◌+◌, ◌*◌, ◌-◌, ◌%◌, ◌<◌, ◌≤◌, ◌^◌, length, drop, get_or};
 ghost use Rattle.model.specs.Lists.{same, part, all_ff, u32_at};
 ghost use Rattle.model.specs.Name.{well_named};

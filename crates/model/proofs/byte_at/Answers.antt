@@ -1,7 +1,6 @@
 -- `model::byte_at` meets its contract: within the bytes it reads one, and past them the definition gives zero. Assumes nothing.
 use mathlib.Core.Path.{sym}
 use lib.ListN.{get_or-eq_default}
-use borrow.Author.Rules.{rules}
 use Rattle.model.proofs.byte_at.Goals as goal
 
 pub returns : goal.returns

@@ -1,5 +1,4 @@
 -- `model::put` meets its contract. The loop's invariant: the first `i` of the bytes, with zeros behind them, stand in the list. Assumes nothing.
-use Prim.Native.Nat.{◌-◌, ◌≤◌}
 use native.Mathlib.Numerals.{add-one}
 use native.Mathlib.Omega.{arith}
 use mathlib.Core.Path.{◌≡◌, refl, ap, ◌∙◌}

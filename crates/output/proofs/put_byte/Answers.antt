@@ -1,6 +1,5 @@
 -- `output::put_byte` meets its contract: past the end `set` does nothing, and neither does the code.
 -- Assumes nothing.
-use borrow.Author.Rules.{rules}
 use mathlib.Core.Path.{refl, sym}
 use lib.Seq.{set_out}
 use Rattle.output.proofs.put_byte.Goals as goal

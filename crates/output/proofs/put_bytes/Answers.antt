@@ -1,10 +1,9 @@
 -- `output::put_bytes` meets its contract: after i turns the text of the first i bytes is written, and those left at the end have no place.
 -- Assumes nothing.
-use Prim.Native.Nat.{ℕ, ◌+◌, ◌-◌, ◌≤◌}
+use Prim.Native.Nat.{ℕ, ◌+◌}
 use native.Mathlib.Omega.{arith}
 use mathlib.Core.Path.{◌≡◌, refl, ap, ◌∙◌}
-use lib.ListN.{length, take, get_or, length-set}
-use Rattle.output.specs.Text.{Wrote}
+use lib.ListN.{take, get_or, length-set}
 use Rattle.output.proofs.Writing.{wrote_as, wrote-byte, wrote-room}
 use borrow.Author.Rules.{rules}
 use Rattle.output.proofs.put_bytes.Goals as goal

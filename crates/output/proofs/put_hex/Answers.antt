@@ -1,11 +1,9 @@
 -- `output::put_hex` meets its contract: after i turns the text of the first i bytes is written.
 -- Assumes nothing.
-use Prim.Native.Nat.{◌+◌, ◌*◌, ◌-◌, ◌≤◌}
 use native.Mathlib.Omega.{arith}
-use mathlib.Core.Path.{◌≡◌, refl, ap, ◌∙◌}
-use lib.ListN.{length, take}
+use mathlib.Core.Path.{refl, ap, ◌∙◌}
 use lib.Seq.{take_all}
-use Rattle.output.specs.Text.{Wrote, hex_of}
+use Rattle.output.specs.Text.{hex_of}
 use Rattle.output.proofs.Writing.{wrote_none, wrote_as, wrote-hex}
 use borrow.Author.Rules.{rules}
 use Rattle.output.proofs.put_hex.Goals as goal

@@ -3,9 +3,8 @@
 use Prim.Native.Nat.{ℕ}
 use mathlib.Core.Path.{ap}
 use mathlib.Core.List.{[], ◌∷◌}
-use Rattle.output.specs.Text.{digit, hex_of}
+use Rattle.output.specs.Text.{hex_of}
 use Rattle.output.proofs.Writing.{wrote-append, wrote_as}
-use borrow.Author.Rules.{rules}
 use Rattle.output.proofs.put_hex_byte.Goals as goal
 
 pub returns : goal.returns

@@ -1,13 +1,9 @@
 -- `slices::are_blank` meets its contract. The loop's invariant: every byte of the four is FF if the bytes passed, joined by "and", are FF and every byte left is.
 -- Assumes nothing.
-use Prim.Native.Nat.{◌-◌, ◌≤◌}
+use Prim.Native.Nat.{◌≤◌}
 use native.Mathlib.Omega.{arith}
 use mathlib.Core.Path.{◌≡◌, refl, sym, ◌∙◌}
-use mathlib.Core.Bool.{◌&&◌}
-use lib.ListN.{length, drop, get_or}
-use lib.Dec.{eqb}
-use borrow.Author.Rules.{rules}
-use Rattle.model.specs.Lists.{all_ff}
+use lib.ListN.{length, get_or}
 use Rattle.slices.proofs.Blank.{blank-four, ended-four, joined-bound}
 use Rattle.slices.proofs.are_blank.Goals as goal
 

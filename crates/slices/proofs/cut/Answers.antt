@@ -5,7 +5,6 @@ use native.Mathlib.Nat.{add-sub_cancel_left}
 use mathlib.Core.Path.{sym, ap, ◌∙◌}
 use lib.ListN.{length, take, drop, length-drop, drop_of_length-le}
 use lib.Seq.{take-nil, take_all}
-use borrow.Author.Rules.{rules}
 use Rattle.slices.proofs.cut.Goals as goal
 
 pub returns-then-n-start : goal.returns-then-n-start

@@ -1,6 +1,5 @@
 -- `slices::eight_nonzero` meets its contract: it asks both windows. Assumes nothing.
 use Rattle.model.proofs.Tests.{and_split}
-use borrow.Author.Rules.{rules}
 use Rattle.slices.proofs.eight_nonzero.Goals as goal
 
 pub returns : goal.returns

@@ -1,11 +1,10 @@
 -- `slices::equal` meets its contract. The loop's invariant: the lists agree from `i` on. Assumes nothing.
-use Prim.Native.Nat.{ℕ, ◌-◌, ◌≤◌, ◌<◌}
+use Prim.Native.Nat.{ℕ, ◌-◌, ◌<◌}
 use native.Mathlib.Omega.{arith}
-use mathlib.Core.Path.{◌≡◌, sym, ◌∙◌}
+use mathlib.Core.Path.{sym, ◌∙◌}
 use lib.ListN.{length, get_or}
-use Rattle.slices.specs.Agree.{Agree, u64_at}
+use Rattle.slices.specs.Agree.{u64_at}
 use Rattle.slices.proofs.Agreed.{differ, agree-end, agree-eight}
-use borrow.Author.Rules.{rules}
 use Rattle.slices.proofs.equal.Goals as goal
 
 pub returns-then-a-b : goal.returns-then-a-b

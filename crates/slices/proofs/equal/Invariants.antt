@@ -1,11 +1,7 @@
 -- `slices::equal` meets its contract. The loop's invariant: the lists agree from `i` on. Assumes nothing.
-use Prim.Native.Nat.{ℕ, ◌-◌, ◌≤◌, ◌<◌}
-use native.Mathlib.Omega.{arith}
-use mathlib.Core.Path.{◌≡◌, sym, ◌∙◌}
-use lib.ListN.{length, get_or}
-use Rattle.slices.specs.Agree.{Agree, u64_at}
-use Rattle.slices.proofs.Agreed.{differ, agree-end, agree-eight}
-use borrow.Author.Rules.{rules}
+use Prim.Native.Nat.{◌≤◌}
+use lib.ListN.{length}
+use Rattle.slices.specs.Agree.{Agree}
 use Rattle.slices.proofs.equal.Given as goal
 
 abbrev pub invariant-loop-i : goal.invariant-loop-i

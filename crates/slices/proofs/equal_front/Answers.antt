@@ -1,11 +1,9 @@
 -- `slices::equal_front` meets its contract. The loop's invariant: the lists agree from `i` on. Assumes nothing.
-use Prim.Native.Nat.{◌-◌, ◌≤◌}
+use Prim.Native.Nat.{◌-◌}
 use native.Mathlib.Omega.{arith}
 use mathlib.Core.Path.{sym}
-use lib.ListN.{length, get_or}
-use Rattle.slices.specs.Agree.{Agree}
+use lib.ListN.{get_or}
 use Rattle.slices.proofs.Agreed.{differ, agree-one, agree-whole}
-use borrow.Author.Rules.{rules}
 use Rattle.slices.proofs.equal_front.Goals as goal
 
 pub returns-then-a-i : goal.returns-then-a-i

@@ -1,11 +1,7 @@
 -- `slices::equal_front` meets its contract. The loop's invariant: the lists agree from `i` on. Assumes nothing.
-use Prim.Native.Nat.{◌-◌, ◌≤◌}
-use native.Mathlib.Omega.{arith}
-use mathlib.Core.Path.{sym}
-use lib.ListN.{length, get_or}
+use Prim.Native.Nat.{◌≤◌}
+use lib.ListN.{length}
 use Rattle.slices.specs.Agree.{Agree}
-use Rattle.slices.proofs.Agreed.{differ, agree-one, agree-whole}
-use borrow.Author.Rules.{rules}
 use Rattle.slices.proofs.equal_front.Given as goal
 
 abbrev pub invariant-loop-i : goal.invariant-loop-i

@@ -1,5 +1,4 @@
 -- `slices::four_nonzero` meets its contract: where each of the four numbers is not 0, no character is zero. Assumes nothing.
-use borrow.Author.Rules.{rules}
 use Rattle.slices.proofs.Windows.{window}
 use Rattle.slices.proofs.four_nonzero.Goals as goal
 

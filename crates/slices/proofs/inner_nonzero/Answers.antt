@@ -1,11 +1,9 @@
 -- `slices::inner_nonzero` meets its contract. The loop's invariant: no character from the fifth up to `i` is zero. Assumes nothing.
-use Prim.Native.Nat.{◌+◌, ◌-◌, ◌%◌, ◌≤◌}
+use Prim.Native.Nat.{◌+◌, ◌-◌}
 use native.Mathlib.Omega.{arith}
-use mathlib.Core.Path.{◌≡◌, sym}
+use mathlib.Core.Path.{sym}
 use mathlib.Core.Bool.{true≢false}
 use lib.ListN.{length}
-use borrow.Author.Rules.{rules}
-use Rattle.slices.specs.Characters.{NonZero}
 use Rattle.slices.proofs.Windows.{nonzero-none, nonzero-join, nonzero-less}
 use Rattle.slices.proofs.inner_nonzero.Goals as goal
 

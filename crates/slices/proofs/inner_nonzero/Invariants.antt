@@ -1,12 +1,8 @@
 -- `slices::inner_nonzero` meets its contract. The loop's invariant: no character from the fifth up to `i` is zero. Assumes nothing.
-use Prim.Native.Nat.{◌+◌, ◌-◌, ◌%◌, ◌≤◌}
-use native.Mathlib.Omega.{arith}
-use mathlib.Core.Path.{◌≡◌, sym}
-use mathlib.Core.Bool.{true≢false}
+use Prim.Native.Nat.{◌-◌, ◌%◌, ◌≤◌}
+use mathlib.Core.Path.{◌≡◌}
 use lib.ListN.{length}
-use borrow.Author.Rules.{rules}
 use Rattle.slices.specs.Characters.{NonZero}
-use Rattle.slices.proofs.Windows.{nonzero-none, nonzero-join, nonzero-less}
 use Rattle.slices.proofs.inner_nonzero.Given as goal
 
 abbrev pub invariant-loop-i : goal.invariant-loop-i

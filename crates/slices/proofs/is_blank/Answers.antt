@@ -2,11 +2,10 @@
 -- Assumes nothing.
 use Prim.Native.Nat.{◌*◌, ◌/◌}
 use native.Mathlib.Omega.{arith}
-use mathlib.Core.Path.{◌≡◌, sym, ap, ◌∙◌}
+use mathlib.Core.Path.{sym, ap, ◌∙◌}
 use mathlib.Core.Bool.{Bool, ◌&&◌}
 use lib.ListN.{length, drop}
-use borrow.Author.Rules.{rules}
-use Rattle.model.specs.Lists.{all_ff, part}
+use Rattle.model.specs.Lists.{all_ff}
 use Rattle.model.proofs.Encode.{length_part}
 use Rattle.slices.proofs.Blank.{blank-cuts}
 use Rattle.slices.proofs.is_blank.Goals as goal

@@ -1,15 +1,11 @@
 -- `slices::is_blank_rest` meets its contract. The loop's invariant: every byte is FF if the bytes passed, joined by "and", are FF and every byte left is.
 -- Assumes nothing.
 use Prim.Native.Nat.{◌-◌, ◌≤◌}
-use native.Mathlib.Omega.{arith}
-use mathlib.Core.Path.{◌≡◌, refl, sym, ◌∙◌}
+use mathlib.Core.Path.{◌≡◌}
 use mathlib.Core.Bool.{◌&&◌}
-use lib.ListN.{length, drop, get_or}
-use lib.Bits.{and_le_l}
+use lib.ListN.{length, drop}
 use lib.Dec.{eqb}
-use borrow.Author.Rules.{rules}
 use Rattle.model.specs.Lists.{all_ff}
-use Rattle.slices.proofs.Blank.{blank-next, blank-end}
 use Rattle.slices.proofs.is_blank_rest.Given as goal
 
 abbrev pub invariant-loop-i : goal.invariant-loop-i

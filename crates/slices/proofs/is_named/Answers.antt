@@ -1,12 +1,11 @@
 -- `slices::is_named` meets its contract. The loop's invariant: the name is zero-ended just if its characters from `i` on are. Assumes nothing.
-use Prim.Native.Nat.{◌+◌, ◌-◌, ◌≤◌}
+use Prim.Native.Nat.{◌+◌}
 use native.Mathlib.Omega.{arith}
 use mathlib.Core.Path.{◌≡◌, sym, ◌∙◌}
-use mathlib.Core.Logic.{⊎_elim}
 use mathlib.Core.Bool.{false}
-use lib.ListN.{length, drop, get_or}
+use lib.ListN.{get_or}
 use borrow.Author.Tests.{eq-eqb}
-use Rattle.model.specs.Name.{zero_character, zero_ended, well_named}
+use Rattle.model.specs.Name.{zero_character}
 use Rattle.slices.proofs.Ended.{
   named-short,
   named-long,
@@ -46,7 +45,7 @@ loop-i-preserved c =
     let i = l.loop-i.i in
     let other : zero_character (get_or s i 0) (get_or s (i + 1) 0) ≡ false =
     elim c.if-name-i-eq0.branch [
-      then-name-i-eq0+else-name-i-eq0-2 w ↦ high_byte (get_or s i 0) (get_or s (i + 1) 0) w.if-name-i-eq0-2.false
+      | then-name-i-eq0+else-name-i-eq0-2 w ↦ high_byte (get_or s i 0) (get_or s (i + 1) 0) w.if-name-i-eq0-2.false
       | else-name-i-eq0 w ↦ low_byte (get_or s i 0) (get_or s (i + 1) 0) w.if-name-i-eq0.false
     ]
     in

@@ -1,11 +1,9 @@
 -- `slices::is_zero_ended` meets its contract: the windows that it asks cover the name up to its last character, which is zero. Assumes nothing.
-use Prim.Native.Nat.{◌+◌, ◌-◌, ◌≤◌}
+use Prim.Native.Nat.{◌+◌, ◌-◌}
 use native.Mathlib.Omega.{arith}
-use mathlib.Core.Path.{◌≡◌, refl, sym, ◌∙◌}
+use mathlib.Core.Path.{refl, sym, ◌∙◌}
 use mathlib.Core.Bool.{true≢false}
 use lib.ListN.{length, get_or}
-use borrow.Author.Rules.{rules}
-use Rattle.slices.specs.Characters.{NonZero}
 use Rattle.slices.proofs.Windows.{number-zero, nonzero-join, nonzero-less, well-named}
 use Rattle.slices.proofs.is_zero_ended.Goals as goal
 

@@ -1,12 +1,8 @@
 -- `slices::short_nonzero` meets its contract. The loop's invariant: no character up to `i` is zero. Assumes nothing.
-use Prim.Native.Nat.{◌+◌, ◌-◌, ◌%◌, ◌≤◌}
-use native.Mathlib.Omega.{arith}
-use mathlib.Core.Path.{◌≡◌, sym, ◌∙◌}
-use mathlib.Core.Bool.{true≢false}
-use lib.ListN.{length, get_or}
-use borrow.Author.Rules.{rules}
+use Prim.Native.Nat.{◌-◌, ◌%◌, ◌≤◌}
+use mathlib.Core.Path.{◌≡◌}
+use lib.ListN.{length}
 use Rattle.slices.specs.Characters.{NonZero}
-use Rattle.slices.proofs.Windows.{number-nonzero, nonzero-none, nonzero-join, nonzero-less, nonzero-one}
 use Rattle.slices.proofs.short_nonzero.Given as goal
 
 abbrev pub invariant-loop-i : goal.invariant-loop-i

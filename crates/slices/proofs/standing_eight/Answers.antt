@@ -1,6 +1,5 @@
 -- `slices::standing_eight` meets its contract. Assumes nothing.
 use Rattle.slices.specs.Agree.{u64_at}
-use borrow.Author.Rules.{rules}
 use Rattle.slices.proofs.standing_eight.Goals as goal
 
 pub returns : goal.returns

@@ -15,4 +15,4 @@ returns-in-2 c = (c.cut_after.ensures.0 ∙ kind_2 _ _ c.in-2.is, c.cut_after.en
 
 pub returns-in_default : goal.returns-in_default
 returns-in_default c =
-    (kind-other _ _ _ c.in_default.not-0 c.in_default.not-1 c.in_default.not-2, tt)
+    (search (kind-other, rules), tt)

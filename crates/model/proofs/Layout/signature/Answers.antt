@@ -1,6 +1,5 @@
 -- `Layout::signature` meets its contract: by whether the form has a stamp. Assumes nothing.
 use mathlib.Core.Path.{sym, ◌∙◌}
-use borrow.Author.Rules.{rules}
 use Rattle.model.specs.Layout.{signature, plain_signature}
 use Rattle.model.proofs.Layout.signature.Goals as goal
 

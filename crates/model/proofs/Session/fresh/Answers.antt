@@ -1,5 +1,4 @@
 -- `model::Session::fresh` meets its contract: each field is made by a function that gives it as the definition does. Assumes nothing.
-use borrow.Author.Rules.{rules}
 use Rattle.model.specs.Session.{fresh_session}
 use Rattle.model.proofs.Session.fresh.Goals as goal
 

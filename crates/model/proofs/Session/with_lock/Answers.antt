@@ -4,7 +4,6 @@ use Prim.Native.Nat.{◌*◌, ◌≤◌, ◌<◌}
 use native.Mathlib.Omega.{arith}
 use mathlib.Core.Path.{◌≡◌, sym}
 use lib.ListN.{length}
-use borrow.Author.Rules.{rules}
 use Rattle.model.specs.Name.{Key}
 use Rattle.model.specs.Session.{with_lock_def}
 use Rattle.model.proofs.Locks.{no_place, too_long, lock-fits, place-laid}

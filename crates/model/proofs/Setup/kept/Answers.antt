@@ -1,5 +1,4 @@
 -- `model::Setup::kept` meets its contract: each field is made by a function that gives it as the definition does. Assumes nothing.
-use borrow.Author.Rules.{rules}
 use Rattle.model.specs.Session.{kept}
 use Rattle.model.proofs.Setup.kept.Goals as goal
 
