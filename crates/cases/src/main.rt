@@ -41,7 +41,7 @@ fn run_file(rt: &(impl Files + Print + Eprint), path: &[u8]) {
     print::end(rt);
     let mut bytes = [0; 65536];
     let n = match open(rt, path) {
-        Ok(mut file) => streams::read_full(&mut file, &mut bytes),
+        Ok(file) => streams::read_full(file, &mut bytes),
         Err(e) => {
             let name = str::from_utf8(path).unwrap_or("a path");
             let _ = eprintln!(rt; "{name}: {e}");
