@@ -1,5 +1,5 @@
 -- `cases::play::play_steps` ends: every step takes a byte of the script or more. Assumes nothing.
-use Rattle.std.proofs.Common.{◌≡◌, ◌-◌, ◌<◌, ◌^◌, length}
+use Rattle.std.proofs.Common.{◌≡◌, ◌-◌, length}
 use Rattle.cases.proofs.play.play_steps.Given as goal
 
 abbrev pub invariant-loop-at : goal.invariant-loop-at
