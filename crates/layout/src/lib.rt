@@ -1,5 +1,6 @@
 // The readers of an entry, in every stored form; the fixed byte strings of the format stand in `fixed`.
 #![tactic(auto)]
+
 ghost use Rattle.std.specs.Prelude.{◌≡◌, false, ◌++◌, ◌+◌, ◌<◌, ◌^◌, get_or};
 ghost use Rattle.model.specs.Lists.{u16_at_def, u32_at};
 ghost use Rattle.model.specs.Layout.{header_length};

@@ -1,12 +1,11 @@
 -- `layout::data_of` meets its contract: it cuts the data out of the entry's own part.
 -- Assumes nothing.
 use Prim.Native.Nat.{ℕ, ◌+◌}
-use mathlib.Core.Path.{ap, ◌∙◌, sym}
+use mathlib.Core.Path.{ap, ◌∙◌}
 use borrow.Author.Tests.{eq-eqb, ne_eqb}
 use Rattle.model.specs.Lists.{part}
 use Rattle.model.specs.Walk.{placed}
 use Rattle.layout.specs.Head.{data_in}
-use borrow.Author.Rules.{rules}
 use Rattle.layout.proofs.data_of.Goals as goal
 
 pub returns-then-e-eq255 : goal.returns-then-e-eq255

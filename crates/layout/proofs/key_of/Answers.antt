@@ -1,7 +1,6 @@
 -- `layout::key_of` meets its contract: GUID and name are one part of the bytes. Assumes nothing.
 use Prim.Native.Nat.{ℕ, ◌+◌}
 use mathlib.Core.Path.{ap, ◌∙◌}
-use borrow.Author.Rules.{rules}
 use Rattle.model.specs.Lists.{part}
 use Rattle.layout.proofs.Named.{unnamed-key, named-key}
 use Rattle.layout.proofs.key_of.Goals as goal

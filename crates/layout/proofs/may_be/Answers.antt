@@ -8,7 +8,6 @@ use lib.ListN.{length}
 use lib.Dec.{eqb}
 use borrow.Author.Tests.{eq-eqb}
 use Rattle.slices.specs.Agree.{four_at}
-use borrow.Author.Rules.{rules}
 use Rattle.layout.proofs.Named.{unlike, may-short, may-front, may-not}
 use Rattle.layout.proofs.may_be.Goals as goal
 

@@ -1,13 +1,12 @@
 -- `layout::read_head` meets its contract: each return is reached by just the tests that `read_header_in` makes, and the fields are read at the form's offsets.
 -- Assumes nothing.
 use native.Mathlib.Omega.{arith}
-use mathlib.Core.Path.{sym, ap, ◌∙◌}
+use mathlib.Core.Path.{sym, ◌∙◌}
 use lib.ListN.{length}
 use borrow.Author.Tests.{le-leb, lt-leb, eq-eqb, ne_eqb}
 use Rattle.model.specs.Layout.{header_length}
 use Rattle.model.specs.Entry.{header_fields_in, read_header_in}
 use Rattle.layout.specs.Head.{head_in}
-use borrow.Author.Rules.{rules}
 use Rattle.layout.proofs.read_head.Goals as goal
 
 pub returns-then-s-header : goal.returns-then-s-header

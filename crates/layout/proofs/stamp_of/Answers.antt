@@ -1,5 +1,4 @@
 -- `layout::stamp_of` meets its contract: it cuts out what the definition does. Assumes nothing.
-use borrow.Author.Rules.{rules}
 use Rattle.model.specs.Entry.{header_fields_in}
 use Rattle.layout.proofs.stamp_of.Goals as goal
 

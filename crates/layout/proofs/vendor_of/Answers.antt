@@ -4,7 +4,6 @@ use Prim.Native.Nat.{ℕ}
 use mathlib.Core.Path.{ap, ◌∙◌}
 use Rattle.model.specs.Lists.{part}
 use Rattle.model.specs.Entry.{header_fields_in}
-use borrow.Author.Rules.{rules}
 use Rattle.layout.proofs.vendor_of.Goals as goal
 
 pub returns : goal.returns

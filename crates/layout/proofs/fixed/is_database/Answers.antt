@@ -3,7 +3,6 @@ use mathlib.Core.Path.{sym, ap, ◌∙◌}
 use Rattle.model.specs.Lists.{same}
 use Rattle.model.specs.Request.{keydb, keydbx, keydbt, is_database_def}
 use Rattle.layout.proofs.Keys.{one-vendor, other-vendor}
-use borrow.Author.Rules.{rules}
 use Rattle.layout.proofs.fixed.is_database.Goals as goal
 
 pub returns-then-equal : goal.returns-then-equal

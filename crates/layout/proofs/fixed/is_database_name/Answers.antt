@@ -1,7 +1,6 @@
 -- `layout::fixed::is_database_name` meets its contract: the first name that is the same decides. Assumes nothing.
 use mathlib.Core.Path.{sym, ap, ◌∙◌}
 use Rattle.model.specs.Lists.{same}
-use borrow.Author.Rules.{rules}
 use Rattle.layout.proofs.fixed.is_database_name.Goals as goal
 
 pub returns-then-equal : goal.returns-then-equal

@@ -1,7 +1,6 @@
 -- `layout::fixed::is_digit_at` meets its contract: where the high byte is zero the low one decides. Assumes nothing.
 use mathlib.Core.Path.{sym, ◌∙◌}
 use Rattle.layout.proofs.Records.{digit-low-byte, digit-high-byte}
-use borrow.Author.Rules.{rules}
 use Rattle.layout.proofs.fixed.is_digit_at.Goals as goal
 
 pub returns-then-name-at-eq0 : goal.returns-then-name-at-eq0

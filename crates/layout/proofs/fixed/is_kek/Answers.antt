@@ -1,6 +1,5 @@
 -- `layout::fixed::is_kek` meets its contract: name and vendor compared are those of the definition. Assumes nothing.
 use Rattle.model.specs.Request.{key_kek}
-use borrow.Author.Rules.{rules}
 use Rattle.layout.proofs.fixed.is_kek.Goals as goal
 
 pub returns : goal.returns

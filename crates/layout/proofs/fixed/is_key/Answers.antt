@@ -1,5 +1,4 @@
 -- `layout::fixed::is_key` meets its contract: the vendors decide where the names are the same. Assumes nothing.
-use borrow.Author.Rules.{rules}
 use Rattle.layout.proofs.fixed.is_key.Goals as goal
 
 pub returns-then-equal : goal.returns-then-equal

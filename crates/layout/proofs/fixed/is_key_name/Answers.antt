@@ -1,7 +1,6 @@
 -- `layout::fixed::is_key_name` meets its contract: PK, KEK and the databases are asked in turn. Assumes nothing.
 use mathlib.Core.Path.{sym, ◌∙◌}
 use Rattle.model.specs.Request.{is_key_name_def}
-use borrow.Author.Rules.{rules}
 use Rattle.layout.proofs.fixed.is_key_name.Goals as goal
 
 pub returns-then-is_pk : goal.returns-then-is_pk

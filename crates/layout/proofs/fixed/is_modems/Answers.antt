@@ -1,7 +1,6 @@
 -- `layout::fixed::is_modems` meets its contract: under another GUID no name is the modem's; under it a key name, PlatMode and a record's are not. Assumes nothing.
 use mathlib.Core.Path.{sym, ◌∙◌}
 use Rattle.layout.proofs.Owners.{modem-elsewhere, modem-key, modem-mode, modem-record}
-use borrow.Author.Rules.{rules}
 use Rattle.layout.proofs.fixed.is_modems.Goals as goal
 
 pub returns-then-not-equal : goal.returns-then-not-equal

@@ -2,7 +2,6 @@
 use mathlib.Core.Path.{ap}
 use mathlib.Core.Bool.{not}
 use Rattle.model.specs.Sides.{owns}
-use borrow.Author.Rules.{rules}
 use Rattle.layout.proofs.fixed.is_own.Goals as goal
 
 pub returns-then-modem : goal.returns-then-modem

@@ -1,7 +1,6 @@
 -- `layout::fixed::is_record_form` meets its contract: the digits decide where the front is right. Assumes nothing.
 use mathlib.Core.Path.{sym, ap₂, ◌∙◌}
 use Rattle.model.specs.Lists.{same}
-use borrow.Author.Rules.{rules}
 use Rattle.layout.proofs.fixed.is_record_form.Goals as goal
 
 pub returns-then-equal : goal.returns-then-equal

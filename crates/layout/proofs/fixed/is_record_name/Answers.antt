@@ -4,7 +4,6 @@ use mathlib.Core.Bool.{true, false}
 use Rattle.model.specs.Lists.{same}
 use Rattle.model.specs.Name.{keyed}
 use Rattle.layout.proofs.Records.{record-length, record-form}
-use borrow.Author.Rules.{rules}
 use Rattle.layout.proofs.fixed.is_record_name.Goals as goal
 
 pub returns-then-name-ne-RECORD_NAME : goal.returns-then-name-ne-RECORD_NAME

@@ -3,7 +3,6 @@ use mathlib.Core.Path.{sym, ◌∙◌}
 use lib.ListN.{get_or}
 use borrow.Author.Tests.{eq-eqb, ne_eqb}
 use Rattle.layout.proofs.Records.{digits-bytes}
-use borrow.Author.Rules.{rules}
 use Rattle.layout.proofs.fixed.is_record_number.Goals as goal
 
 pub returns-then-name-eq0 : goal.returns-then-name-eq0

@@ -3,16 +3,14 @@
 -- Assumes nothing.
 use Prim.Native.Nat.{ℕ, ◌/◌, ◌%◌}
 use native.Mathlib.Omega.{arith}
-use mathlib.Core.Path.{◌≡◌, refl, ap, ◌∙◌}
+use mathlib.Core.Path.{◌≡◌, refl, ◌∙◌}
 use mathlib.Core.Bool.{Bool, true, false, cond}
 use mathlib.Core.List.{List, [], ◌∷◌, ◌++◌}
 use lib.ListN.{get_or, replicate}
 use Rattle.model.specs.Lists.{bytes32}
-use Rattle.model.specs.declared.Layout.{Layout}
-use Rattle.model.specs.Layout.{signature, plain_signature, signature_of, is_stamped_def}
+use Rattle.model.specs.Layout.{signature, plain_signature, is_stamped_def}
 use Rattle.model.specs.Image.{region_header_in}
 use Rattle.layout.proofs.Bytes.{second-byte, fourth-byte}
-use borrow.Author.Rules.{rules}
 use Rattle.layout.proofs.fixed.region_header.Goals as goal
 
 abbrev spelt : List ℕ → List ℕ → List ℕ

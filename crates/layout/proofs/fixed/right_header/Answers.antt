@@ -2,7 +2,6 @@
 use mathlib.Core.Path.{ap₂, ◌∙◌}
 use Rattle.model.specs.Lists.{same}
 use Rattle.model.specs.Region.{right_header_in}
-use borrow.Author.Rules.{rules}
 use Rattle.layout.proofs.fixed.right_header.Goals as goal
 
 pub returns : goal.returns
