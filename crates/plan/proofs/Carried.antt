@@ -1,15 +1,13 @@
 -- What the executor's loop goes by: of the call's list the first stores are made, and what is left is the rest of one operation and those behind it.
 -- Assumes nothing.
-use Prim.Native.Nat.{ℕ, zero, suc, ◌+◌, ◌-◌, ◌≤◌, ◌<◌, min}
-use native.Mathlib.Nat.{add-zero, zero-add}
+use Prim.Native.Nat.{ℕ, zero, suc, ◌+◌, ◌≤◌, ◌<◌, min}
 use native.Mathlib.Numerals.{add-one}
 use native.Mathlib.Omega.{arith}
 use mathlib.Core.Path.{◌≡◌, refl, sym, ap, ◌∙◌, subst}
-use mathlib.Core.Bool.{true}
-use mathlib.Core.List.{List, [], ◌∷◌, ◌++◌, append_assoc, append-nil}
-use lib.ListN.{length, get_or, take, drop, length-append, length-drop, drop_of_length-le}
+use mathlib.Core.List.{List, [], ◌∷◌, ◌++◌, append_assoc}
+use lib.ListN.{length, drop, length-append, length-drop, drop_of_length-le}
 use lib.Seq.{drop-drop, drop-append_seam}
-use Rattle.model.specs.Stores.{Store, stores, apply, apply_all, after, fails, reach}
+use Rattle.model.specs.Stores.{Store, stores, apply_all, after, fails, reach}
 use Rattle.model.specs.Answers.{Outcome, done, stopped, refused, ended}
 use Rattle.model.proofs.Stores.{apply_all-append}
 use Rattle.model.proofs.Failing.{reach_few, after_more, reach-more, reach_here, ended-done, ended-stopped, ended-worn}

@@ -17,7 +17,7 @@ use Rattle.plan.specs.declared.Judged.TheVariants.{Accepted, Refused}
 use Rattle.plan.specs.declared.Planned.{Planned}
 use Rattle.plan.specs.declared.HostOp.{HostOp}
 use Rattle.plan.specs.declared.HostPlan.{HostPlan}
-use Rattle.plan.specs.Plan.{op, stores_of_step, expand}
+use Rattle.plan.specs.Plan.{stores_of_step, expand}
 use Rattle.plan.specs.Planned.{nothings, up_to, on_judged, planned_as}
 use Rattle.plan.specs.Told.{header_stores, stores_of_numbers, expand_numbers, no_operations_def, refusal_of, Told}
 use Rattle.plan.specs.Numbers.{operation_of, operation_at_def, operations_of, judged_numbers, in_numbers_def}

@@ -1,9 +1,9 @@
 -- The stores of operations: a list's are its parts' in turn, and each operation makes as many as it says, part by part.
 -- Assumes nothing.
-use Prim.Native.Nat.{ℕ, zero, suc, ◌+◌, ◌-◌, ◌%◌, ◌≤◌, ◌<◌, min}
-use native.Mathlib.Nat.{add-zero, zero-add, sub-zero, mod-lt, mod-add-mod, mod_self}
+use Prim.Native.Nat.{ℕ, zero, suc, ◌+◌, ◌-◌, ◌%◌, ◌≤◌, ◌<◌}
+use native.Mathlib.Nat.{add-zero, sub-zero, mod-add-mod, mod_self}
 use native.Mathlib.Omega.{arith}
-use mathlib.Core.Path.{◌≡◌, refl, sym, ap, ap₂, ◌∙◌, subst}
+use mathlib.Core.Path.{◌≡◌, refl, sym, ap, ap₂, ◌∙◌}
 use mathlib.Core.Logic.{◌≢◌}
 use mathlib.Core.Bool.{Bool, true, false, cond}
 use mathlib.Core.List.{List, [], ◌∷◌, ◌++◌, append_assoc, append-nil}
@@ -14,8 +14,8 @@ use borrow.Author.Tests.{ltb-true, ltb-false, lt-ltb, le-ltb, ne_eqb, eqb-true, 
 use Rattle.model.specs.Lists.{part}
 use Rattle.model.specs.Layout.{state_at}
 use Rattle.model.specs.Entry.{header_size_def}
-use Rattle.model.specs.Stores.{Store, page, byte, erase, Write, header, clear, pages, bytewise, stores, stores_one_def, apply, apply_all, after, run, mark, erases}
-use Rattle.model.proofs.Stores.{apply_all-append, stores-append, stores_one, stores_run, stores-mark, pages-bytewise, pages-first}
+use Rattle.model.specs.Stores.{Store, page, erase, Write, pages, bytewise, stores, stores_one_def, apply_all, after, erases}
+use Rattle.model.proofs.Stores.{stores-append, stores_run, stores-mark, pages-bytewise, pages-first}
 use Rattle.model.proofs.Pages.{pages-page, pages-append}
 use Rattle.plan.specs.declared.Step.{Step}
 use Rattle.plan.specs.declared.Step.TheVariants.{Nothing, Mark, Erase, Program, Header}

@@ -1,5 +1,5 @@
 -- What was planned for a call, as the definitions have it: a refusal, or its stores up to the deciding one and on from there.
-use Rattle.std.specs.Prelude.{ℕ, suc, ◌≡◌, Bool, true, cond, List, [], ◌∷◌, get_or, take, drop, replicate, eqb, ltb}
+use Rattle.std.specs.Prelude.{ℕ, suc, ◌≡◌, Bool, true, cond, List, get_or, take, drop, replicate, eqb, ltb}
 use Rattle.model.specs.Lists.{is_empty}
 use Rattle.model.specs.declared.Rule.{Rule}
 use Rattle.model.specs.Set as set

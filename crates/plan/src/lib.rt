@@ -1,5 +1,6 @@
 // The operations of a call on the image, as data: a planner makes them from the image lent shared, the executor of `flash` carries them out.
 #![tactic(auto)]
+
 ghost use Rattle.std.specs.Prelude.{◌≡◌};
 ghost use Rattle.plan.specs.Planned.{accepted, refused, nothings};
 ghost use Rattle.plan.specs.Told.{no_operations_def};

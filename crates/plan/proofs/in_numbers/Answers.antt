@@ -1,6 +1,5 @@
 -- `plan::in_numbers` meets its contract, by how the call was judged. Assumes nothing.
 use Rattle.plan.proofs.InNumbers.{accepted-numbers, refused-numbers}
-use borrow.Author.Rules.{rules}
 use Rattle.plan.proofs.in_numbers.Goals as goal
 
 pub returns-in-Accepted : goal.returns-in-Accepted

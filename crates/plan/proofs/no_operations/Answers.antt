@@ -2,7 +2,6 @@
 use mathlib.Core.Path.{ap, ◌∙◌}
 use Rattle.plan.specs.Numbers.{operations_of}
 use Rattle.plan.proofs.InNumbers.{none_at_all}
-use borrow.Author.Rules.{rules}
 use Rattle.plan.proofs.no_operations.Goals as goal
 
 pub returns : goal.returns

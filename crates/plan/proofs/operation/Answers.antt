@@ -1,5 +1,4 @@
 -- `plan::operation` meets its contract, by the cases of the operation. Assumes nothing.
-use borrow.Author.Rules.{rules}
 use Rattle.plan.proofs.operation.Goals as goal
 
 pub returns-in-Nothing : goal.returns-in-Nothing

@@ -1,12 +1,11 @@
 -- `plan::operation_at` meets its contract. Assumes nothing.
 use native.Mathlib.Omega.{arith}
 use mathlib.Core.Path.{◌≡◌, sym, ap}
-use lib.ListN.{length, get_or, get_or-eq_default}
+use lib.ListN.{length, get_or-eq_default}
 use Rattle.plan.specs.declared.Op.{Op}
 use Rattle.plan.specs.declared.Step.TheVariants.{Nothing}
 use Rattle.plan.specs.Plan.{op}
 use Rattle.plan.specs.Numbers.{operation_of}
-use borrow.Author.Rules.{rules}
 use Rattle.plan.proofs.operation_at.Goals as goal
 
 pub returns : goal.returns

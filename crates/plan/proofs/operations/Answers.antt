@@ -2,7 +2,6 @@
 use mathlib.Core.Path.{◌≡◌}
 use lib.ListN.{length}
 use Rattle.plan.proofs.InNumbers.{twelve}
-use borrow.Author.Rules.{rules}
 use Rattle.plan.proofs.operations.Goals as goal
 
 pub returns : goal.returns
