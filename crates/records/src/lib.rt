@@ -1,5 +1,6 @@
 // The records of the work block.
 #![tactic(auto)]
+
 ghost use Rattle.std.specs.Prelude.{◌≡◌, ◌≤◌, ◌<◌, length};
 ghost use Rattle.model.specs.Lists.{among};
 ghost use Rattle.model.specs.Work.{record_states};

@@ -1,5 +1,4 @@
 -- `records::after_record` meets its contract: the two cases of the definition. Assumes nothing.
-use borrow.Author.Rules.{rules}
 use borrow.Author.Tests.{ne_eqb}
 use Rattle.records.proofs.Passed.{onward-unused, onward-used}
 use Rattle.records.proofs.after_record.Goals as goal

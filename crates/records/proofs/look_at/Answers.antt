@@ -6,7 +6,6 @@ use mathlib.Core.Path.{◌≡◌, sym, ap, ◌∙◌}
 use mathlib.Core.List.{List}
 use lib.ListN.{length, take, drop, length-drop}
 use lib.Seq.{length-take-le, take_all}
-use borrow.Author.Rules.{rules}
 use Rattle.model.specs.Lists.{all_ff}
 use Rattle.records.proofs.Block.{look-short, look-front, look-in-order, look-disordered}
 use Rattle.records.proofs.look_at.Goals as goal

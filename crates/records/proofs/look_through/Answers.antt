@@ -1,11 +1,9 @@
 -- `records::look_through` meets its contract. The loop's invariant: what is told of all records is what comes of going on, from what is told now,
 -- through the records left. Assumes nothing.
-use Prim.Native.Nat.{◌-◌, ◌≤◌}
 use native.Mathlib.Omega.{arith}
 use mathlib.Core.Path.{◌≡◌, refl, sym, ◌∙◌}
-use lib.ListN.{length, drop, get_or}
-use borrow.Author.Rules.{rules}
-use Rattle.records.specs.Passed.{unread, onward, through}
+use lib.ListN.{length, get_or}
+use Rattle.records.specs.Passed.{onward}
 use Rattle.records.proofs.Passed.{onward-count, through-next, through-end}
 use Rattle.records.proofs.look_through.Goals as goal
 

@@ -1,7 +1,6 @@
 -- `records::used_first` meets its contract: it counts no further than the last. Assumes nothing.
 use Prim.Native.Nat.{◌-◌, ◌≤◌}
 use lib.ListN.{length}
-use borrow.Author.Rules.{rules}
 use Rattle.records.proofs.used_first.Given as goal
 
 abbrev pub invariant-loop-k : goal.invariant-loop-k
