@@ -1,5 +1,6 @@
 // A profile's file: its numbers and items, read at their places.
 #![tactic(auto)]
+
 ghost use Rattle.std.specs.Prelude.{◌≡◌, false, map, ◌+◌, ◌^◌, ◌<◌, ◌≤◌, length, take, drop, get_or};
 ghost use Rattle.model.specs.Lists.{part, any, among};
 ghost use Rattle.model.specs.Name.{same_key_def};

@@ -1,5 +1,4 @@
 -- `profile::data_of` meets its contract: a part of what is left after the GUID. Assumes nothing.
-use borrow.Author.Rules.{rules}
 use Prim.Native.Nat.{◌+◌}
 use lib.Seq.{drop-drop}
 use Rattle.profile.proofs.data_of.Goals as goal

@@ -1,5 +1,4 @@
 -- `profile::guid_of` meets its contract: sixteen bytes are written over sixteen. Assumes nothing.
-use borrow.Author.Rules.{rules}
 use native.Mathlib.Omega.{arith}
 use mathlib.Core.Path.{refl, ap, ◌∙◌}
 use lib.ListN.{length}

@@ -1,5 +1,4 @@
 -- `profile::is_item` meets its contract. Assumes nothing.
-use borrow.Author.Tests.{ne_eqb}
 use Rattle.profile.proofs.is_item.Goals as goal
 
 pub returns-in-3 : goal.returns-in-3

@@ -1,5 +1,4 @@
 -- `profile::item` meets its contract: three numbers, each from where the one before it ends, and the item's body. Assumes nothing.
-use borrow.Author.Rules.{rules}
 use Prim.Native.Nat.{◌^◌}
 use lib.ListN.{length}
 use Rattle.profile.proofs.Numbers.{below_at}

@@ -1,12 +1,9 @@
 -- `profile::items` meets its contract: the items read stand before those still to be read, and each ends within the file. Assumes nothing.
-use Prim.Native.Nat.{ℕ, ◌-◌, ◌≤◌, ◌<◌}
-use native.Mathlib.Omega.{arith}
-use mathlib.Core.Path.{◌≡◌, sym, ap, ◌∙◌, subst}
-use lib.ListN.{length, drop, length-set}
+use Prim.Native.Nat.{◌-◌, ◌≤◌}
+use mathlib.Core.Path.{◌≡◌}
+use lib.ListN.{length, drop}
 use Rattle.model.specs.Profile.{items_at}
-use Rattle.profile.specs.Reader.{requests_in}
-use Rattle.profile.proofs.Filled.{read_up_to, none_read, AllWithin, item-missing, item-more, item-ends, more_within, read_whole, read-over, read_none}
-use borrow.Author.Rules.{rules}
+use Rattle.profile.proofs.Filled.{read_up_to, AllWithin}
 use Rattle.profile.proofs.items.Given as goal
 
 abbrev pub invariant-loop-i : goal.invariant-loop-i

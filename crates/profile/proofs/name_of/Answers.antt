@@ -1,5 +1,4 @@
 -- `profile::name_of` meets its contract: a part of what is left from the GUID on. Assumes nothing.
-use borrow.Author.Rules.{rules}
 use lib.Seq.{drop-drop}
 use Rattle.profile.proofs.name_of.Goals as goal
 

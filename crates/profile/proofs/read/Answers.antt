@@ -1,5 +1,4 @@
 -- `profile::read` meets its contract: a number of at most eight, and so many items. Assumes nothing.
-use borrow.Author.Rules.{rules}
 use Prim.Native.Nat.{◌^◌}
 use mathlib.Core.Path.{subst}
 use lib.ListN.{length}

@@ -1,10 +1,9 @@
 -- `profile::recurs` meets its contract: the items after the i-th that were passed are not of its name and GUID. Assumes nothing.
 use borrow.Author.Rules.{rules}
-use Prim.Native.Nat.{◌+◌, ◌-◌, ◌≤◌}
-use mathlib.Core.Path.{◌≡◌, refl, sym, ◌∙◌}
-use lib.ListN.{length, get_or}
+use mathlib.Core.Path.{refl, sym, ◌∙◌}
+use lib.ListN.{get_or}
 use Rattle.profile.specs.Reader.{no_setting}
-use Rattle.profile.proofs.Keys.{recurs_from, recurs-here, recurs-after, recurs-nowhere}
+use Rattle.profile.proofs.Keys.{recurs-here, recurs-after, recurs-nowhere}
 use Rattle.profile.proofs.recurs.Goals as goal
 
 pub loop-j-init : goal.loop-j-init

@@ -1,5 +1,4 @@
 -- `profile::same_key` meets its contract: names are compared first. Assumes nothing.
-use borrow.Author.Rules.{rules}
 use Rattle.profile.specs.Reader.{request_in}
 use Rattle.profile.proofs.same_key.Goals as goal
 

@@ -1,11 +1,8 @@
 -- `profile::shares_name` meets its contract: the items that were passed share their name and GUID with none after them. Assumes nothing.
 use borrow.Author.Rules.{rules}
-use Prim.Native.Nat.{◌-◌, ◌≤◌}
-use mathlib.Core.Path.{◌≡◌, sym, ◌∙◌}
-use lib.ListN.{length}
-use Rattle.model.specs.Profile.{shares_name_def}
+use mathlib.Core.Path.{sym, ◌∙◌}
 use Rattle.profile.specs.Reader.{requests_in}
-use Rattle.profile.proofs.Keys.{shares_from, from_first, shares-here, shares-after, shares-nowhere}
+use Rattle.profile.proofs.Keys.{from_first, shares-here, shares-after, shares-nowhere}
 use Rattle.profile.proofs.shares_name.Goals as goal
 
 pub loop-i-init : goal.loop-i-init

@@ -1,11 +1,10 @@
 -- `profile::shares_name` meets its contract: the items that were passed share their name and GUID with none after them. Assumes nothing.
-use borrow.Author.Rules.{rules}
 use Prim.Native.Nat.{◌-◌, ◌≤◌}
-use mathlib.Core.Path.{◌≡◌, sym, ◌∙◌}
+use mathlib.Core.Path.{◌≡◌}
 use lib.ListN.{length}
 use Rattle.model.specs.Profile.{shares_name_def}
 use Rattle.profile.specs.Reader.{requests_in}
-use Rattle.profile.proofs.Keys.{shares_from, from_first, shares-here, shares-after, shares-nowhere}
+use Rattle.profile.proofs.Keys.{shares_from}
 use Rattle.profile.proofs.shares_name.Given as goal
 
 abbrev pub invariant-loop-i : goal.invariant-loop-i
