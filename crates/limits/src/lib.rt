@@ -1,6 +1,7 @@
 // The rules for settings: whether a set breaks one that is for its name. A rule is read where it is in the table. The data that would stand are lent in two parts, the
 // old ones of an append and the call's own, and are never put together.
 #![tactic(auto)]
+
 ghost use Rattle.std.specs.Prelude.{◌≡◌, true, ◌++◌, ◌<◌, get_or};
 ghost use Rattle.model.specs.Lists.{part, among, numbers_at};
 ghost use Rattle.model.specs.Name.{keyed};

@@ -1,15 +1,14 @@
 -- `limits::breaks` meets its contract. The loop's invariant: a rule for the name is broken just if one of those in use from `i` on is. Assumes nothing.
-use Prim.Native.Nat.{ℕ, min, ◌-◌, ◌≤◌}
+use Prim.Native.Nat.{ℕ, min}
 use native.Mathlib.Omega.{arith}
 use mathlib.Core.Path.{◌≡◌, refl, sym, ap, ◌∙◌}
 use mathlib.Core.Bool.{Bool}
 use mathlib.Core.List.{List, ◌++◌}
-use Rattle.model.specs.Name.{Key, keyed}
+use Rattle.model.specs.Name.{Key}
 use Rattle.model.specs.Limits.{limit_of, limit_at}
-use Rattle.model.proofs.Tables.{any_from, from_end, from-here, from_next}
+use Rattle.model.proofs.Tables.{from_end, from-here, from_next}
 use Rattle.limits.specs.Broken.{breaks_for}
 use Rattle.limits.proofs.Tried.{by-places}
-use borrow.Author.Rules.{rules}
 use Rattle.limits.proofs.breaks.Goals as goal
 
 pub loop-i-init : goal.loop-i-init

@@ -1,15 +1,11 @@
 -- `limits::breaks` meets its contract. The loop's invariant: a rule for the name is broken just if one of those in use from `i` on is. Assumes nothing.
-use Prim.Native.Nat.{ℕ, min, ◌-◌, ◌≤◌}
-use native.Mathlib.Omega.{arith}
-use mathlib.Core.Path.{◌≡◌, refl, sym, ap, ◌∙◌}
-use mathlib.Core.Bool.{Bool}
-use mathlib.Core.List.{List, ◌++◌}
-use Rattle.model.specs.Name.{Key, keyed}
-use Rattle.model.specs.Limits.{limit_of, limit_at}
-use Rattle.model.proofs.Tables.{any_from, from_end, from-here, from_next}
+use Prim.Native.Nat.{min, ◌-◌, ◌≤◌}
+use mathlib.Core.Path.{◌≡◌}
+use mathlib.Core.List.{◌++◌}
+use Rattle.model.specs.Name.{keyed}
+use Rattle.model.specs.Limits.{limit_at}
+use Rattle.model.proofs.Tables.{any_from}
 use Rattle.limits.specs.Broken.{breaks_for}
-use Rattle.limits.proofs.Tried.{by-places}
-use borrow.Author.Rules.{rules}
 use Rattle.limits.proofs.breaks.Given as goal
 
 abbrev pub invariant-loop-i : goal.invariant-loop-i

@@ -1,10 +1,8 @@
 -- `limits::breaks_one` meets its contract: its looks are the tests of the definition, in their order. Assumes nothing.
 use mathlib.Core.Path.{sym, ap, ◌∙◌}
 use mathlib.Core.Bool.{not}
-use borrow.Author.Tests.{not-true, not-false}
 use Rattle.limits.specs.Broken.{breaks_for}
 use Rattle.limits.proofs.Names.{fixed-yes, fixed_no}
-use borrow.Author.Rules.{rules}
 use Rattle.limits.proofs.breaks_one.Goals as goal
 
 pub returns-then-not-is_for : goal.returns-then-not-is_for

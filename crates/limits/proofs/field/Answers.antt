@@ -1,11 +1,10 @@
 -- `limits::field` meets its contract: its bytes, read one by one, make the number. Assumes nothing.
-use Prim.Native.Nat.{ℕ, ◌+◌}
+use Prim.Native.Nat.{ℕ}
 use mathlib.Core.Path.{◌≡◌, sym, ap, ◌∙◌}
 use mathlib.Core.List.{List, ◌++◌}
 use Rattle.model.specs.Lists.{part}
 use Rattle.model.specs.Limits.{little}
 use Rattle.limits.proofs.Fields.{one_byte, two_bytes, four_bytes, width_four}
-use borrow.Author.Rules.{rules}
 use Rattle.limits.proofs.field.Goals as goal
 
 pub returns-then-width-eq1 : goal.returns-then-width-eq1

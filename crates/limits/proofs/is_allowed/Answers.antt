@@ -1,10 +1,9 @@
 -- `limits::is_allowed` meets its contract: its looks are the tests of the definition. Assumes nothing.
 use Prim.Native.Nat.{ℕ}
-use mathlib.Core.Path.{◌≡◌, sym, ap, ◌∙◌}
+use mathlib.Core.Path.{ap, ◌∙◌}
 use borrow.Author.Tests.{eq-eqb, ne_eqb, le-leb, lt-leb}
-use Rattle.model.specs.Lists.{u32_at, numbers_at}
+use Rattle.model.specs.Lists.{numbers_at}
 use Rattle.model.specs.Limits.{limit_of, listed, allowed}
-use borrow.Author.Rules.{rules}
 use Rattle.limits.proofs.is_allowed.Goals as goal
 
 pub returns-then-u32_at-eq0 : goal.returns-then-u32_at-eq0

@@ -1,13 +1,11 @@
 -- `limits::is_for` meets its contract: its looks are the tests of the definition, in their order. Assumes nothing.
 use Prim.Native.Nat.{ℕ}
-use mathlib.Core.Path.{◌≡◌, sym, ap, ◌∙◌}
+use mathlib.Core.Path.{sym, ap, ◌∙◌}
 use mathlib.Core.List.{List}
 use lib.ListN.{take}
-use borrow.Author.Tests.{not-true, not-false}
 use Rattle.model.specs.Name.{Key}
 use Rattle.model.specs.Limits.{limit_of}
 use Rattle.limits.proofs.Names.{too_long, other_name, same_name}
-use borrow.Author.Rules.{rules}
 use Rattle.limits.proofs.is_for.Goals as goal
 
 pub returns-then-size-gt-LONGEST_NAME : goal.returns-then-size-gt-LONGEST_NAME

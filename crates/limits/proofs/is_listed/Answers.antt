@@ -1,14 +1,13 @@
 -- `limits::is_listed` meets its contract. The loop's invariant: the number is listed just if it is at one of the places in use from `i` on. Assumes nothing.
-use Prim.Native.Nat.{ℕ, min, ◌+◌, ◌*◌, ◌-◌, ◌≤◌}
+use Prim.Native.Nat.{ℕ, min, ◌+◌, ◌*◌}
 use native.Mathlib.Omega.{arith}
-use mathlib.Core.Path.{◌≡◌, refl, sym, ap, ◌∙◌}
+use mathlib.Core.Path.{refl, sym, ◌∙◌}
 use mathlib.Core.Bool.{Bool}
 use lib.Dec.{eqb}
 use borrow.Author.Tests.{eq-eqb, ne_eqb}
 use Rattle.model.specs.Lists.{u32_at}
-use Rattle.model.proofs.Tables.{any_from, from_end, from-here, from_next}
+use Rattle.model.proofs.Tables.{from_end, from-here, from_next}
 use Rattle.limits.proofs.Tried.{by-list}
-use borrow.Author.Rules.{rules}
 use Rattle.limits.proofs.is_listed.Goals as goal
 
 pub loop-i-init : goal.loop-i-init

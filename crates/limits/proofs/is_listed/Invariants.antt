@@ -1,14 +1,9 @@
 -- `limits::is_listed` meets its contract. The loop's invariant: the number is listed just if it is at one of the places in use from `i` on. Assumes nothing.
-use Prim.Native.Nat.{ℕ, min, ◌+◌, ◌*◌, ◌-◌, ◌≤◌}
-use native.Mathlib.Omega.{arith}
-use mathlib.Core.Path.{◌≡◌, refl, sym, ap, ◌∙◌}
-use mathlib.Core.Bool.{Bool}
+use Prim.Native.Nat.{min, ◌+◌, ◌*◌, ◌-◌, ◌≤◌}
+use mathlib.Core.Path.{◌≡◌}
 use lib.Dec.{eqb}
-use borrow.Author.Tests.{eq-eqb, ne_eqb}
 use Rattle.model.specs.Lists.{u32_at}
-use Rattle.model.proofs.Tables.{any_from, from_end, from-here, from_next}
-use Rattle.limits.proofs.Tried.{by-list}
-use borrow.Author.Rules.{rules}
+use Rattle.model.proofs.Tables.{any_from}
 use Rattle.limits.proofs.is_listed.Given as goal
 
 abbrev pub invariant-loop-i : goal.invariant-loop-i

@@ -1,15 +1,12 @@
 -- `limits::meets` meets its contract: its looks are the tests of the definition, in their order. Assumes nothing.
-use Prim.Native.Nat.{ℕ, ◌+◌, ◌≤◌, ◌<◌}
-use native.Mathlib.Omega.{arith}
-use mathlib.Core.Path.{◌≡◌, sym, ap, ap₂, ◌∙◌}
+use Prim.Native.Nat.{ℕ, ◌+◌, ◌≤◌}
+use mathlib.Core.Path.{◌≡◌, sym, ap₂, ◌∙◌}
 use mathlib.Core.Bool.{true, false}
 use mathlib.Core.List.{◌++◌}
 use lib.ListN.{length}
-use borrow.Author.Tests.{not-true, not-false}
 use Rattle.model.specs.Lists.{among, part}
 use Rattle.model.specs.Limits.{Limit, limit_of, little, widths}
 use Rattle.limits.proofs.Fields.{too_short, too_long, other_width, outside, by_field}
-use borrow.Author.Rules.{rules}
 use Rattle.limits.proofs.meets.Goals as goal
 
 pub returns-then-n-u32_at : goal.returns-then-n-u32_at
