@@ -1,5 +1,6 @@
 // What the rules say of the call itself: attributes, descriptor and stamp, verdict, and what a set asks for. No image is looked at.
 #![tactic(auto)]
+
 ghost use Rattle.std.specs.Prelude.{◌≡◌, not, cond, ◌∷◌, ◌<◌, length};
 ghost use Rattle.model.specs.Lists.{among, is_empty};
 ghost use Rattle.model.specs.Name.{keyed};

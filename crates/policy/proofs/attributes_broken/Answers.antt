@@ -6,7 +6,6 @@ use borrow.Author.Tests.{ne_eqb}
 use Rattle.model.specs.Lists.{among}
 use Rattle.model.specs.Region.{stored_attributes}
 use Rattle.policy.proofs.Attributes.{rule4-exact, rule4-unknown, rule4-known}
-use borrow.Author.Rules.{rules}
 use Rattle.policy.proofs.attributes_broken.Goals as goal
 
 pub returns-then-attributes-eq64 : goal.returns-then-attributes-eq64

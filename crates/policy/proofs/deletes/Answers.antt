@@ -1,6 +1,5 @@
 -- `policy::deletes` meets its contract: attributes 0 delete, and with others empty data do without append. Assumes nothing.
 use borrow.Author.Tests.{ne_eqb}
-use borrow.Author.Rules.{rules}
 use Rattle.model.specs.Change.{deletes}
 use Rattle.policy.proofs.deletes.Goals as goal
 

@@ -1,6 +1,5 @@
 -- `policy::descriptor_broken` meets its contract: the form is asked with 0x20. Assumes nothing.
 use mathlib.Core.Path.{sym, ◌∙◌}
-use borrow.Author.Rules.{rules}
 use Rattle.model.specs.Rules.{rule8}
 use Rattle.policy.proofs.descriptor_broken.Goals as goal
 

@@ -5,7 +5,6 @@ use mathlib.Core.List.{List}
 use lib.ListN.{replicate}
 use Rattle.model.specs.Lists.{same}
 use Rattle.policy.proofs.Descriptor.{right-zeros, wrong_size, wrong-kind}
-use borrow.Author.Rules.{rules}
 use Rattle.policy.proofs.descriptor_right.Goals as goal
 
 pub returns-then-kind_right : goal.returns-then-kind_right

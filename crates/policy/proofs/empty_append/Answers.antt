@@ -1,6 +1,5 @@
 -- `policy::empty_append` meets its contract: append decides where the data are empty. Assumes nothing.
 use borrow.Author.Tests.{ne_eqb}
-use borrow.Author.Rules.{rules}
 use Rattle.model.specs.Change.{empty_append_def}
 use Rattle.policy.proofs.empty_append.Goals as goal
 

@@ -1,5 +1,4 @@
 -- `policy::is_known` meets its contract: attributes are one of the six, or none of them. Assumes nothing.
-use borrow.Author.Tests.{ne_eqb}
 use Rattle.policy.proofs.is_known.Goals as goal
 
 pub returns-in-0 : goal.returns-in-0

@@ -1,7 +1,6 @@
 -- `policy::key_attributes_broken` meets its contract: with 0x27 or 0x67 no name breaks the rule, else the key names do. Assumes nothing.
 use mathlib.Core.Path.{sym, ◌∙◌}
 use Rattle.policy.proofs.Attributes.{rule5-suits, rule5-other}
-use borrow.Author.Rules.{rules}
 use Rattle.policy.proofs.key_attributes_broken.Goals as goal
 
 pub returns-then-attributes-eq39 : goal.returns-then-attributes-eq39

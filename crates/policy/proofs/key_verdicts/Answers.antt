@@ -1,7 +1,6 @@
 -- `policy::key_verdicts` meets its contract: by the mode, and then by whether the name is a database's or PK. Assumes nothing.
 use mathlib.Core.Path.{sym, ◌∙◌}
 use Rattle.model.specs.Request.{key_verdicts_def}
-use borrow.Author.Rules.{rules}
 use Rattle.policy.proofs.key_verdicts.Goals as goal
 
 pub returns-then-is_database : goal.returns-then-is_database

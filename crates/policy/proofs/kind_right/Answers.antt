@@ -2,7 +2,6 @@
 use mathlib.Core.Path.{sym, ap₂, ◌∙◌}
 use Rattle.model.specs.Lists.{same}
 use Rattle.policy.proofs.Descriptor.{kind-revision, kind-type, kind-certificate}
-use borrow.Author.Rules.{rules}
 use Rattle.policy.proofs.kind_right.Goals as goal
 
 pub returns-then-u16_at-ne512 : goal.returns-then-u16_at-ne512

@@ -1,11 +1,8 @@
 -- `policy::later` meets its contract. The loop's invariant: with equal years the bytes from `i` on decide. Assumes nothing.
-use Prim.Native.Nat.{◌-◌, ◌≤◌}
 use native.Mathlib.Omega.{arith}
 use mathlib.Core.Path.{◌≡◌, sym, ap₂, ◌∙◌}
 use lib.Dec.{ltb}
-use Rattle.model.specs.Request as request
-use Rattle.policy.proofs.Stamps.{greater_from, later-other, later-equal, from-equal, from-other, from_end}
-use borrow.Author.Rules.{rules}
+use Rattle.policy.proofs.Stamps.{later-other, later-equal, from-equal, from-other, from_end}
 use Rattle.policy.proofs.later.Goals as goal
 
 pub returns-then-year-other : goal.returns-then-year-other

@@ -1,7 +1,6 @@
 -- `policy::later_of` meets its contract: the stamp given counts where it is later. Assumes nothing.
 use mathlib.Core.Path.{sym, ◌∙◌}
 use Rattle.model.specs.Change.{later_of_def}
-use borrow.Author.Rules.{rules}
 use Rattle.policy.proofs.later_of.Goals as goal
 
 pub returns-then-later : goal.returns-then-later

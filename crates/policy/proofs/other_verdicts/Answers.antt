@@ -1,6 +1,5 @@
 -- `policy::other_verdicts` meets its contract: by 0x20, and then by whether a value stands. Assumes nothing.
 use mathlib.Core.Path.{sym, ◌∙◌}
-use borrow.Author.Rules.{rules}
 use Rattle.model.specs.Request.{other_verdicts_def}
 use Rattle.policy.proofs.other_verdicts.Goals as goal
 

@@ -3,7 +3,6 @@ use Prim.Native.Nat.{ℕ}
 use mathlib.Core.Path.{ap, ◌∙◌}
 use lib.ListN.{drop}
 use Rattle.policy.proofs.Descriptor.{proper-drop}
-use borrow.Author.Rules.{rules}
 use Rattle.policy.proofs.proper.Goals as goal
 
 pub returns : goal.returns

@@ -1,7 +1,6 @@
 -- `policy::proper_from` meets its contract. Assumes nothing.
 use Prim.Native.Nat.{ℕ, ◌+◌}
 use mathlib.Core.Path.{sym, ap, ◌∙◌}
-use borrow.Author.Rules.{rules}
 use Rattle.policy.proofs.proper_from.Goals as goal
 
 pub returns-then-time_based : goal.returns-then-time_based

@@ -4,7 +4,6 @@ use mathlib.Core.Path.{sym, ap, ◌∙◌}
 use mathlib.Core.Bool.{not}
 use Rattle.model.specs.Name.{keyed}
 use Rattle.policy.proofs.Attributes.{rule17-record, rule17-named, rule17-other}
-use borrow.Author.Rules.{rules}
 use Rattle.policy.proofs.record_broken.Goals as goal
 
 pub returns-then-is_error_record : goal.returns-then-is_error_record

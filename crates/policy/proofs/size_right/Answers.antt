@@ -1,7 +1,6 @@
 -- `policy::size_right` meets its contract: the length read is the descriptor's. Assumes nothing.
 use mathlib.Core.Path.{sym}
 use Rattle.policy.proofs.Descriptor.{size-short, size-long}
-use borrow.Author.Rules.{rules}
 use Rattle.policy.proofs.size_right.Goals as goal
 
 pub returns-then-length-lt24 : goal.returns-then-length-lt24

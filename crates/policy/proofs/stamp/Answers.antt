@@ -1,7 +1,6 @@
 -- `policy::stamp` meets its contract: the data's front counts with 0x20. Assumes nothing.
 use mathlib.Core.Path.{sym, ◌∙◌}
 use Rattle.policy.specs.Descriptor.{stamp_of_def}
-use borrow.Author.Rules.{rules}
 use Rattle.policy.proofs.stamp.Goals as goal
 
 pub returns-then-time_based : goal.returns-then-time_based

@@ -1,11 +1,10 @@
 -- `policy::stamp_in` meets its contract. The loop's invariant: the first `i` bytes of the front are laid over the zeros. Assumes nothing.
-use Prim.Native.Nat.{ℕ, ◌-◌, ◌≤◌}
+use Prim.Native.Nat.{ℕ, ◌≤◌}
 use native.Mathlib.Omega.{arith}
 use mathlib.Core.Path.{◌≡◌, ap, ◌∙◌}
 use mathlib.Core.List.{List}
 use lib.ListN.{length, set, get_or}
 use Rattle.policy.proofs.Descriptor.{laid, laid_none, laid_next, laid-length, laid-all, front-short}
-use borrow.Author.Rules.{rules}
 use Rattle.policy.proofs.stamp_in.Goals as goal
 
 pub loop-i-init : goal.loop-i-init

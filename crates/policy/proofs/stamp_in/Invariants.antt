@@ -1,11 +1,8 @@
 -- `policy::stamp_in` meets its contract. The loop's invariant: the first `i` bytes of the front are laid over the zeros. Assumes nothing.
-use Prim.Native.Nat.{ℕ, ◌-◌, ◌≤◌}
-use native.Mathlib.Omega.{arith}
-use mathlib.Core.Path.{◌≡◌, ap, ◌∙◌}
-use mathlib.Core.List.{List}
-use lib.ListN.{length, set, get_or}
-use Rattle.policy.proofs.Descriptor.{laid, laid_none, laid_next, laid-length, laid-all, front-short}
-use borrow.Author.Rules.{rules}
+use Prim.Native.Nat.{◌-◌, ◌≤◌}
+use mathlib.Core.Path.{◌≡◌}
+use lib.ListN.{length}
+use Rattle.policy.proofs.Descriptor.{laid}
 use Rattle.policy.proofs.stamp_in.Given as goal
 
 abbrev pub invariant-loop-i : goal.invariant-loop-i

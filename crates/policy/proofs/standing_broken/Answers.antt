@@ -1,7 +1,6 @@
 -- `policy::standing_broken` meets its contract: the first of its two tests that fails decides. Assumes nothing.
 use mathlib.Core.Path.{sym, ap, ◌∙◌}
 use Prim.Native.Nat.{ℕ}
-use borrow.Author.Rules.{rules}
 use Rattle.model.specs.Rules.{unlike_stored, rule7}
 use Rattle.policy.proofs.standing_broken.Goals as goal
 

@@ -1,7 +1,6 @@
 -- `policy::unlike` meets its contract: 0 is unlike a stored 0x20, any other number unlike another one. Assumes nothing.
 use mathlib.Core.Path.{sym, ◌∙◌}
 use Rattle.policy.proofs.Attributes.{unlike-zero, unlike-other}
-use borrow.Author.Rules.{rules}
 use Rattle.policy.proofs.unlike.Goals as goal
 
 pub returns-then-asked-eq0 : goal.returns-then-asked-eq0

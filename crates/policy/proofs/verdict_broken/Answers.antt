@@ -3,7 +3,6 @@ use mathlib.Core.Path.{sym, ap, ◌∙◌}
 use Rattle.policy.specs.declared.Wanted.{Wanted}
 use Rattle.policy.specs.Verdict.{verdicts_of}
 use Rattle.policy.proofs.Verdicts.{rule9-one, rule9-first, rule9-second}
-use borrow.Author.Rules.{rules}
 use Rattle.model.specs.Rules.{rule9}
 use Rattle.policy.proofs.verdict_broken.Goals as goal
 

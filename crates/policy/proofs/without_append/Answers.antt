@@ -1,6 +1,5 @@
 -- `policy::without_append` meets its contract: 0x40 is taken off where it is among the attributes. Assumes nothing.
 use borrow.Author.Tests.{eq-eqb, ne_eqb}
-use borrow.Author.Rules.{rules}
 use Rattle.policy.proofs.without_append.Goals as goal
 
 pub returns-then-attributes-eq1 : goal.returns-then-attributes-eq1
