@@ -7,7 +7,6 @@ use mathlib.Core.Path.{◌≡◌, refl, sym, ap, ◌∙◌}
 use mathlib.Core.List.{List, ◌∷◌, ◌++◌, map}
 use lib.ListN.{length, drop, set, replicate, length-append, length-take, length-drop, length-replicate}
 use lib.Seq.{sets, sets-eq, length-sets}
-use Rattle.model.specs.declared.Session.{Session}
 use Rattle.model.specs.Lists.{part, range, overlay, u32_at, numbers_at}
 use Rattle.model.specs.Name.{Key}
 use Rattle.model.specs.Session.{place_bytes, with_lock_def}

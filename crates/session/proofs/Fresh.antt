@@ -8,7 +8,6 @@ use mathlib.Core.Bool.{cond}
 use mathlib.Core.List.{List, map}
 use lib.ListN.{length, take, drop, replicate, length-drop, length-replicate}
 use lib.Seq.{sets, length-sets, drop-drop}
-use Rattle.model.specs.declared.Session.{Session}
 use Rattle.model.specs.Lists.{part, range, u32_at, numbers_at}
 use Rattle.model.specs.Session.{is_yes, counted_reserve, kept, no_locks_def, no_sizes_def, fresh_session}
 use Rattle.model.specs.Lent.{setup_of, session_of}

@@ -1,5 +1,6 @@
 // What a session says to a call, by its parts: its phase, its locks, and what is a side's; and the lock call.
 #![tactic(auto)]
+
 ghost use Rattle.std.specs.Prelude.{◌≡◌, cond, ◌≤◌, ◌<◌, eqb};
 ghost use Rattle.model.specs.Name.{keyed};
 ghost use Rattle.model.specs.Session.{counted_phase, counted_reserve, is_modem_def};

@@ -1,5 +1,4 @@
 -- `session::entered` meets its contract. Assumes nothing.
-use borrow.Author.Rules.{rules}
 use Rattle.session.proofs.entered.Goals as goal
 
 pub returns-then-enters : goal.returns-then-enters

@@ -4,7 +4,6 @@ use mathlib.Core.Bool.{and-false, and-true}
 use Rattle.model.specs.Name.{keyed}
 use Rattle.session.specs.Places.{held_from}
 use Rattle.session.specs.Said.{barred_by}
-use borrow.Author.Rules.{rules}
 use Rattle.session.proofs.is_barred.Goals as goal
 
 pub returns-then-in_boot : goal.returns-then-in_boot

@@ -6,7 +6,6 @@ use mathlib.Core.Bool.{true, false, or-true, or-false}
 use lib.Dec.{leb}
 use borrow.Author.Tests.{le-leb, lt-leb}
 use Rattle.session.specs.Places.{count_from, full}
-use borrow.Author.Rules.{rules}
 use Rattle.session.proofs.is_full.Goals as goal
 
 pub returns-then-used-ge16 : goal.returns-then-used-ge16

@@ -1,8 +1,6 @@
 -- `session::is_place` meets its contract: its three looks are the three tests of the definition. Assumes nothing.
 use mathlib.Core.Path.{sym, ◌∙◌}
 use Rattle.model.specs.Name.{Key}
-use borrow.Author.Rules.{rules}
-use borrow.Author.Tests.{not-true, not-false}
 use Rattle.session.proofs.Places.{unnamed, differs, by-vendor}
 use Rattle.session.proofs.is_place.Goals as goal
 

@@ -1,8 +1,6 @@
 -- `session::is_sides` meets its contract: a name that is not well formed is no side's; any other is its owner's. Assumes nothing.
 use mathlib.Core.Path.{sym, ◌∙◌}
-use borrow.Author.Tests.{not-true, not-false}
 use Rattle.session.proofs.Places.{none_named, by-owner}
-use borrow.Author.Rules.{rules}
 use Rattle.session.proofs.is_sides.Goals as goal
 
 pub returns-then-not-is_named : goal.returns-then-not-is_named

@@ -1,6 +1,5 @@
 -- `session::lock` meets its contract: what it comes to by the parts of the session is what it comes to in the session. Assumes nothing.
 use mathlib.Core.Path.{◌∙◌}
-use borrow.Author.Rules.{rules}
 use Rattle.model.specs.Name.{keyed}
 use Rattle.session.proofs.Locking.{outcome-by, session-by}
 use Rattle.session.proofs.lock.Goals as goal

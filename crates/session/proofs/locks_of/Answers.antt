@@ -1,9 +1,5 @@
 -- `session::locks_of` meets its contract. The loop's invariant: those counted, and the side's places in use from `place` on, are all. Assumes nothing.
-use Prim.Native.Nat.{min, ◌+◌, ◌-◌, ◌≤◌}
 use native.Mathlib.Omega.{arith}
-use mathlib.Core.Path.{◌≡◌}
-use borrow.Author.Rules.{rules}
-use Rattle.session.specs.Places.{count_from}
 use Rattle.session.proofs.Places.{count-end, count-here}
 use Rattle.session.proofs.locks_of.Goals as goal
 

@@ -2,7 +2,6 @@
 use mathlib.Core.Path.{sym}
 use Rattle.model.specs.Rules.{rule22}
 use Rattle.session.specs.Said.{terms_with}
-use borrow.Author.Rules.{rules}
 use Rattle.session.proofs.terms.Goals as goal
 
 pub returns : goal.returns

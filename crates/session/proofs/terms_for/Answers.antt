@@ -1,7 +1,6 @@
 -- `session::terms_for` meets its contract: each field is what its own function says. Assumes nothing.
 use mathlib.Core.Path.{sym}
 use Rattle.session.specs.Said.{terms_by}
-use borrow.Author.Rules.{rules}
 use Rattle.session.proofs.terms_for.Goals as goal
 
 pub returns : goal.returns

@@ -1,5 +1,4 @@
 -- `session::lent::comes_to` meets its contract: the parts of the session are those at their places. Assumes nothing.
-use borrow.Author.Rules.{rules}
 use Rattle.session.proofs.lent.comes_to.Goals as goal
 
 pub returns : goal.returns

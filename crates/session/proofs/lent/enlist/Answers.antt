@@ -5,7 +5,6 @@ use mathlib.Core.List.{List}
 use lib.ListN.{length}
 use lib.Seq.{sets}
 use Rattle.session.specs.Written.{number_bytes, enlisted}
-use borrow.Author.Rules.{rules}
 use Rattle.session.proofs.lent.enlist.Goals as goal
 
 pub returns : goal.returns

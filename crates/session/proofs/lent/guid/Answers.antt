@@ -7,7 +7,6 @@ use lib.ListN.{drop, replicate, length-take, length-drop}
 use lib.Seq.{sets}
 use Rattle.model.specs.Lists.{part}
 use Rattle.session.proofs.Stored.{sets-all}
-use borrow.Author.Rules.{rules}
 use Rattle.session.proofs.lent.guid.Goals as goal
 
 pub returns : goal.returns

@@ -1,5 +1,4 @@
 -- `session::lent::is_barred` meets its contract: the parts of the session are those at their places. Assumes nothing.
-use borrow.Author.Rules.{rules}
 use Rattle.session.proofs.lent.is_barred.Goals as goal
 
 pub returns : goal.returns

@@ -5,7 +5,6 @@ use mathlib.Core.Bool.{cond}
 use lib.Seq.{sets}
 use Rattle.model.specs.Session.{is_yes}
 use Rattle.session.specs.Written.{number_bytes}
-use borrow.Author.Rules.{rules}
 use Rattle.session.proofs.lent.keep_flag.Goals as goal
 
 pub returns : goal.returns

@@ -4,7 +4,6 @@ use mathlib.Core.Path.{ap, ◌∙◌}
 use lib.Seq.{sets}
 use Rattle.model.specs.Session.{counted_reserve}
 use Rattle.session.specs.Written.{number_bytes}
-use borrow.Author.Rules.{rules}
 use Rattle.session.proofs.lent.keep_reserve.Goals as goal
 
 pub returns : goal.returns

@@ -1,6 +1,5 @@
 -- `session::lent::limits` meets its contract: the table is the part at its place. Assumes nothing.
 use Rattle.model.specs.Lent.{setup_of, session_of}
-use borrow.Author.Rules.{rules}
 use Rattle.session.proofs.lent.limits.Goals as goal
 
 pub returns : goal.returns

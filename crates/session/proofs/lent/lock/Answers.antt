@@ -11,7 +11,6 @@ use Rattle.model.specs.Lent.{setup_of, session_of}
 use Rattle.model.proofs.Locks.{lock-fits}
 use Rattle.session.proofs.Locking.{enters-free, outcome-by, session-by}
 use Rattle.session.proofs.Enlisting.{listed}
-use borrow.Author.Rules.{rules}
 use Rattle.session.proofs.lent.lock.Goals as goal
 
 pub returns-then-not-told : goal.returns-then-not-told

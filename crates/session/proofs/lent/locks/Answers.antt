@@ -1,6 +1,5 @@
 -- `session::lent::locks` meets its contract: each number at its place. Assumes nothing.
 use Rattle.model.specs.Lent.{session_of}
-use borrow.Author.Rules.{rules}
 use Rattle.session.proofs.lent.locks.Goals as goal
 
 pub returns : goal.returns

@@ -1,6 +1,5 @@
 -- `session::lent::places` meets its contract: the list is the part at its place. Assumes nothing.
 use Rattle.model.specs.Lent.{session_of}
-use borrow.Author.Rules.{rules}
 use Rattle.session.proofs.lent.places.Goals as goal
 
 pub returns : goal.returns

@@ -1,5 +1,4 @@
 -- `session::lent::put_number` meets its contract: its four bytes are stored. Assumes nothing.
-use borrow.Author.Rules.{rules}
 use Rattle.session.proofs.lent.put_number.Goals as goal
 
 pub returns : goal.returns

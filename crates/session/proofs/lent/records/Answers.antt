@@ -1,6 +1,5 @@
 -- `session::lent::records` meets its contract: H is the number at its place. Assumes nothing.
 use Rattle.model.specs.Lent.{setup_of, session_of}
-use borrow.Author.Rules.{rules}
 use Rattle.session.proofs.lent.records.Goals as goal
 
 pub returns : goal.returns

@@ -1,6 +1,5 @@
 -- `session::lent::renew` meets its contract: its five stores leave a fresh session. Assumes nothing.
 use Rattle.session.proofs.Fresh.{renewed}
-use borrow.Author.Rules.{rules}
 use Rattle.session.proofs.lent.renew.Goals as goal
 
 pub returns : goal.returns

@@ -1,6 +1,5 @@
 -- `session::lent::share` meets its contract: our share is the number at its place. Assumes nothing.
 use Rattle.model.specs.Lent.{setup_of, session_of}
-use borrow.Author.Rules.{rules}
 use Rattle.session.proofs.lent.share.Goals as goal
 
 pub returns : goal.returns

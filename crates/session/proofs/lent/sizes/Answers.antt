@@ -1,6 +1,5 @@
 -- `session::lent::sizes` meets its contract: the numbers one by one. Assumes nothing.
 use Rattle.model.specs.Lists.{numbers_at}
-use borrow.Author.Rules.{rules}
 use Rattle.session.proofs.lent.sizes.Goals as goal
 
 pub returns : goal.returns

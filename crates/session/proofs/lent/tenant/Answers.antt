@@ -1,7 +1,6 @@
 -- `session::lent::tenant` meets its contract: each part is at its place. Assumes nothing.
 use mathlib.Core.Path.{refl}
 use Rattle.model.specs.Lent.{setup_of, session_of}
-use borrow.Author.Rules.{rules}
 use Rattle.session.proofs.lent.tenant.Goals as goal
 
 pub returns : goal.returns

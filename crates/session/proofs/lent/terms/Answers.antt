@@ -3,7 +3,6 @@ use mathlib.Core.Path.{sym}
 use Rattle.model.specs.Name.{keyed}
 use Rattle.model.specs.Lent.{session_of}
 use Rattle.session.proofs.Phases.{terms-with}
-use borrow.Author.Rules.{rules}
 use Rattle.session.proofs.lent.terms.Goals as goal
 
 pub returns : goal.returns

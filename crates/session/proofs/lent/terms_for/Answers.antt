@@ -2,7 +2,6 @@
 use mathlib.Core.Path.{sym}
 use Rattle.model.specs.Lent.{setup_of, session_of}
 use Rattle.session.proofs.Phases.{terms-for-said}
-use borrow.Author.Rules.{rules}
 use Rattle.session.proofs.lent.terms_for.Goals as goal
 
 pub returns : goal.returns
