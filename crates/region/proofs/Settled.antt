@@ -1,7 +1,7 @@
 -- Of two entries with one state, name and GUID only one can be at their place in a table, since the place is a function of these. So an entry that is at its place is
 -- doubled by none passed if these are at theirs.
 -- Assumes nothing.
-use Rattle.std.proofs.Common.{◌≡◌, ℕ, ◌<◌, Bool, true, false, not, ◌&&◌, ◌||◌, eqb, List, [], ◌∷◌, ◌++◌, get_or, sym, refl, ap, ◌∙◌, ap₂, arith, eqb-true}
+use Rattle.std.proofs.Common.{◌≡◌, ℕ, Bool, true, false, not, ◌&&◌, eqb, List, [], ◌∷◌, ◌++◌, get_or, sym, refl, ap, ◌∙◌, ap₂, arith, eqb-true}
 use Rattle.model.specs.declared.Layout.{Layout}
 use Rattle.model.specs.Name.{Key, same_key_def}
 use Rattle.model.specs.Walk as walk

@@ -1,9 +1,9 @@
 -- What the tests of a usual entry ask is what a turn of the walk finds and what *sound* asks of an entry: they read the same fields. Its mark is made of the part
 -- of the region from its GUID to the end of its name, since these follow each other.
 -- Assumes nothing.
-use Rattle.std.proofs.Common.{◌≡◌, ℕ, ◌+◌, ◌-◌, ◌*◌, ◌/◌, ◌%◌, ◌<◌, ◌≤◌, Bool, true, false, ◌≢◌, List, length, get_or, take, drop, sym, refl, ap, ◌∙◌, subst, ap₂, arith, length-drop, drop-drop, eq-eqb, ne_eqb, le-leb}
+use Rattle.std.proofs.Common.{◌≡◌, ℕ, ◌+◌, ◌-◌, ◌/◌, ◌%◌, ◌<◌, ◌≤◌, true, ◌≢◌, List, length, get_or, take, drop, sym, refl, ap, ◌∙◌, arith, length-drop, drop-drop, eq-eqb, ne_eqb, le-leb}
 use Rattle.model.specs.declared.Layout.{Layout}
-use Rattle.model.specs.Layout.{header_length, vendor_at, state_at}
+use Rattle.model.specs.Layout.{header_length, vendor_at}
 use Rattle.model.specs.Lists.{among, part, u16_at_def, u32_at}
 use Rattle.model.specs.Name.{well_named}
 use Rattle.model.specs.Entry.{states, start_id, rounded, header_fields_in, read_header_in}
@@ -14,7 +14,7 @@ use Rattle.layout.specs.declared.Entry as numbers
 use Rattle.layout.specs.declared.Head.TheVariants.{Present}
 use Rattle.layout.proofs.Named.{named-key}
 use Rattle.region.specs.Walk.{entry_as, turn_in}
-use Rattle.region.specs.Judge.{plain_attributes_def, live_state_def, entry_sound_def, UsualFront, RightSizes, UsualOf}
+use Rattle.region.specs.Judge.{plain_attributes_def, live_state_def, entry_sound_def, UsualFront, UsualOf}
 use Rattle.region.specs.Marks.{key_mark, mark_at, mark_in}
 use Rattle.region.specs.declared.Turn.TheVariants.{Entry}
 use Rattle.region.proofs.Turns.{rest, Turned, at_entry}

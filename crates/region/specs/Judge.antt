@@ -4,7 +4,7 @@ use Rattle.model.specs.Lists.{all, any, among, part, u16_at_def, u32_at}
 use Rattle.model.specs.Name.{Key, well_named, record_name}
 use Rattle.model.specs.Walk.{Entry, state_of, entry_key}
 use Rattle.model.specs.declared.Layout.{Layout}
-use Rattle.model.specs.Layout.{authenticated, header_length, state_at, attributes_at, name_size_at, data_size_at}
+use Rattle.model.specs.Layout.{header_length, state_at, attributes_at, name_size_at, data_size_at}
 use Rattle.model.specs.Entry.{start_id}
 use Rattle.model.specs.Region.{entries_in, tail_at_in, known_state_def, within, live, max_data, right_live_def, is_entry_def, undoubled, sound_in, clean_in}
 use Rattle.region.specs.declared.Scan.{Scan}

@@ -1,5 +1,6 @@
 // The region: the walk over its entries, and when it is sound and clean.
 #![tactic(auto)]
+
 use layout::Entry;
 
 pub mod judge;

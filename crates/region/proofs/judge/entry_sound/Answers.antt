@@ -1,6 +1,6 @@
 -- `region::judge::entry_sound` meets its contract: each test that fails decides, and where the others hold `right_live` does.
 -- Assumes nothing.
-use Rattle.std.proofs.Common.{length, sym, ◌∙◌, arith, rules}
+use Rattle.std.proofs.Common.{length, sym, ◌∙◌, arith}
 use Rattle.region.proofs.Judging.{sound-unfinished, sound-unknown, sound-over, sound-within}
 use Rattle.region.proofs.judge.entry_sound.Goals as goal
 

@@ -1,13 +1,8 @@
 -- `region::judge::first_before` meets its contract. The loop's invariant: what is met first from here up to the offset is met first before it. What is left of the
 -- region falls.
 -- Assumes nothing.
-use Rattle.std.proofs.Common.{ℕ, ◌-◌, ◌<◌, length, sym, ◌∙◌, arith, rules}
-use Rattle.model.specs.Name.{keyed}
-use Rattle.model.specs.Region.{is_entry_def, entries_in}
-use Rattle.model.specs.Beside.{from_in}
+use Rattle.std.proofs.Common.{sym, ◌∙◌, arith}
 use Rattle.model.proofs.Walking.{entries_from}
-use Rattle.region.specs.Marks.{up_to}
-use Rattle.region.specs.Met.{Meeting}
 use Rattle.region.proofs.Turns.{at_entry, at-end}
 use Rattle.region.proofs.Passing.{up_next, up_none, up-past}
 use Rattle.region.proofs.Meetings.{meeting-none, meeting-here, meeting-behind}

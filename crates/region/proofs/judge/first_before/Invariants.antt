@@ -1,16 +1,12 @@
 -- `region::judge::first_before` meets its contract. The loop's invariant: what is met first from here up to the offset is met first before it. What is left of the
 -- region falls.
 -- Assumes nothing.
-use Rattle.std.proofs.Common.{ℕ, ◌-◌, ◌<◌, length, sym, ◌∙◌, arith, rules}
+use Rattle.std.proofs.Common.{ℕ, ◌-◌, ◌<◌, length}
 use Rattle.model.specs.Name.{keyed}
 use Rattle.model.specs.Region.{is_entry_def, entries_in}
 use Rattle.model.specs.Beside.{from_in}
-use Rattle.model.proofs.Walking.{entries_from}
 use Rattle.region.specs.Marks.{up_to}
 use Rattle.region.specs.Met.{Meeting}
-use Rattle.region.proofs.Turns.{at_entry, at-end}
-use Rattle.region.proofs.Passing.{up_next, up_none, up-past}
-use Rattle.region.proofs.Meetings.{meeting-none, meeting-here, meeting-behind}
 use Rattle.region.proofs.judge.first_before.Given as goal
 
 abbrev pub invariant-loop-at : goal.invariant-loop-at

@@ -1,6 +1,6 @@
 -- `region::judge::is_doubled` meets its contract: a live entry that may be doubled is looked for under its own name and GUID among those before it.
 -- Assumes nothing.
-use Rattle.std.proofs.Common.{ℕ, List, sym, ◌∙◌, ap₂, rules}
+use Rattle.std.proofs.Common.{ℕ, List, sym, ◌∙◌, ap₂}
 use Rattle.model.specs.Lists.{any}
 use Rattle.model.specs.Name.{keyed}
 use Rattle.model.specs.Region.{is_entry_def, entries_in}

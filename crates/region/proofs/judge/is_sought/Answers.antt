@@ -1,5 +1,5 @@
 -- `region::judge::is_sought` meets its contract: of a live entry that may be sought its GUID and name decide, which stand one behind the other. Assumes nothing.
-use Rattle.std.proofs.Common.{ℕ, List, ◌++◌, sym, ap, ◌∙◌, rules}
+use Rattle.std.proofs.Common.{ℕ, List, ◌++◌, sym, ap, ◌∙◌}
 use Rattle.model.specs.Lists.{same}
 use Rattle.model.specs.Entry.{header_fields_in}
 use Rattle.layout.specs.Head.{name_in}

@@ -1,5 +1,4 @@
 -- `region::judge::judge` meets its contract: what `judge_for` tells beside the sought name. Assumes nothing.
-use Rattle.std.proofs.Common.{rules}
 use Rattle.region.proofs.Whole.{searched-judged}
 use Rattle.region.proofs.judge.judge.Goals as goal
 

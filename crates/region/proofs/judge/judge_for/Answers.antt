@@ -1,6 +1,6 @@
 -- `region::judge::judge_for` meets its contract: it asks what *sound* asks, and then of the tail whether it is blank; where the name is met, the scan tells.
 -- Assumes nothing.
-use Rattle.std.proofs.Common.{sym, refl, ◌∙◌, rules}
+use Rattle.std.proofs.Common.{sym, refl, ◌∙◌}
 use Rattle.region.proofs.Whole.{wrong-header, wrong-entry, all_right, unsound, sounds, scan-sound, scan-tail, searched-sound, searched-unsound}
 use Rattle.region.proofs.judge.judge_for.Goals as goal
 

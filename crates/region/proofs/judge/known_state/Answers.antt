@@ -1,6 +1,5 @@
 -- `region::judge::known_state` meets its contract: a state is one of the six, or none of them.
 -- Assumes nothing.
-use Rattle.std.proofs.Common.{ne_eqb}
 use Rattle.region.proofs.judge.known_state.Goals as goal
 
 pub returns-in-255 : goal.returns-in-255

@@ -1,6 +1,5 @@
 -- `region::judge::met_in` meets its contract: both walks pass all entries. Assumes nothing.
 use Rattle.region.proofs.Meetings.{met-walked}
-use Rattle.std.proofs.Common.{rules}
 use Rattle.region.proofs.judge.met_in.Goals as goal
 
 pub returns : goal.returns

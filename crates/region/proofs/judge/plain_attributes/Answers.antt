@@ -1,6 +1,5 @@
 -- `region::judge::plain_attributes` meets its contract: attributes are one of the four, or none of them.
 -- Assumes nothing.
-use Rattle.std.proofs.Common.{ne_eqb}
 use Rattle.region.proofs.judge.plain_attributes.Goals as goal
 
 pub returns-in-3 : goal.returns-in-3

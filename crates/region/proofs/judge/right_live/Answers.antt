@@ -1,6 +1,6 @@
 -- `region::judge::right_live` meets its contract: each test that fails decides, and where the others hold the name does, or an error record's attributes and name.
 -- Assumes nothing.
-use Rattle.std.proofs.Common.{sym, ap, ◌∙◌, arith, rules}
+use Rattle.std.proofs.Common.{sym, ap, ◌∙◌, arith}
 use Rattle.model.specs.Name.{well_named}
 use Rattle.region.proofs.Judging.{right-dead, right-empty, right-large, right-plain, right-other, front-name}
 use Rattle.region.proofs.judge.right_live.Goals as goal

@@ -1,6 +1,6 @@
 -- `region::judge::right_record` meets its contract: other attributes than 0x0F are no error record's, and with them the name decides.
 -- Assumes nothing.
-use Rattle.std.proofs.Common.{ℕ, Bool, ◌&&◌, eqb, List, sym, ap, ◌∙◌, ap₂, rules, ne_eqb}
+use Rattle.std.proofs.Common.{ℕ, Bool, ◌&&◌, eqb, List, sym, ap, ◌∙◌, ap₂, ne_eqb}
 use mathlib.Core.Bool.{and-false}
 use Rattle.model.specs.Name.{keyed, well_named, record_name}
 use Rattle.model.specs.Walk.{entry_key}

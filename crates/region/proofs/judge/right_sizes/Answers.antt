@@ -1,5 +1,5 @@
 -- `region::judge::right_sizes` meets its contract: where the characters are few enough the bytes are even. Assumes nothing.
-use Rattle.std.proofs.Common.{◌≤◌, sym, true≢false, arith, rules, leb-true}
+use Rattle.std.proofs.Common.{sym, true≢false, arith, leb-true}
 use Rattle.region.proofs.judge.right_sizes.Goals as goal
 
 pub returns-then-size-lt1 : goal.returns-then-size-lt1

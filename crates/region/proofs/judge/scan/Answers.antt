@@ -1,5 +1,5 @@
 -- `region::judge::scan` meets its contract: what the pass by marks knows is right, and else the pass by a table decides, and in a sound region a walk looks for the name. Assumes nothing.
-use Rattle.std.proofs.Common.{sym, ◌∙◌, true≢false, rules}
+use Rattle.std.proofs.Common.{sym, ◌∙◌, true≢false}
 use Rattle.region.proofs.Meetings.{surveys-right}
 use Rattle.region.proofs.judge.scan.Goals as goal
 

@@ -2,18 +2,16 @@
 -- entry passed the mark is noted, and no name is doubled in the whole walk just if none from here on is, neither among themselves nor with those passed; the sought
 -- name is met among them where that is told. What is left of the region falls; in the inner loop it is no more than where that began.
 -- Assumes nothing.
-use Rattle.std.proofs.Common.{◌≡◌, ℕ, ◌+◌, ◌-◌, ◌≤◌, true, length, sym, ap, ◌∙◌, true≢false, arith, rules}
-use borrow.Author.Tests.{not-true, not-false}
+use Rattle.std.proofs.Common.{ℕ, ◌+◌, true, sym, ap, ◌∙◌, true≢false, arith}
 use Rattle.model.specs.Walk.{walk_end_def}
-use Rattle.model.specs.Beside.{from_in}
 use Rattle.model.proofs.Tests.{and_split}
 use Rattle.region.specs.Walk.{entry_as}
 use Rattle.region.specs.Met.{key_from, is_sought_def}
 use Rattle.region.proofs.Judging.{front-sound}
 use Rattle.region.proofs.Passing.{ended, doubled}
 use Rattle.region.proofs.Meetings.{meets-end, met-doubled, surveys-right, surveys-wrong}
-use Rattle.region.proofs.Marked.{Passed, here-mark, begin, next, next-first, next-sought}
-use Rattle.region.proofs.Scanning.{singly, scanned, scan-begin, scan-next, scan-stop, scan-right, scan-wrong, scan-doubled}
+use Rattle.region.proofs.Marked.{here-mark, begin, next, next-first, next-sought}
+use Rattle.region.proofs.Scanning.{scanned, scan-begin, scan-next, scan-stop, scan-right, scan-wrong, scan-doubled}
 use Rattle.region.proofs.Turns.{at_entry, at-end}
 use Rattle.region.proofs.Usuals.{turned-usual, sound-usual, room-usual, mark-usual}
 use Rattle.region.proofs.judge.scan_by_marks.Goals as goal

@@ -1,5 +1,5 @@
 -- `region::judge::usual_at` meets its contract: what is lent is the rest of the region, which holds a header. Assumes nothing.
-use Rattle.std.proofs.Common.{◌≡◌, ℕ, ◌+◌, ◌-◌, ◌≤◌, List, length, ap, subst, arith, length-drop, rules}
+use Rattle.std.proofs.Common.{ℕ, List, length, ap, subst, arith, length-drop}
 use Rattle.region.specs.Judge.{UsualOf}
 use Rattle.region.proofs.Turns.{rest}
 use Rattle.region.proofs.judge.usual_at.Goals as goal

@@ -1,5 +1,5 @@
 -- `region::judge::usual_front` meets its contract: the word of eight bytes at the front tells each of the fields in it. Assumes nothing.
-use Rattle.std.proofs.Common.{◌≡◌, ℕ, ◌+◌, ◌*◌, ◌/◌, ◌%◌, ◌<◌, sym, ap, ◌∙◌, true≢false, arith, rules}
+use Rattle.std.proofs.Common.{◌≡◌, sym, ◌∙◌, true≢false, arith}
 use Rattle.region.proofs.Usuals.{front-fields}
 use Rattle.region.proofs.judge.usual_front.Goals as goal
 

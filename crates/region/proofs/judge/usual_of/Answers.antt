@@ -1,10 +1,10 @@
 -- `region::judge::usual_of` meets its contract: it asks each thing in turn. Assumes nothing.
-use Rattle.std.proofs.Common.{◌≡◌, ℕ, ◌+◌, ◌-◌, ◌%◌, ◌≤◌, length, take, drop, sym, refl, ap, ◌∙◌, subst, ap₂, arith, rules}
+use Rattle.std.proofs.Common.{ℕ, ◌+◌, ◌%◌, length, sym, refl, ap, ◌∙◌, subst, ap₂, arith}
 use Rattle.model.specs.Layout.{header_length}
 use Rattle.model.specs.Lists.{u32_at}
 use Rattle.model.specs.Name.{well_named}
 use Rattle.model.proofs.Encode.{length_part}
-use Rattle.region.specs.Judge.{RightSizes, UsualOf}
+use Rattle.region.specs.Judge.{RightSizes}
 use Rattle.region.proofs.Usuals.{part-is}
 use Rattle.region.proofs.judge.usual_of.Goals as goal
 

@@ -1,5 +1,4 @@
 -- `region::judge::with_tail` meets its contract: the tail is cut and read. Assumes nothing.
-use Rattle.std.proofs.Common.{rules}
 use Rattle.region.proofs.judge.with_tail.Goals as goal
 
 pub returns : goal.returns

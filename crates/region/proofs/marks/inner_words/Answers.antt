@@ -1,5 +1,5 @@
 -- `region::marks::inner_words` meets its contract: the words are those of the definition. Assumes nothing.
-use Rattle.std.proofs.Common.{◌∙◌, ap₂, rules}
+use Rattle.std.proofs.Common.{◌∙◌, ap₂}
 use Rattle.region.specs.Marks.{plus, inner_words_def}
 use Rattle.region.proofs.marks.inner_words.Goals as goal
 

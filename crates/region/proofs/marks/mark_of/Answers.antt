@@ -1,5 +1,5 @@
 -- `region::marks::mark_of` meets its contract: a live entry's mark is that of its own GUID and name. Assumes nothing.
-use Rattle.std.proofs.Common.{sym, ap, ◌∙◌, arith, rules}
+use Rattle.std.proofs.Common.{sym, ap, ◌∙◌, arith}
 use Rattle.region.specs.Marks.{key_mark, dead_mark}
 use Rattle.region.proofs.Marked.{live-mark, dead-mark}
 use Rattle.region.proofs.marks.mark_of.Goals as goal

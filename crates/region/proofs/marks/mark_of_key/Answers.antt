@@ -1,5 +1,5 @@
 -- `region::marks::mark_of_key` meets its contract. Assumes nothing.
-use Rattle.std.proofs.Common.{arith, rules}
+use Rattle.std.proofs.Common.{arith}
 use Rattle.region.specs.Marks.{key_mark}
 use Rattle.region.proofs.marks.mark_of_key.Goals as goal
 

@@ -1,6 +1,6 @@
 -- `region::marks::middle_words` meets its contract. The loop's invariant: with the words left the sum comes to that of all; they begin within the key.
 -- Assumes nothing.
-use Rattle.std.proofs.Common.{◌≡◌, ℕ, zero, suc, ◌+◌, ◌-◌, ◌*◌, ◌/◌, ◌<◌, ◌≤◌, List, length, sym, refl, ap, ◌∙◌, arith, rules}
+use Rattle.std.proofs.Common.{◌≡◌, ℕ, zero, suc, ◌+◌, ◌-◌, ◌<◌, List, sym, refl, ap, ◌∙◌, arith}
 use Rattle.slices.specs.Agree.{u64_at}
 use Rattle.region.specs.Marks.{plus, words_from, middle_words_def}
 use Rattle.region.proofs.marks.middle_words.Goals as goal

@@ -1,8 +1,7 @@
 -- `region::marks::middle_words` meets its contract. The loop's invariant: with the words left the sum comes to that of all; they begin within the key.
 -- Assumes nothing.
-use Rattle.std.proofs.Common.{◌≡◌, ℕ, zero, suc, ◌+◌, ◌-◌, ◌*◌, ◌/◌, ◌<◌, ◌≤◌, List, length, sym, refl, ap, ◌∙◌, arith, rules}
-use Rattle.slices.specs.Agree.{u64_at}
-use Rattle.region.specs.Marks.{plus, words_from, middle_words_def}
+use Rattle.std.proofs.Common.{◌≡◌, ◌+◌, ◌*◌, ◌≤◌, length}
+use Rattle.region.specs.Marks.{words_from, middle_words_def}
 use Rattle.region.proofs.marks.middle_words.Given as goal
 
 abbrev pub invariant-loop-left : goal.invariant-loop-left

@@ -1,5 +1,5 @@
 -- `region::marks::outer_words` meets its contract: the words are those of the definition. Assumes nothing.
-use Rattle.std.proofs.Common.{◌∙◌, ap₂, rules}
+use Rattle.std.proofs.Common.{◌∙◌, ap₂}
 use Rattle.region.specs.Marks.{plus, outer_words_def}
 use Rattle.region.proofs.marks.outer_words.Goals as goal
 

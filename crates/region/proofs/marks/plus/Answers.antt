@@ -1,5 +1,4 @@
 -- `region::marks::plus` meets its contract, which is that of the sum that it calls. Assumes nothing.
-use Rattle.std.proofs.Common.{rules}
 use Rattle.region.specs.Marks.{plus}
 use Rattle.region.proofs.marks.plus.Goals as goal
 

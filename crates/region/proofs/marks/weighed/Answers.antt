@@ -1,5 +1,5 @@
 -- `region::marks::weighed` meets its contract: it sums the words that the definition sums. Assumes nothing.
-use Rattle.std.proofs.Common.{length, ◌∙◌, ap₂, arith, rules, le-leb}
+use Rattle.std.proofs.Common.{length, ◌∙◌, ap₂, arith, le-leb}
 use borrow.Author.Tests.{lt-leb}
 use Rattle.region.specs.Marks.{plus, weighed}
 use Rattle.region.proofs.marks.weighed.Goals as goal

@@ -1,5 +1,5 @@
 -- `region::sorted::insert` is safe: what moves up stays within the table, since there is room for one more. Assumes nothing.
-use Rattle.std.proofs.Common.{◌≤◌, rules}
+use Rattle.std.proofs.Common.{◌≤◌}
 use Rattle.region.proofs.sorted.insert.Given as goal
 
 abbrev pub invariant-loop-i : goal.invariant-loop-i

@@ -1,5 +1,5 @@
 -- `region::sorted::is_before` meets its contract: it asks what the definition asks, of the rest of the region from the offset on. Assumes nothing.
-use Rattle.std.proofs.Common.{◌≡◌, ℕ, ◌+◌, ◌-◌, ◌<◌, ◌≤◌, false, ltb, ◌≢◌, List, length, get_or, take, drop, sym, ap, ◌∙◌, ap₂, arith, length-drop, rules, eq-eqb, ne_eqb, le-leb}
+use Rattle.std.proofs.Common.{◌≡◌, ℕ, ◌+◌, ◌-◌, ◌<◌, ◌≤◌, false, ltb, ◌≢◌, List, length, get_or, take, drop, sym, ap, ◌∙◌, ap₂, arith, eq-eqb, ne_eqb, le-leb}
 use borrow.Author.Tests.{lt-leb}
 use Rattle.model.specs.declared.Layout.{Layout}
 use Rattle.model.specs.Lists.{u32_at}

@@ -1,7 +1,6 @@
 -- `region::sorted::key_before` meets its contract. The loop's invariant: the words left, and then the last, decide as all do; they begin within the bytes.
 -- Assumes nothing.
-use Rattle.std.proofs.Common.{◌≡◌, ℕ, zero, suc, ◌+◌, ◌-◌, ◌*◌, ◌<◌, ◌≤◌, ltb, ◌≢◌, List, length, sym, refl, ap, ◌∙◌, ap₂, arith, rules, eq-eqb, ne_eqb}
-use Rattle.slices.specs.Agree.{u64_at}
+use Rattle.std.proofs.Common.{◌≡◌, ◌+◌, ◌*◌, ◌≤◌, length}
 use Rattle.region.specs.Sorted.{words_before, key_before_def}
 use Rattle.region.proofs.sorted.key_before.Given as goal
 

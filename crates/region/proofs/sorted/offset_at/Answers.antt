@@ -1,5 +1,5 @@
 -- `region::sorted::offset_at` meets its contract: within a list what is there does not depend on what is past its end. Assumes nothing.
-use Rattle.std.proofs.Common.{◌≡◌, ℕ, zero, suc, ◌<◌, List, [], ◌∷◌, length, get_or, sym, refl, arith, rules}
+use Rattle.std.proofs.Common.{◌≡◌, ℕ, zero, suc, ◌<◌, List, [], ◌∷◌, length, get_or, sym, refl, arith}
 use lib.ListN.{get_or-eq_default}
 use Rattle.region.proofs.sorted.offset_at.Goals as goal
 

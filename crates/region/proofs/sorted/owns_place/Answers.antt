@@ -1,5 +1,5 @@
 -- `region::sorted::owns_place` meets its contract: the key is the GUID and name of the entry, and what is at its place is compared with the offset. Assumes nothing.
-use Rattle.std.proofs.Common.{◌≡◌, ℕ, true, false, eqb, List, ◌++◌, get_or, drop, sym, ap, ◌∙◌, ap₂, rules}
+use Rattle.std.proofs.Common.{◌≡◌, ℕ, true, false, eqb, List, ◌++◌, get_or, drop, sym, ap, ◌∙◌}
 use Rattle.model.specs.declared.Layout.{Layout}
 use Rattle.model.specs.Entry.{header_fields_in}
 use Rattle.model.specs.Walk as walk

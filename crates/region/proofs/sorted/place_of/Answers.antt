@@ -1,5 +1,5 @@
 -- `region::sorted::place_of` meets its contract. The loop's invariant: the halvings left come to what all come to. Assumes nothing.
-use Rattle.std.proofs.Common.{◌≡◌, ℕ, zero, suc, ◌+◌, ◌-◌, ◌*◌, ◌/◌, ◌<◌, ◌≤◌, Bool, cond, List, length, get_or, sym, refl, ap, ◌∙◌, ⊎_elim, arith, rules, le-leb}
+use Rattle.std.proofs.Common.{◌≡◌, ℕ, zero, suc, ◌+◌, ◌-◌, ◌/◌, ◌<◌, Bool, cond, List, length, get_or, sym, refl, ap, ◌∙◌, arith, le-leb}
 use borrow.Author.Tests.{lt-leb}
 use Rattle.model.specs.declared.Layout.{Layout}
 use Rattle.region.specs.Sorted.{is_before_def, halving, place_of_def}
@@ -40,7 +40,7 @@ loop-left-preserved c =
     let asked = c.is_before.ensures ∙ ap (λ (o : ℕ). is_before_def a.y a.region.now o a.state a.key.now) c.offset_at.ensures in
     let on = l.loop-left.invariant.2 ∙ one_more f l.loop-left.left l.loop-left.step l.loop-left.low (omega arith) in
     elim c.if-is_before.branch [
-      then-is_before w ↦ (omega arith, omega arith, on ∙ ap (halving f (l.loop-left.left - 1) (l.loop-left.step / 2)) (rw (sym asked ∙ w.if-is_before.true) (sym w.low-is)))
+      | then-is_before w ↦ (omega arith, omega arith, on ∙ ap (halving f (l.loop-left.left - 1) (l.loop-left.step / 2)) (rw (sym asked ∙ w.if-is_before.true) (sym w.low-is)))
       | else-is_before w ↦ (omega arith, omega arith, on ∙ ap (halving f (l.loop-left.left - 1) (l.loop-left.step / 2)) (rw (sym asked ∙ w.if-is_before.false) (sym w.low-is)))
     ]
 

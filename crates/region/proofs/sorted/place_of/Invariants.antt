@@ -1,8 +1,7 @@
 -- `region::sorted::place_of` meets its contract. The loop's invariant: the halvings left come to what all come to. Assumes nothing.
-use Rattle.std.proofs.Common.{◌≡◌, ℕ, zero, suc, ◌+◌, ◌-◌, ◌*◌, ◌/◌, ◌<◌, ◌≤◌, Bool, cond, List, length, get_or, sym, refl, ap, ◌∙◌, ⊎_elim, arith, rules, le-leb}
-use borrow.Author.Tests.{lt-leb}
+use Rattle.std.proofs.Common.{◌≡◌, ℕ, ◌+◌, ◌*◌, ◌≤◌, Bool, List, get_or}
 use Rattle.model.specs.declared.Layout.{Layout}
-use Rattle.region.specs.Sorted.{is_before_def, halving, place_of_def}
+use Rattle.region.specs.Sorted.{is_before_def, halving}
 use Rattle.region.proofs.sorted.place_of.Given as goal
 
 abbrev before : Layout → List ℕ → List ℕ → ℕ → List ℕ → ℕ → Bool

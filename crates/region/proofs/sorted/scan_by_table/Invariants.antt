@@ -2,15 +2,11 @@
 -- are settled, every entry passed is at its place; no name is doubled in the whole walk just if none from here on is, neither among themselves nor with those passed.
 -- What is left of the region falls.
 -- Assumes nothing.
-use Rattle.std.proofs.Common.{◌≡◌, ◌-◌, Bool, not, ◌&&◌, length, sym, ap, ◌∙◌, arith, rules}
-use borrow.Author.Tests.{not-true, not-false}
-use Rattle.model.specs.Walk.{walk_end_def}
+use Rattle.std.proofs.Common.{◌≡◌, ◌-◌, length}
 use Rattle.model.specs.Beside.{from_in}
-use Rattle.region.proofs.Judging.{front-sound}
-use Rattle.region.proofs.Passing.{Passing, start, ended, doubled}
-use Rattle.region.proofs.Scanning.{singly, scanned, scan-begin, scan-next, scan-stop, scan-right, scan-wrong, scan-doubled}
-use Rattle.region.proofs.Settled.{Settled, next}
-use Rattle.region.proofs.Turns.{at_entry, at-end}
+use Rattle.region.proofs.Passing.{Passing}
+use Rattle.region.proofs.Scanning.{singly, scanned}
+use Rattle.region.proofs.Settled.{Settled}
 use Rattle.region.proofs.sorted.scan_by_table.Given as goal
 
 abbrev pub invariant-loop-e : goal.invariant-loop-e

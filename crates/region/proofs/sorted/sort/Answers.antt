@@ -1,5 +1,4 @@
 -- `region::sorted::sort` is safe and ends: there are no more entries in the table than places, and what is left of the region falls. Assumes nothing.
-use Rattle.std.proofs.Common.{◌-◌, ◌≤◌, length, rules}
 use Rattle.region.proofs.Turns.{at_entry}
 use Rattle.region.proofs.sorted.sort.Goals as goal
 

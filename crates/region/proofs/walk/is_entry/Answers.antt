@@ -1,6 +1,6 @@
 -- `region::walk::is_entry` meets its contract: what it compares, in its own order, is what the definition does.
 -- Assumes nothing.
-use Rattle.std.proofs.Common.{◌≡◌, true, false, length, sym, ap, ◌∙◌, rules}
+use Rattle.std.proofs.Common.{◌≡◌, true, false, length, sym, ap, ◌∙◌}
 use Rattle.model.specs.Lists.{same}
 use Rattle.region.specs.Walk.{entry_as}
 use Rattle.region.proofs.Entries.{other-state, other_length, by_key}

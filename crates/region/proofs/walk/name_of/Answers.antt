@@ -1,5 +1,5 @@
 -- `region::walk::name_of` meets its contract: the part handed on is the rest of the region, from which the definition reads too. Assumes nothing.
-use Rattle.std.proofs.Common.{ℕ, List, ap, ◌∙◌, rules}
+use Rattle.std.proofs.Common.{ℕ, List, ap, ◌∙◌}
 use Rattle.model.specs.Walk.{placed}
 use Rattle.layout.specs.Head.{name_in}
 use Rattle.region.specs.Walk.{entry_as}

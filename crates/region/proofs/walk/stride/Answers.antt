@@ -1,6 +1,6 @@
 -- `region::walk::stride` meets its contract: the test of the state picks the same case as the definition's.
 -- Assumes nothing.
-use Rattle.std.proofs.Common.{arith, rules, eq-eqb, ne_eqb}
+use Rattle.std.proofs.Common.{arith, eq-eqb, ne_eqb}
 use Rattle.region.proofs.walk.stride.Goals as goal
 
 pub returns-then-e-eq255 : goal.returns-then-e-eq255

@@ -1,6 +1,6 @@
 -- `region::walk::turn` meets its contract: the part that it lends to `read_head` is the rest of the region, and past the end nothing stands.
 -- Assumes nothing.
-use Rattle.std.proofs.Common.{◌≡◌, drop, sym, ap, ◌∙◌, arith, rules}
+use Rattle.std.proofs.Common.{◌≡◌, drop, sym, ap, ◌∙◌, arith}
 use Rattle.layout.specs.Head.{head_in}
 use Rattle.layout.specs.declared.Head.TheVariants.{Present, End}
 use Rattle.region.specs.Walk.{turn_in}

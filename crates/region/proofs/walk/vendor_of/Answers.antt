@@ -1,5 +1,5 @@
 -- `region::walk::vendor_of` meets its contract: the part handed on is the rest of the region, from which the definition reads too. Assumes nothing.
-use Rattle.std.proofs.Common.{ℕ, List, ap, ◌∙◌, rules}
+use Rattle.std.proofs.Common.{ℕ, List, ap, ◌∙◌}
 use Rattle.model.specs.Entry.{header_fields_in}
 use Rattle.region.specs.Walk.{vendor_as}
 use Rattle.region.proofs.walk.vendor_of.Goals as goal
