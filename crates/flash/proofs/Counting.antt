@@ -12,7 +12,7 @@ use lib.ListN.{length}
 use lib.Dec.{eqb, ltb}
 use borrow.Author.Tests.{ltb-true, ltb-false, eq-eqb, ne_eqb}
 use Rattle.model.specs.Lists.{part}
-use Rattle.model.specs.Stores.{Store, page, pages, joined_to}
+use Rattle.model.specs.Stores.{page, pages, joined_to}
 use Rattle.model.proofs.Stores.{pages-first}
 use Rattle.plan.specs.Plan.{run_of, count_of}
 use Rattle.plan.proofs.Stores.{length_part}

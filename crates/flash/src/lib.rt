@@ -1,6 +1,7 @@
 // The executor: the only functions that write an image. It carries out the operations of a plan store by store, cut into pages of w bytes, and ends where n stores
 // are made or one fails.
 #![tactic(auto)]
+
 ghost use Rattle.std.specs.Prelude.{◌≡◌, true, not, cond, ◌&&◌, ◌+◌, ◌*◌, ◌-◌, ◌%◌, ◌≤◌, ◌<◌, min, ◌≢◌, length, get_or, eqb, leb, ltb};
 ghost use Rattle.model.specs.Lists.{among, part};
 ghost use Rattle.model.specs.Image.{block};

@@ -4,7 +4,6 @@ use mathlib.Core.Path.{sym, ◌∙◌}
 use lib.ListN.{get_or}
 use Rattle.model.specs.Stores.{falls}
 use Rattle.flash.proofs.Dead.{touched-behind}
-use borrow.Author.Rules.{rules}
 use Rattle.flash.proofs.before_dead.Goals as goal
 
 pub overflow_sub-result : goal.overflow_sub-result

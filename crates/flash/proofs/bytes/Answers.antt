@@ -1,7 +1,6 @@
 -- `flash::bytes` meets its contract: no more than are left, and of those the ones before the first that fails. Assumes nothing.
 use native.Mathlib.Omega.{arith}
 use Rattle.flash.proofs.Dead.{programmed, reach-within}
-use borrow.Author.Rules.{rules}
 use Rattle.flash.proofs.bytes.Goals as goal
 
 pub put_run-requires : goal.put_run-requires

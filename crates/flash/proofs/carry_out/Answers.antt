@@ -2,7 +2,6 @@
 use mathlib.Core.Path.{sym}
 use lib.Seq.{length-take-le}
 use Rattle.flash.proofs.Ended.{accepted-end, refused_end}
-use borrow.Author.Rules.{rules}
 use Rattle.flash.proofs.carry_out.Goals as goal
 
 pub slice_bounds-dead-end : goal.slice_bounds-dead-end

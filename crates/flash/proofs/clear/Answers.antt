@@ -1,11 +1,10 @@
 -- `flash::clear` meets its contract. The loop's invariant: the block's first i bytes are FF. Assumes nothing.
-use Prim.Native.Nat.{◌*◌, ◌-◌, ◌≤◌}
+use Prim.Native.Nat.{◌*◌}
 use native.Mathlib.Omega.{arith}
 use mathlib.Core.Path.{◌≡◌, refl, sym, ◌∙◌}
-use lib.ListN.{length, length-set}
-use borrow.Author.Rules.{rules}
+use lib.ListN.{length-set}
 use Rattle.model.specs.Image.{block}
-use Rattle.flash.proofs.Turns.{filled, filled_none, filled_more, filled-block}
+use Rattle.flash.proofs.Turns.{filled_none, filled_more, filled-block}
 use Rattle.flash.proofs.clear.Goals as goal
 
 pub overflow_mul-at : goal.overflow_mul-at

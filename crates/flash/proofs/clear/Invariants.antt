@@ -1,11 +1,8 @@
 -- `flash::clear` meets its contract. The loop's invariant: the block's first i bytes are FF. Assumes nothing.
-use Prim.Native.Nat.{◌*◌, ◌-◌, ◌≤◌}
-use native.Mathlib.Omega.{arith}
-use mathlib.Core.Path.{◌≡◌, refl, sym, ◌∙◌}
-use lib.ListN.{length, length-set}
-use borrow.Author.Rules.{rules}
-use Rattle.model.specs.Image.{block}
-use Rattle.flash.proofs.Turns.{filled, filled_none, filled_more, filled-block}
+use Prim.Native.Nat.{◌-◌, ◌≤◌}
+use mathlib.Core.Path.{◌≡◌}
+use lib.ListN.{length}
+use Rattle.flash.proofs.Turns.{filled}
 use Rattle.flash.proofs.clear.Given as goal
 
 abbrev pub invariant-loop-i : goal.invariant-loop-i

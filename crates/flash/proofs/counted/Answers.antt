@@ -1,11 +1,10 @@
 -- `flash::counted` meets its contract: the places after the first, by pages, and one. Assumes nothing.
-use Prim.Native.Nat.{suc, ◌-◌, ◌/◌}
+use Prim.Native.Nat.{suc, ◌-◌}
 use native.Mathlib.Nat.{div-le_self}
 use native.Mathlib.Omega.{arith}
 use mathlib.Core.Path.{◌≡◌, sym, ap, ◌∙◌}
 use Rattle.plan.specs.Plan.{count_of}
 use Rattle.flash.proofs.Counting.{count_none, count-suc}
-use borrow.Author.Rules.{rules}
 use Rattle.flash.proofs.counted.Goals as goal
 
 pub returns-then-r-eq0 : goal.returns-then-r-eq0

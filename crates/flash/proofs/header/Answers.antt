@@ -4,7 +4,6 @@ use native.Mathlib.Omega.{arith}
 use Rattle.plan.specs.declared.Step.TheVariants.{Header}
 use Rattle.plan.proofs.Stores.{header-piece}
 use Rattle.flash.proofs.Dead.{piece-turned, header-short, header-long, header-places}
-use borrow.Author.Rules.{rules}
 use Rattle.flash.proofs.header.Goals as goal
 
 pub header_bytes-requires : goal.header_bytes-requires

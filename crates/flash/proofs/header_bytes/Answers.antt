@@ -4,7 +4,6 @@ use native.Mathlib.Omega.{arith}
 use Rattle.plan.specs.declared.Step.TheVariants.{Header}
 use Rattle.plan.proofs.Stores.{front-piece, back-piece}
 use Rattle.flash.proofs.Dead.{piece-turned}
-use borrow.Author.Rules.{rules}
 use Rattle.flash.proofs.header_bytes.Goals as goal
 
 pub returns-then-i-lt-STATE : goal.returns-then-i-lt-STATE

@@ -1,11 +1,7 @@
 -- `flash::is_dead` meets its contract: the addresses up to `d` are others. Assumes nothing.
-use Prim.Native.Nat.{◌-◌, ◌≤◌}
 use native.Mathlib.Omega.{arith}
-use mathlib.Core.Path.{◌≡◌, refl, sym, ◌∙◌}
-use lib.ListN.{length, drop}
-use Rattle.model.specs.Lists.{among}
+use mathlib.Core.Path.{refl, sym, ◌∙◌}
 use Rattle.flash.proofs.Dead.{dead-here, dead-next, dead_end}
-use borrow.Author.Rules.{rules}
 use Rattle.flash.proofs.is_dead.Goals as goal
 
 pub loop-d-init : goal.loop-d-init

@@ -1,11 +1,8 @@
 -- `flash::is_dead` meets its contract: the addresses up to `d` are others. Assumes nothing.
 use Prim.Native.Nat.{◌-◌, ◌≤◌}
-use native.Mathlib.Omega.{arith}
-use mathlib.Core.Path.{◌≡◌, refl, sym, ◌∙◌}
+use mathlib.Core.Path.{◌≡◌}
 use lib.ListN.{length, drop}
 use Rattle.model.specs.Lists.{among}
-use Rattle.flash.proofs.Dead.{dead-here, dead-next, dead_end}
-use borrow.Author.Rules.{rules}
 use Rattle.flash.proofs.is_dead.Given as goal
 
 abbrev pub invariant-loop-d : goal.invariant-loop-d

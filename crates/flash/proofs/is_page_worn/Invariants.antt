@@ -1,12 +1,9 @@
 -- `flash::is_page_worn` meets its contract: no byte of the page is one of the first `d` addresses, with a bit to fall. Assumes nothing.
 use Prim.Native.Nat.{◌-◌, ◌≤◌}
-use native.Mathlib.Omega.{arith}
-use mathlib.Core.Path.{◌≡◌, refl, sym, ap, ◌∙◌}
-use lib.ListN.{length, get_or, drop}
+use mathlib.Core.Path.{◌≡◌}
+use lib.ListN.{length, drop}
 use Rattle.model.specs.Lists.{part}
 use Rattle.model.specs.Stores.{page, fails}
-use Rattle.flash.proofs.Dead.{touched, page-here, page-next, page-end}
-use borrow.Author.Rules.{rules}
 use Rattle.flash.proofs.is_page_worn.Given as goal
 
 abbrev pub invariant-loop-d : goal.invariant-loop-d

@@ -1,7 +1,6 @@
 -- `flash::is_worn` meets its contract, by its two tests. Assumes nothing.
 use mathlib.Core.Path.{◌∙◌}
 use Rattle.flash.proofs.Dead.{not-worn, worn-if}
-use borrow.Author.Rules.{rules}
 use Rattle.flash.proofs.is_worn.Goals as goal
 
 pub returns-then-old-v : goal.returns-then-old-v

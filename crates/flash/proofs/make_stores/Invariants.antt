@@ -1,16 +1,12 @@
 -- `flash::make_stores` meets its contract. The loop's invariant: the image is as after the first `made` stores of the call's list, of which none failed, n only
 -- ending them (`Underway`).
 -- Assumes nothing.
-use Prim.Native.Nat.{ℕ, ◌+◌, ◌-◌, ◌≤◌}
-use native.Mathlib.Omega.{arith}
-use mathlib.Core.Path.{◌≡◌, refl, sym, ap, ◌∙◌, subst}
-use mathlib.Core.List.{List}
+use Prim.Native.Nat.{◌+◌, ◌-◌, ◌≤◌}
+use mathlib.Core.Path.{◌≡◌}
 use lib.ListN.{length}
-use borrow.Author.Rules.{rules}
-use Rattle.plan.specs.Plan.{size_of, count_of, Fits, OneBit}
-use Rattle.plan.proofs.Stores.{step_at, fits-at}
-use Rattle.plan.proofs.Carried.{Underway, unchanged, underway-begins, underway-turns, underway-next, underway-done, underway-stopped, underway-worn}
-use Rattle.flash.proofs.Counting.{count_none, count-positive}
+use Rattle.plan.specs.Plan.{size_of}
+use Rattle.plan.proofs.Stores.{step_at}
+use Rattle.plan.proofs.Carried.{Underway}
 use Rattle.flash.proofs.make_stores.Given as goal
 
 abbrev pub invariant-loop-op : goal.invariant-loop-op

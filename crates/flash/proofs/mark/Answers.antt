@@ -1,7 +1,6 @@
 -- `flash::mark` meets its contract: one bit differs, so the byte is stored, if its store does not fail. Assumes nothing.
 use Rattle.model.specs.Stores.{byte, fails, difference}
 use Rattle.flash.proofs.Dead.{mark_made, mark-failed}
-use borrow.Author.Rules.{rules}
 use Rattle.flash.proofs.mark.Goals as goal
 
 pub returns-then-put : goal.returns-then-put

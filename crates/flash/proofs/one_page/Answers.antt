@@ -1,7 +1,6 @@
 -- `flash::one_page` meets its contract: the page is stored whole, or fails. Assumes nothing.
 use mathlib.Core.Path.{refl, sym, ◌∙◌}
 use Rattle.flash.proofs.Dead.{page-made, page-failed}
-use borrow.Author.Rules.{rules}
 use Rattle.flash.proofs.one_page.Goals as goal
 
 pub returns-then-is_page_worn : goal.returns-then-is_page_worn

@@ -1,6 +1,5 @@
 -- `flash::pages` meets its contract: all of them are stored, or one page. Assumes nothing.
 use Rattle.flash.proofs.Dead.{pages-made}
-use borrow.Author.Rules.{rules}
 use Rattle.flash.proofs.pages.Goals as goal
 
 pub returns-then-len-left : goal.returns-then-len-left

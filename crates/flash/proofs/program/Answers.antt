@@ -1,5 +1,4 @@
 -- `flash::program` meets its contract, by w. Assumes nothing.
-use borrow.Author.Rules.{rules}
 use Rattle.flash.proofs.program.Goals as goal
 
 pub returns-then-w-eq1 : goal.returns-then-w-eq1

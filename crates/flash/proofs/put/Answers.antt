@@ -1,7 +1,6 @@
 -- `flash::put` meets its contract: the byte is stored where its store does not fail. Assumes nothing.
 use mathlib.Core.Path.{refl, sym, ◌∙◌}
 use Rattle.model.specs.Stores.{apply}
-use borrow.Author.Rules.{rules}
 use Rattle.flash.proofs.put.Goals as goal
 
 pub returns-then-is_worn : goal.returns-then-is_worn

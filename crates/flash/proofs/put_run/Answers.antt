@@ -1,13 +1,12 @@
 -- `flash::put_run` meets its contract: after j turns j bytes are stored. Assumes nothing.
-use Prim.Native.Nat.{ℕ, ◌+◌, ◌-◌, ◌≤◌}
+use Prim.Native.Nat.{ℕ, ◌+◌}
 use native.Mathlib.Omega.{arith}
-use mathlib.Core.Path.{◌≡◌, refl, sym, ap, ◌∙◌}
+use mathlib.Core.Path.{◌≡◌, refl, ap, ◌∙◌}
 use mathlib.Core.List.{List}
-use lib.ListN.{length, get_or, set, length-set}
+use lib.ListN.{get_or, set, length-set}
 use Rattle.model.specs.Stores.{apply_all}
 use Rattle.plan.specs.Plan.{run_of}
 use Rattle.flash.proofs.Dead.{run_none, run_more}
-use borrow.Author.Rules.{rules}
 use Rattle.flash.proofs.put_run.Goals as goal
 
 pub loop-j-init : goal.loop-j-init

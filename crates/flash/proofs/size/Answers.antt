@@ -1,6 +1,5 @@
 -- `flash::size` meets its contract, operation by operation. Assumes nothing.
 use mathlib.Core.Path.{◌∙◌}
-use borrow.Author.Rules.{rules}
 use Rattle.flash.proofs.size.Goals as goal
 
 pub returns-in-Header : goal.returns-in-Header

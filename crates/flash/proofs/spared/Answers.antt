@@ -1,14 +1,13 @@
 -- `flash::spared` meets its contract: so many bytes are stored before one fails at the first `d` addresses. Assumes nothing.
-use Prim.Native.Nat.{◌+◌, ◌-◌, ◌≤◌}
+use Prim.Native.Nat.{◌+◌}
 use native.Mathlib.Omega.{arith}
-use mathlib.Core.Path.{◌≡◌, ap, ◌∙◌, subst}
+use mathlib.Core.Path.{ap, ◌∙◌}
 use mathlib.Core.List.{List}
-use lib.ListN.{length, take}
+use lib.ListN.{take}
 use lib.Seq.{take_all}
 use Rattle.model.specs.Stores.{reach}
 use Rattle.plan.specs.Plan.{run_of}
 use Rattle.flash.proofs.Dead.{reach-no-dead, reach-next-dead, reach-within, short-at}
-use borrow.Author.Rules.{rules}
 use Rattle.flash.proofs.spared.Goals as goal
 
 pub loop-d-init : goal.loop-d-init

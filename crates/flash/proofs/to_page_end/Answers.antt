@@ -3,7 +3,6 @@ use Prim.Native.Nat.{◌%◌, ◌<◌}
 use native.Mathlib.Nat.{mod-lt}
 use native.Mathlib.Omega.{arith}
 use mathlib.Core.Path.{refl}
-use borrow.Author.Rules.{rules}
 use Rattle.flash.proofs.to_page_end.Goals as goal
 
 pub overflow_sub-n : goal.overflow_sub-n

@@ -3,7 +3,6 @@ use native.Mathlib.Omega.{arith}
 use mathlib.Core.Path.{sym}
 use lib.ListN.{get_or}
 use Rattle.flash.proofs.Dead.{below, beyond, within}
-use borrow.Author.Rules.{rules}
 use Rattle.flash.proofs.touches.Goals as goal
 
 pub returns-then-a-at : goal.returns-then-a-at

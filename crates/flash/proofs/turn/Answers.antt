@@ -6,7 +6,6 @@ use Rattle.model.specs.Image.{block}
 use Rattle.plan.specs.declared.Step.TheVariants.{Program}
 use Rattle.flash.proofs.Dead.{asked-as, turned_as, mark-turned, erase-turned, piece-turned}
 use Rattle.plan.proofs.Stores.{program-piece}
-use borrow.Author.Rules.{rules}
 use Rattle.flash.proofs.turn.Goals as goal
 
 pub mark-requires : goal.mark-requires
