@@ -12,7 +12,7 @@ use lib.Dec.{eqb, leb, ltb}
 use borrow.Author.Tests.{eqb-true, eqb-false, eq-eqb, ne_eqb, le-leb, lt-leb, lt-ltb, le-ltb, leb-true, ltb-true, ltb-false}
 use Rattle.model.specs.Layout.{authenticated}
 use Rattle.model.specs.Lists.{first, part}
-use Rattle.model.specs.Name.{Key, same_key_def}
+use Rattle.model.specs.Name.{same_key_def}
 use Rattle.model.specs.Image.{region_header_size}
 use Rattle.model.specs.Walk.{Entry, state_of, entry_key, placed}
 use Rattle.model.specs.Region.{entries, is_entry_def, added, replacing}

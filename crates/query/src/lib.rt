@@ -1,5 +1,6 @@
 // Which value a get and a next-name answer with: the entry of a region that holds it.
 #![tactic(auto)]
+
 ghost use Rattle.std.specs.Prelude.{◌≡◌, cond};
 ghost use Rattle.model.specs.Lists.{same};
 ghost use Rattle.model.specs.Name.{keyed, empty_name};

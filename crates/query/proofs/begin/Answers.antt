@@ -1,5 +1,4 @@
 -- `query::begin` meets its contract: the test is the definition's. Assumes nothing.
-use borrow.Author.Rules.{rules}
 use Rattle.query.proofs.begin.Goals as goal
 
 pub returns-then-empty : goal.returns-then-empty

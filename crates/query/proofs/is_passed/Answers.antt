@@ -4,7 +4,6 @@ use Rattle.model.specs.Name.{keyed}
 use Rattle.model.specs.Region.{entries}
 use Rattle.region.specs.Walk.{entry_at}
 use Rattle.query.proofs.Seen.{passed-sought, passed-other}
-use borrow.Author.Rules.{rules}
 use Rattle.query.proofs.is_passed.Goals as goal
 
 pub returns-then-is_sought : goal.returns-then-is_sought

@@ -2,7 +2,6 @@
 -- Assumes nothing.
 use mathlib.Core.Path.{sym, ◌∙◌}
 use Rattle.query.proofs.Seen.{seen_value, not-visible}
-use borrow.Author.Rules.{rules}
 use Rattle.query.proofs.is_seen.Goals as goal
 
 pub returns-then-is_visible : goal.returns-then-is_visible

@@ -1,7 +1,6 @@
 -- `query::is_shown` meets its contract: of an entry that is seen its owner decides. Assumes nothing.
 use mathlib.Core.Path.{sym, ◌∙◌}
 use Rattle.query.proofs.Seen.{shown-seen, shown-unseen}
-use borrow.Author.Rules.{rules}
 use Rattle.query.proofs.is_shown.Goals as goal
 
 pub returns-then-is_seen : goal.returns-then-is_seen

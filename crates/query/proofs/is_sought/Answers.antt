@@ -3,7 +3,6 @@
 use mathlib.Core.Path.{sym, ◌∙◌}
 use Rattle.model.specs.Name.{keyed}
 use Rattle.query.proofs.Seen.{sought-dead, sought-other, sought-named}
-use borrow.Author.Rules.{rules}
 use Rattle.query.proofs.is_sought.Goals as goal
 
 pub returns-then-is_entry : goal.returns-then-is_entry

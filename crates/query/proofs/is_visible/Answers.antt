@@ -1,6 +1,5 @@
 -- `query::is_visible` meets its contract: the bit decides, and only at runtime.
 -- Assumes nothing.
-use borrow.Author.Rules.{rules}
 use Rattle.query.proofs.is_visible.Goals as goal
 
 pub returns-then-runtime : goal.returns-then-runtime

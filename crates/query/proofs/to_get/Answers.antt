@@ -5,7 +5,6 @@ use Rattle.model.specs.Name.{keyed}
 use Rattle.region.proofs.Turns.{at_entry, at-end}
 use Rattle.query.proofs.Seen.{seen_none, get-here}
 use Rattle.query.proofs.Leading.{get_none, get-begin, sought-there}
-use borrow.Author.Rules.{rules}
 use Rattle.query.proofs.to_get.Goals as goal
 
 pub returns-then-place-eq0 : goal.returns-then-place-eq0

@@ -1,16 +1,11 @@
 -- `query::to_name` meets its contract: before the entry that holds the name's value none is a value of that name. The loop's invariant: the entry to name is, once the
 -- name is passed, the first of those shown from here on, and else the one that follows the name among them. What is left of the region falls.
 -- Assumes nothing.
-use Prim.Native.Nat.{◌-◌}
-use mathlib.Core.Path.{◌≡◌, sym, ◌∙◌}
-use lib.ListN.{length}
+use mathlib.Core.Path.{sym, ◌∙◌}
 use Rattle.model.specs.Name.{keyed}
-use Rattle.model.specs.Region.{entries}
 use Rattle.region.proofs.Turns.{at_entry, at-end}
-use Rattle.query.specs.Query.{going_on, entry_to_name}
-use Rattle.query.proofs.Seen.{shown_from, shown-none, going-none, name-here, name-next, name-before}
+use Rattle.query.proofs.Seen.{shown-none, going-none, name-here, name-next, name-before}
 use Rattle.query.proofs.Leading.{name-none, name-begin}
-use borrow.Author.Rules.{rules}
 use Rattle.query.proofs.to_name.Goals as goal
 
 pub returns-then-here-eq0 : goal.returns-then-here-eq0

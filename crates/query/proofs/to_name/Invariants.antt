@@ -2,15 +2,12 @@
 -- name is passed, the first of those shown from here on, and else the one that follows the name among them. What is left of the region falls.
 -- Assumes nothing.
 use Prim.Native.Nat.{◌-◌}
-use mathlib.Core.Path.{◌≡◌, sym, ◌∙◌}
+use mathlib.Core.Path.{◌≡◌}
 use lib.ListN.{length}
 use Rattle.model.specs.Name.{keyed}
 use Rattle.model.specs.Region.{entries}
-use Rattle.region.proofs.Turns.{at_entry, at-end}
 use Rattle.query.specs.Query.{going_on, entry_to_name}
-use Rattle.query.proofs.Seen.{shown_from, shown-none, going-none, name-here, name-next, name-before}
-use Rattle.query.proofs.Leading.{name-none, name-begin}
-use borrow.Author.Rules.{rules}
+use Rattle.query.proofs.Seen.{shown_from}
 use Rattle.query.proofs.to_name.Given as goal
 
 abbrev pub invariant-loop-e : goal.invariant-loop-e

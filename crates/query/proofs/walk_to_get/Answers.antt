@@ -1,18 +1,12 @@
 -- `query::walk_to_get` meets its contract: before the entry that holds the name's value none is a value of that name. The loop's invariant: the entry to get is the first of that
 -- name among those seen from here on. What is left of the region falls.
 -- Assumes nothing.
-use Prim.Native.Nat.{◌-◌}
-use mathlib.Core.Path.{◌≡◌, sym, ap, ◌∙◌}
-use lib.ListN.{length}
+use mathlib.Core.Path.{sym, ap, ◌∙◌}
 use Rattle.model.specs.Lists.{first}
-use Rattle.model.specs.Name.{keyed, same_key_def}
-use Rattle.model.specs.Walk.{entry_key}
-use Rattle.model.specs.Region.{entries}
+use Rattle.model.specs.Name.{keyed}
 use Rattle.region.proofs.Turns.{at_entry, at-end}
-use Rattle.query.specs.Query.{entry_to_get}
-use Rattle.query.proofs.Seen.{seen_from, seen_none, get-here, get-next}
+use Rattle.query.proofs.Seen.{seen_none, get-here, get-next}
 use Rattle.query.proofs.Leading.{get_none, get-begin}
-use borrow.Author.Rules.{rules}
 use Rattle.query.proofs.walk_to_get.Goals as goal
 
 pub returns-then-at-eq0 : goal.returns-then-at-eq0

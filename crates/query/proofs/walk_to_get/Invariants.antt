@@ -2,17 +2,14 @@
 -- name among those seen from here on. What is left of the region falls.
 -- Assumes nothing.
 use Prim.Native.Nat.{◌-◌}
-use mathlib.Core.Path.{◌≡◌, sym, ap, ◌∙◌}
+use mathlib.Core.Path.{◌≡◌}
 use lib.ListN.{length}
 use Rattle.model.specs.Lists.{first}
 use Rattle.model.specs.Name.{keyed, same_key_def}
 use Rattle.model.specs.Walk.{entry_key}
 use Rattle.model.specs.Region.{entries}
-use Rattle.region.proofs.Turns.{at_entry, at-end}
 use Rattle.query.specs.Query.{entry_to_get}
-use Rattle.query.proofs.Seen.{seen_from, seen_none, get-here, get-next}
-use Rattle.query.proofs.Leading.{get_none, get-begin}
-use borrow.Author.Rules.{rules}
+use Rattle.query.proofs.Seen.{seen_from}
 use Rattle.query.proofs.walk_to_get.Given as goal
 
 abbrev pub invariant-loop-e : goal.invariant-loop-e

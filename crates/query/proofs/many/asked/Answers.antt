@@ -1,9 +1,5 @@
 -- `query::many::asked` meets its contract: the tests are the definition's. Assumes nothing.
-use native.Mathlib.Omega.{arith}
-use mathlib.Core.Path.{sym, ap, ◌∙◌}
-use lib.ListN.{length}
 use Rattle.query.proofs.Several.{asked-long, asked-whole, asked-short}
-use borrow.Author.Rules.{rules}
 use Rattle.query.proofs.many.asked.Goals as goal
 
 pub returns-then-n-gt-PLACE : goal.returns-then-n-gt-PLACE

@@ -1,16 +1,13 @@
 -- `query::many::find` meets its contract. The loop's invariant: each name is met in the region where it was met, or else where it is met from here on. What is left of
 -- the region falls.
 -- Assumes nothing.
-use Prim.Native.Nat.{◌-◌}
 use native.Mathlib.Omega.{arith}
-use mathlib.Core.Path.{◌≡◌, refl, sym, ap, ◌∙◌}
+use mathlib.Core.Path.{refl, sym, ap, ◌∙◌}
 use lib.ListN.{length}
 use Rattle.model.specs.Layout.{authenticated}
-use Rattle.region.specs.Marks.{no_marks_def}
 use Rattle.region.proofs.Turns.{at_entry, at-end}
 use Rattle.region.proofs.Marked.{here-mark}
-use Rattle.query.proofs.Several.{Ahead, none-long, marks-long, ahead-begin, ahead-next, ahead-end, sought-leads, noted-nowhere}
-use borrow.Author.Rules.{rules}
+use Rattle.query.proofs.Several.{none-long, marks-long, ahead-begin, ahead-next, ahead-end, sought-leads, noted-nowhere}
 use Rattle.query.proofs.many.find.Goals as goal
 
 pub slice_bounds-index-end : goal.slice_bounds-index-end

@@ -2,15 +2,9 @@
 -- the region falls.
 -- Assumes nothing.
 use Prim.Native.Nat.{◌-◌}
-use native.Mathlib.Omega.{arith}
-use mathlib.Core.Path.{◌≡◌, refl, sym, ap, ◌∙◌}
+use mathlib.Core.Path.{◌≡◌}
 use lib.ListN.{length}
-use Rattle.model.specs.Layout.{authenticated}
-use Rattle.region.specs.Marks.{no_marks_def}
-use Rattle.region.proofs.Turns.{at_entry, at-end}
-use Rattle.region.proofs.Marked.{here-mark}
-use Rattle.query.proofs.Several.{Ahead, none-long, marks-long, ahead-begin, ahead-next, ahead-end, sought-leads, noted-nowhere}
-use borrow.Author.Rules.{rules}
+use Rattle.query.proofs.Several.{Ahead}
 use Rattle.query.proofs.many.find.Given as goal
 
 abbrev pub invariant-loop-e : goal.invariant-loop-e

@@ -1,7 +1,6 @@
 -- `query::many::first_of` meets its contract: the tests are the definition's. Assumes nothing.
 use borrow.Author.Tests.{eq-eqb, ne_eqb}
 use Rattle.query.specs.Many.{first_of}
-use borrow.Author.Rules.{rules}
 use Rattle.query.proofs.many.first_of.Goals as goal
 
 pub returns-then-old-eq0 : goal.returns-then-old-eq0

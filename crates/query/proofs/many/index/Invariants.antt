@@ -1,13 +1,8 @@
 -- `query::many::index` meets its contract: after k turns the table leads to the first k names. Assumes nothing.
 use Prim.Native.Nat.{◌-◌, ◌≤◌}
-use native.Mathlib.Omega.{arith}
-use mathlib.Core.Path.{◌≡◌, ap, ◌∙◌}
-use lib.ListN.{length, length-set}
-use Rattle.region.specs.Marks.{key_mark}
-use Rattle.region.specs.declared.Mark.{Mark}
+use mathlib.Core.Path.{◌≡◌}
+use lib.ListN.{length}
 use Rattle.query.specs.Many.{Indexed}
-use Rattle.query.proofs.Several.{indexed-none, indexed-next}
-use borrow.Author.Rules.{rules}
 use Rattle.query.proofs.many.index.Given as goal
 
 abbrev pub invariant-loop-k : goal.invariant-loop-k

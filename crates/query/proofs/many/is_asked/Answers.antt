@@ -9,7 +9,6 @@ use Rattle.layout.specs.Head.{name_in}
 use Rattle.region.proofs.Meetings.{sought-named}
 use Rattle.model.specs.Beside.{asked_bytes}
 use Rattle.query.proofs.Several.{sought-entry}
-use borrow.Author.Rules.{rules}
 use Rattle.query.proofs.many.is_asked.Goals as goal
 
 pub returns : goal.returns

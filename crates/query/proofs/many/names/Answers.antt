@@ -1,5 +1,4 @@
 -- `query::many::names` meets its contract: to a name leads its number and one more, or what leads to all. Assumes nothing.
-use native.Mathlib.Omega.{arith}
 use Rattle.query.proofs.Several.{within_all, led-one, led-none, led-past}
 use borrow.Author.Rules.{rules}
 use Rattle.query.proofs.many.names.Goals as goal

@@ -1,12 +1,10 @@
 -- `query::many::note` meets its contract: after each turn one name more has the entry noted. Assumes nothing.
-use Prim.Native.Nat.{◌-◌, ◌≤◌}
 use native.Mathlib.Omega.{arith}
 use mathlib.Core.Path.{◌≡◌, ap, ◌∙◌}
 use mathlib.Core.Bool.{Bool}
-use lib.ListN.{length, get_or, length-set}
-use Rattle.query.specs.Many.{is_asked_def, first_of, NotedIn}
+use lib.ListN.{get_or, length-set}
+use Rattle.query.specs.Many.{is_asked_def, first_of}
 use Rattle.query.proofs.Several.{noted-none, noted-next}
-use borrow.Author.Rules.{rules}
 use Rattle.query.proofs.many.note.Goals as goal
 
 pub loop-k-init : goal.loop-k-init

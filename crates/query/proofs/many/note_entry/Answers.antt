@@ -3,7 +3,6 @@ use native.Mathlib.Omega.{arith}
 use mathlib.Core.Path.{ap}
 use Rattle.region.specs.Judge.{live_state_def}
 use Rattle.query.proofs.Several.{noted-all, noted-as, noted_other}
-use borrow.Author.Rules.{rules}
 use Rattle.query.proofs.many.note_entry.Goals as goal
 
 pub note-requires : goal.note-requires

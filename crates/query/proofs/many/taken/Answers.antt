@@ -1,6 +1,5 @@
 -- `query::many::taken` meets its contract: the test is the definition's. Assumes nothing.
 use borrow.Author.Tests.{eq-eqb, ne_eqb}
-use borrow.Author.Rules.{rules}
 use Rattle.query.proofs.many.taken.Goals as goal
 
 pub returns-then-old-eq0 : goal.returns-then-old-eq0
