@@ -5,7 +5,7 @@ use Prim.Native.Nat.{ℕ, ◌+◌, ◌≤◌}
 use native.Mathlib.Omega.{arith}
 use mathlib.Core.Path.{◌≡◌, refl, sym, ap, ap₂, ◌∙◌}
 use mathlib.Core.Logic.{◌≢◌}
-use mathlib.Core.Bool.{Bool, true, false, not, cond, ◌&&◌, ◌||◌, true≢false, false≢true}
+use mathlib.Core.Bool.{Bool, true, false, not, cond, ◌&&◌, ◌||◌, false≢true}
 use mathlib.Core.List.{List, [], ◌∷◌, ◌++◌}
 use mathlib.Core.Option.{Option, none, some}
 use lib.ListN.{length}
@@ -13,7 +13,7 @@ use lib.Dec.{eqb}
 use borrow.Author.Tests.{eqb-true, not-false}
 use Rattle.model.specs.declared.Terms.{Terms}
 use Rattle.model.specs.declared.Rule.{Rule}
-use Rattle.model.specs.Lists.{among, any, on_some}
+use Rattle.model.specs.Lists.{among, on_some}
 use Rattle.model.specs.Name.{Key}
 use Rattle.model.specs.Entry.{Value, key_of, header_size_def, rounded, entry_size_def}
 use Rattle.model.specs.Region.{record_bit, sound, entries, values, standing, find}
@@ -22,14 +22,13 @@ use Rattle.model.specs.Limits.{Limit}
 use Rattle.model.specs.Change.{Change, nothing, remove, put, new_value, change_in, beside_pk, changes_of, is_error_record_def}
 use Rattle.model.specs.Sides.{owns, side_sizes}
 use Rattle.model.specs.Rules.{first_broken, rule5, rule13, rule18, rule22, request_rules, item_rules, setting_rules, room_rules}
-use Rattle.model.proofs.Changes.{EachPut}
 use Rattle.model.proofs.Requests.{unbroken, put-named, record-append}
 use Rattle.layout.specs.declared.Entry as numbers
 use Rattle.values.specs.Found.{found_of}
 use Rattle.values.specs.declared.Found.{Found}
 use Rattle.values.specs.declared.Found.TheVariants.{At, Nothing as Absent}
 use Rattle.decision.specs.declared.Decision.{Decision}
-use Rattle.decision.specs.declared.Decision.TheVariants.{Broken, Nothing, Remove, Put}
+use Rattle.decision.specs.declared.Decision.TheVariants.{Broken, Put}
 use Rattle.decision.specs.Decision.{kind_of, decided, tried_of, decision_of, broken_of, beside_by}
 use Rattle.decision.specs.Parts.{found_mode, offset_of, moves_by, beside_found, deploys_by, new_size, room_after_def, roomed_by}
 use Rattle.decision.specs.Profile.{comes_size, comes_sizes}

@@ -1,7 +1,7 @@
 -- Room where PK and PlatMode change together, or PlatMode alone. The two names differ and are ours; no error record is found under them, and none is put. So what goes and comes is
 -- the side's own, and rules 18 and 13 are judged by its sizes.
 -- Assumes nothing.
-use Prim.Native.Nat.{ℕ, ◌+◌, ◌-◌, ◌≤◌}
+use Prim.Native.Nat.{ℕ, ◌+◌, ◌≤◌}
 use native.Mathlib.Omega.{arith}
 use mathlib.Core.Path.{◌≡◌, refl, sym, ap, ap₂, ◌∙◌}
 use mathlib.Core.Bool.{Bool, true, false, not, cond, ◌&&◌, ◌||◌, or-false, true≢false}
@@ -27,7 +27,7 @@ use Rattle.model.proofs.Changes.{EachPut, steps-distinct}
 use Rattle.model.proofs.Chunks.{sound-parts}
 use Rattle.model.proofs.Encode as encode
 use Rattle.model.proofs.Looking.{Own, Other, find-step}
-use Rattle.model.proofs.Space.{size_of, sizes}
+use Rattle.model.proofs.Space.{size_of}
 use Rattle.model.proofs.Values as listing
 use Rattle.values.specs.Found.{found_of}
 use Rattle.values.specs.declared.Found.{Found}

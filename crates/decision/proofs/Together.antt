@@ -1,7 +1,7 @@
 -- PlatMode's change that goes with one of PK, by what was found: where it is PK that comes or goes, what stands under PlatMode is what was found there, and no entry is at
 -- offset 0. With any other change none goes.
 -- Assumes nothing.
-use Prim.Native.Nat.{ℕ, ◌≤◌}
+use Prim.Native.Nat.{ℕ}
 use native.Mathlib.Omega.{arith}
 use mathlib.Core.Path.{◌≡◌, refl, sym, ap, ◌∙◌}
 use mathlib.Core.Logic.{◌≢◌}

@@ -36,7 +36,7 @@ use Rattle.session.specs.declared.Locks.{Locks}
 use Rattle.decision.specs.declared.Judged.TheVariants.{Kept}
 use Rattle.decision.specs.declared.Weight.{Weight}
 use Rattle.decision.specs.declared.Decision.{Decision}
-use Rattle.decision.specs.declared.Decision.TheVariants.{Nothing, Put}
+use Rattle.decision.specs.declared.Decision.TheVariants.{Put}
 use Rattle.decision.specs.Decision.{request_of, kind_of, decided, tried_of}
 use Rattle.decision.specs.Parts.{judged_of, on_found, value_at, new_size}
 use Rattle.decision.specs.Profile.{told_of, limits_of, gone_size, comes_size, leaving_by, weight_by, ItemWeighed}

@@ -1,5 +1,6 @@
 // The decision on a set over a sound region: the first broken of rules 3 to 13, 17, 18, 21, 22 and 24, or what the set does to the values. That on a profile is in `items`.
 #![tactic(auto)]
+
 ghost use Rattle.std.specs.Prelude.{◌≡◌, ◌≢◌, true, cond, [], ◌++◌, ◌≤◌, length};
 ghost use Rattle.std.proofs.Math.Option.{none};
 ghost use Rattle.model.specs.Name.{keyed};

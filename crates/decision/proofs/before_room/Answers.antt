@@ -14,7 +14,6 @@ use Rattle.decision.specs.Decision.{request_of}
 use Rattle.decision.specs.Parts.{kept_data_def, leaves_by, new_size, limited_by}
 use Rattle.decision.proofs.Assembled.{limited-put, new-size, tried_here}
 use Rattle.decision.proofs.Accepted.{item-small}
-use borrow.Author.Rules.{rules}
 use Rattle.decision.proofs.before_room.Goals as goal
 
 pub judge-item-requires : goal.judge-item-requires

@@ -1,5 +1,5 @@
 -- `decision::decide` meets its contract: what is there of the name is the 3F entry of the two places found, else the 3E entry. Assumes nothing.
-use mathlib.Core.Path.{◌≡◌, sym, ap, ap₂, ◌∙◌, subst}
+use mathlib.Core.Path.{sym, ap, ap₂, ◌∙◌}
 use lib.ListN.{length}
 use Rattle.model.specs.Name.{keyed}
 use Rattle.model.specs.Region.{entries, values, added, replacing, standing}
@@ -11,7 +11,6 @@ use Rattle.decision.specs.Decision.{request_of}
 use Rattle.decision.specs.Parts.{value_by}
 use Rattle.decision.proofs.Assembled.{value-here}
 use Rattle.decision.proofs.Accepted.{put-formed}
-use borrow.Author.Rules.{rules}
 use Rattle.decision.proofs.decide.Goals as goal
 
 pub decide_over-joined-requires : goal.decide_over-joined-requires

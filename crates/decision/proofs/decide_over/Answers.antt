@@ -5,7 +5,6 @@ use Rattle.model.specs.Limits.{limits_in}
 use Rattle.decision.specs.Decision.{request_of}
 use Rattle.decision.proofs.Assembled.{counts-here}
 use Rattle.decision.proofs.JointDecision.{alone-decided, joint-decided, joint-asked}
-use borrow.Author.Rules.{rules}
 use Rattle.decision.proofs.decide_over.Goals as goal
 
 pub roomed-what-requires : goal.roomed-what-requires

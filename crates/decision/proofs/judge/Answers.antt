@@ -8,7 +8,6 @@ use Rattle.decision.specs.Decision.{request_of}
 use Rattle.decision.specs.Parts.{new_size, outcome_by}
 use Rattle.decision.proofs.Broken.{kept-none, breaks-some}
 use Rattle.decision.proofs.Assembled.{request-fields, call-broken, standing-broken, none-broken}
-use borrow.Author.Rules.{rules}
 use Rattle.decision.proofs.judge.Goals as goal
 
 pub returns-in-Breaks : goal.returns-in-Breaks

@@ -10,7 +10,6 @@ use Rattle.model.specs.Rules.{first_broken}
 use Rattle.policy.specs.Descriptor.{stamp_of_def}
 use Rattle.decision.specs.Parts.{judged_of, stands, mode_by_def, standing_by, verdict_by}
 use Rattle.decision.proofs.Broken.{after_kept, after-breaks}
-use borrow.Author.Rules.{rules}
 use Rattle.decision.proofs.judge_standing.Goals as goal
 
 pub returns-in-Kept : goal.returns-in-Kept

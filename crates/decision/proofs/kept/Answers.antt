@@ -4,7 +4,6 @@ use mathlib.Core.Bool.{cond}
 use mathlib.Core.List.{[]}
 use Rattle.values.specs.declared.Found.{Found}
 use Rattle.values.specs.Found.{old_data_def}
-use borrow.Author.Rules.{rules}
 use Rattle.decision.proofs.kept.Goals as goal
 
 pub returns : goal.returns

@@ -1,9 +1,7 @@
 -- `decision::beside::coming` meets its contract: PlatMode's entry takes 80 bytes. Assumes nothing.
 use native.Mathlib.Omega.{arith}
-use Rattle.model.specs.Entry.{entry_size_def}
 use Rattle.model.specs.Request.{key_mode, mode_value}
 use Rattle.decision.specs.Joint.{coming_by}
-use borrow.Author.Rules.{rules}
 use Rattle.decision.proofs.beside.coming.Goals as goal
 
 pub returns-then-deploys : goal.returns-then-deploys

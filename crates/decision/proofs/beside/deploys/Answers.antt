@@ -1,5 +1,4 @@
 -- `decision::beside::deploys` meets its contract: it goes by what the set does. Assumes nothing.
-use borrow.Author.Rules.{rules}
 use Rattle.decision.proofs.beside.deploys.Goals as goal
 
 pub returns-in-Put : goal.returns-in-Put

@@ -1,7 +1,6 @@
 -- `decision::beside::found` meets its contract: PlatMode is looked up where PK comes or goes. Assumes nothing.
 use mathlib.Core.Path.{sym, ◌∙◌}
 use Rattle.decision.specs.Parts.{beside_found}
-use borrow.Author.Rules.{rules}
 use Rattle.decision.proofs.beside.found.Goals as goal
 
 pub returns-then-is_pk : goal.returns-then-is_pk

@@ -7,7 +7,6 @@ use Rattle.model.specs.Rules.{first_broken}
 use Rattle.decision.specs.Parts.{judged_of, roomed_by}
 use Rattle.decision.specs.Joint.{coming_by, joint_after}
 use Rattle.decision.proofs.Broken.{kept-none, breaks-some}
-use borrow.Author.Rules.{rules}
 use Rattle.decision.proofs.beside.roomed.Goals as goal
 
 pub coming-requires : goal.coming-requires

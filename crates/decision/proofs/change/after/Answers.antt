@@ -1,12 +1,10 @@
 -- `decision::change::after` meets its contract: in each class the old value's size goes and the new one's comes. Assumes nothing.
-use Prim.Native.Nat.{◌+◌, ◌-◌, ◌≤◌}
 use native.Mathlib.Omega.{arith}
 use mathlib.Core.Path.{ap}
 use Rattle.decision.specs.declared.Sums.{Sums}
 use Rattle.decision.specs.Parts.{sums_after}
 use Rattle.decision.proofs.Classes.{classed-once}
 use Rattle.values.proofs.Counting.{told-sums}
-use borrow.Author.Rules.{rules}
 use Rattle.decision.proofs.change.after.Goals as goal
 
 pub overflow_sub-result : goal.overflow_sub-result

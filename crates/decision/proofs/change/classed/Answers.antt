@@ -1,7 +1,6 @@
 -- `decision::change::classed` meets its contract: in each case one class has the size. Assumes nothing.
 use mathlib.Core.Bool.{not, and-false}
 use Rattle.decision.specs.Parts.{classed_by}
-use borrow.Author.Rules.{rules}
 use Rattle.decision.proofs.change.classed.Goals as goal
 
 pub returns-then-error : goal.returns-then-error

@@ -1,11 +1,10 @@
 -- `decision::change::fits_after_tail` meets its contract: its yes is what it has tested. Assumes nothing.
-use Prim.Native.Nat.{ℕ, ◌+◌, ◌≤◌}
+use Prim.Native.Nat.{◌+◌}
 use native.Mathlib.Omega.{arith}
-use mathlib.Core.Path.{◌≡◌, sym, ◌∙◌}
+use mathlib.Core.Path.{sym, ◌∙◌}
 use mathlib.Core.Bool.{true≢false}
 use lib.ListN.{length}
 use borrow.Author.Tests.{leb-true}
-use borrow.Author.Rules.{rules}
 use Rattle.decision.proofs.change.fits_after_tail.Goals as goal
 
 pub returns-then-is_error_record : goal.returns-then-is_error_record

@@ -6,7 +6,6 @@ use Rattle.model.specs.Name.{keyed}
 use Rattle.model.specs.Limits.{limits_in}
 use Rattle.limits.specs.Broken.{broken_by}
 use Rattle.limits.proofs.Tried.{none-used}
-use borrow.Author.Rules.{rules}
 use Rattle.decision.proofs.change.forbids.Goals as goal
 
 pub returns-then-rules-eq0 : goal.returns-then-rules-eq0

@@ -3,7 +3,6 @@ use Prim.Native.Nat.{ℕ}
 use mathlib.Core.Path.{ap₂, ◌∙◌}
 use mathlib.Core.Bool.{Bool}
 use Rattle.decision.specs.Parts.{classed_by, old_sums}
-use borrow.Author.Rules.{rules}
 use Rattle.decision.proofs.change.freed.Goals as goal
 
 pub returns-in-At : goal.returns-in-At

@@ -2,7 +2,6 @@
 use mathlib.Core.Path.{sym, ap, ◌∙◌}
 use Rattle.values.specs.declared.Found.{Found}
 use Rattle.decision.specs.Parts.{equal_by}
-use borrow.Author.Rules.{rules}
 use Rattle.model.specs.Change.{equal_to}
 use Rattle.decision.proofs.change.is_equal.Goals as goal
 

@@ -1,5 +1,4 @@
 -- `decision::change::kept_data` meets its contract. Assumes nothing.
-use borrow.Author.Rules.{rules}
 use Rattle.decision.proofs.change.kept_data.Goals as goal
 
 pub returns-then-keeps : goal.returns-then-keeps

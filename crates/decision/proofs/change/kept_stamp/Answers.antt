@@ -1,7 +1,6 @@
 -- `decision::change::kept_stamp` meets its contract: with 0x40 and 0x20 the stamp that is there counts. Assumes nothing.
 use mathlib.Core.Path.{sym, ◌∙◌}
 use Rattle.decision.specs.Parts.{stamp_kept}
-use borrow.Author.Rules.{rules}
 use Rattle.decision.proofs.change.kept_stamp.Goals as goal
 use Rattle.decision.proofs.change.kept_stamp.Goals.{then-appends+else-time_based, else-appends}
 
@@ -19,6 +18,6 @@ unfolding stamp_kept
 returns c =
     let appends = c.appends.ensures in
     elim c.if-appends.branch [
-      then-appends+else-time_based w ↦ rw (sym appends ∙ w.if-appends.true, sym w.time_based.ensures ∙ w.if-time_based.false)
+      | then-appends+else-time_based w ↦ rw (sym appends ∙ w.if-appends.true, sym w.time_based.ensures ∙ w.if-time_based.false)
       | else-appends w ↦ rw (sym appends ∙ w.if-appends.false)
     ]

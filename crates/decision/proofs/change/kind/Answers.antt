@@ -1,7 +1,6 @@
 -- `decision::change::kind` meets its contract: a delete, an empty append, equal data, else a value to put. Assumes nothing.
 use mathlib.Core.Path.{sym, ◌∙◌}
 use Rattle.decision.specs.Parts.{kind_by}
-use borrow.Author.Rules.{rules}
 use Rattle.decision.proofs.change.kind.Goals as goal
 
 pub returns-then-deletes : goal.returns-then-deletes

@@ -1,7 +1,6 @@
 -- `decision::change::leaves` meets its contract. Assumes nothing.
 use mathlib.Core.Path.{sym, ◌∙◌}
 use Rattle.decision.specs.Parts.{leaves_by}
-use borrow.Author.Rules.{rules}
 use Rattle.decision.proofs.change.leaves.Goals as goal
 
 pub returns-then-deletes : goal.returns-then-deletes

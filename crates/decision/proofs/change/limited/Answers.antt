@@ -1,10 +1,9 @@
 -- `decision::change::limited` meets its contract. Assumes nothing.
-use mathlib.Core.Path.{◌≡◌, refl, sym, ◌∙◌}
-use mathlib.Core.Bool.{Bool, false}
+use mathlib.Core.Path.{◌≡◌, refl}
+use mathlib.Core.Bool.{false}
 use Rattle.decision.specs.declared.Decision.{Decision}
 use Rattle.decision.specs.declared.Decision.TheVariants.{Broken, Nothing, Remove, Put}
 use Rattle.decision.specs.Parts.{limited_by}
-use borrow.Author.Rules.{rules}
 use Rattle.decision.proofs.change.limited.Goals as goal
 
 kept : (d : Decision) → d ≡ limited_by false d

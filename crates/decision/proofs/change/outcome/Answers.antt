@@ -1,7 +1,6 @@
 -- `decision::change::outcome` meets its contract: it goes by what the set asks for. Assumes nothing.
 use mathlib.Core.Path.{sym, ◌∙◌}
 use Rattle.decision.specs.Parts.{result_by, outcome_by}
-use borrow.Author.Rules.{rules}
 use Rattle.decision.proofs.change.outcome.Goals as goal
 
 pub returns-in-Remove : goal.returns-in-Remove

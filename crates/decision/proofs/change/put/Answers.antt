@@ -1,7 +1,6 @@
 -- `decision::change::put` meets its contract: the size decides. Assumes nothing.
 use borrow.Author.Tests.{lt-ltb, le-ltb}
 use Rattle.decision.specs.Parts.{result_by}
-use borrow.Author.Rules.{rules}
 use Rattle.decision.proofs.change.put.Goals as goal
 
 pub returns-then-size : goal.returns-then-size

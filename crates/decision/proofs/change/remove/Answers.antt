@@ -1,7 +1,6 @@
 -- `decision::change::remove` meets its contract: a value has to stand. Assumes nothing.
 use mathlib.Core.Path.{sym, ◌∙◌}
 use Rattle.decision.specs.Parts.{result_by}
-use borrow.Author.Rules.{rules}
 use Rattle.decision.proofs.change.remove.Goals as goal
 
 pub returns-then-stands : goal.returns-then-stands

@@ -3,7 +3,6 @@ use mathlib.Core.Path.{sym, ap, ◌∙◌}
 use borrow.Author.Tests.{lt-ltb, le-ltb}
 use Rattle.decision.specs.Parts.{judged_of, room_by}
 use Rattle.decision.proofs.Broken.{broken-here, kept_here, none_here}
-use borrow.Author.Rules.{rules}
 use Rattle.decision.proofs.change.room.Goals as goal
 
 pub returns-then-t-s : goal.returns-then-t-s

@@ -1,13 +1,13 @@
 -- `decision::change::roomed_by_sums` meets its contract: where a value is to be put, the sums after it are judged. Assumes nothing.
-use Prim.Native.Nat.{ℕ, ◌+◌, ◌^◌, ◌<◌, ◌≤◌}
+use Prim.Native.Nat.{ℕ, ◌+◌, ◌^◌, ◌<◌}
 use native.Mathlib.Omega.{arith}
-use mathlib.Core.Path.{◌≡◌, sym, ap, ap₂, ◌∙◌}
+use mathlib.Core.Path.{sym, ap, ap₂, ◌∙◌}
 use mathlib.Core.Bool.{Bool}
 use lib.ListN.{length}
 use Rattle.model.specs.Entry.{header_size_def, rounded}
 use Rattle.model.specs.Region.{record_bit}
 use Rattle.model.specs.Rules.{first_broken}
-use Rattle.decision.specs.Parts.{judged_of, room_by, room_after_def, roomed_by}
+use Rattle.decision.specs.Parts.{room_by, room_after_def, roomed_by}
 use Rattle.decision.proofs.Broken.{kept-none, breaks-some}
 use borrow.Author.Rules.{rules}
 use Rattle.decision.proofs.change.roomed_by_sums.Goals as goal

@@ -4,7 +4,6 @@ use Rattle.model.specs.Change.{later_of_def}
 use Rattle.values.specs.declared.Found.{Found}
 use Rattle.policy.specs.Descriptor.{stamp_in_def}
 use Rattle.decision.specs.Parts.{stamp_over_def}
-use borrow.Author.Rules.{rules}
 use Rattle.decision.proofs.change.stamp_over.Goals as goal
 
 pub returns-in-At : goal.returns-in-At

@@ -3,7 +3,6 @@ use Prim.Native.Nat.{ℕ}
 use mathlib.Core.Path.{ap, ◌∙◌}
 use mathlib.Core.List.{List}
 use Rattle.decision.specs.Parts.{stamp_kept}
-use borrow.Author.Rules.{rules}
 use Rattle.decision.proofs.change.value.Goals as goal
 
 pub returns : goal.returns

@@ -2,7 +2,6 @@
 use native.Mathlib.Omega.{arith}
 use Rattle.decision.specs.Profile.{folded_sums}
 use Rattle.values.proofs.Counting.{told-sums}
-use borrow.Author.Rules.{rules}
 use Rattle.decision.proofs.items.after.Goals as goal
 
 pub overflow_sub-result : goal.overflow_sub-result

@@ -1,6 +1,5 @@
 -- `decision::items::leaving` meets its contract: by what was found. Assumes nothing.
 use Rattle.decision.specs.Profile.{leaving_by}
-use borrow.Author.Rules.{rules}
 use Rattle.decision.proofs.items.leaving.Goals as goal
 
 pub returns-in-At : goal.returns-in-At

@@ -9,7 +9,6 @@ use Rattle.model.specs.Rules.{first_broken}
 use Rattle.decision.specs.Parts.{room_by}
 use Rattle.decision.specs.Profile.{roomed_of}
 use Rattle.decision.proofs.Broken.{kept-none, breaks-some}
-use borrow.Author.Rules.{rules}
 use Rattle.decision.proofs.items.roomed.Goals as goal
 
 pub returns-then-gone-eq0 : goal.returns-then-gone-eq0

@@ -3,7 +3,6 @@ use mathlib.Core.Bool.{Bool}
 use mathlib.Core.Path.{ap, ◌∙◌}
 use Rattle.model.specs.Name.{keyed}
 use Rattle.session.specs.Said.{terms_with}
-use borrow.Author.Rules.{rules}
 use Rattle.decision.proofs.items.told.Goals as goal
 
 pub returns : goal.returns

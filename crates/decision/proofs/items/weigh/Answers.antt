@@ -9,7 +9,6 @@ use Rattle.profile.specs.Reader.{requests_in}
 use Rattle.decision.specs.Profile.{told_of, limits_of, roomed_of}
 use Rattle.decision.proofs.Broken.{breaks-some}
 use Rattle.decision.proofs.RoomOfItems.{told-foreign, weighed-broken, gone-counts, weighed-kept}
-use borrow.Author.Rules.{rules}
 use Rattle.decision.proofs.items.weigh.Goals as goal
 
 pub roomed-what-requires : goal.roomed-what-requires

@@ -1,7 +1,6 @@
 -- `decision::items::weigh_at` meets its contract: the item is read at its place. Assumes nothing.
 use native.Mathlib.Omega.{arith}
 use Rattle.decision.proofs.Weighing.{item-read}
-use borrow.Author.Rules.{rules}
 use Rattle.decision.proofs.items.weigh_at.Goals as goal
 
 pub guid_of-vendor-requires : goal.guid_of-vendor-requires

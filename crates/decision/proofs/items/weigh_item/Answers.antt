@@ -3,7 +3,6 @@ use Rattle.model.specs.Name.{keyed}
 use Rattle.decision.specs.Decision.{request_of}
 use Rattle.decision.specs.Profile.{limits_of}
 use Rattle.decision.proofs.Weighing.{item-weighed}
-use borrow.Author.Rules.{rules}
 use Rattle.decision.proofs.items.weigh_item.Goals as goal
 
 pub returns : goal.returns

@@ -1,11 +1,10 @@
 -- `decision::items::weigh_items` meets its contract: the items that were passed break no rule, and the first that breaks one ends the loop. Assumes nothing.
-use Prim.Native.Nat.{ℕ, suc, ◌*◌, ◌-◌, ◌≤◌}
+use Prim.Native.Nat.{ℕ, suc}
 use native.Mathlib.Omega.{arith}
 use mathlib.Core.Path.{◌≡◌, subst}
 use mathlib.Core.List.{map}
-use lib.ListN.{length, take, drop}
+use lib.ListN.{take, drop}
 use Rattle.profile.specs.Reader.{request_in, requests_in}
-use Rattle.profile.proofs.Listed.{settings-long}
 use Rattle.decision.specs.Profile.{told_of, limits_of, ItemsPass}
 use Rattle.decision.proofs.Passing.{passed, next, passed_length, passed-next, passed-all, pass-none, pass-next, items-pass, items-break}
 use borrow.Author.Rules.{rules}

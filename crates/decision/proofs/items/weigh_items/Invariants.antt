@@ -1,14 +1,9 @@
 -- `decision::items::weigh_items` meets its contract: the items that were passed break no rule, and the first that breaks one ends the loop. Assumes nothing.
-use Prim.Native.Nat.{ℕ, suc, ◌*◌, ◌-◌, ◌≤◌}
-use native.Mathlib.Omega.{arith}
-use mathlib.Core.Path.{◌≡◌, subst}
-use mathlib.Core.List.{map}
-use lib.ListN.{length, take, drop}
-use Rattle.profile.specs.Reader.{request_in, requests_in}
-use Rattle.profile.proofs.Listed.{settings-long}
+use Prim.Native.Nat.{◌*◌, ◌-◌, ◌≤◌}
+use mathlib.Core.Path.{◌≡◌}
+use lib.ListN.{length}
 use Rattle.decision.specs.Profile.{told_of, limits_of, ItemsPass}
-use Rattle.decision.proofs.Passing.{passed, next, passed_length, passed-next, passed-all, pass-none, pass-next, items-pass, items-break}
-use borrow.Author.Rules.{rules}
+use Rattle.decision.proofs.Passing.{passed}
 use Rattle.decision.proofs.items.weigh_items.Given as goal
 
 abbrev pub invariant-loop-i : goal.invariant-loop-i

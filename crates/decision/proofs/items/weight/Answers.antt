@@ -2,7 +2,6 @@
 use native.Mathlib.Omega.{arith}
 use mathlib.Core.Path.{ap, ◌∙◌}
 use Rattle.decision.specs.Profile.{leaving_by, weight_by}
-use borrow.Author.Rules.{rules}
 use Rattle.decision.proofs.items.weight.Goals as goal
 
 pub entry_size-requires : goal.entry_size-requires

@@ -9,7 +9,6 @@ use Rattle.decision.specs.declared.Sums.{Sums}
 use Rattle.decision.specs.Parts.{judged_of, room_by}
 use Rattle.decision.specs.Profile.{folded_sums}
 use Rattle.decision.proofs.Classes.{own-within}
-use borrow.Author.Rules.{rules}
 use Rattle.decision.proofs.joint.room.Goals as goal
 
 pub overflow_add-gone : goal.overflow_add-gone

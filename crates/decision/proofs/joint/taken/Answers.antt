@@ -1,6 +1,5 @@
 -- `decision::joint::taken` meets its contract: by what was found. Assumes nothing.
 use Rattle.decision.specs.Joint.{taken_by}
-use borrow.Author.Rules.{rules}
 use Rattle.decision.proofs.joint.taken.Goals as goal
 
 pub returns-in-At : goal.returns-in-At

@@ -3,7 +3,6 @@ use mathlib.Core.Bool.{true, false}
 use borrow.Author.Tests.{eq-eqb, ne_eqb}
 use Rattle.model.specs.Rules.{rule24}
 use Rattle.decision.proofs.Transitions.{setup-another, user-another}
-use borrow.Author.Rules.{rules}
 use Rattle.decision.proofs.modes.another.Goals as goal
 
 pub returns-then-to : goal.returns-then-to

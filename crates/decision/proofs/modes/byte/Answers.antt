@@ -1,7 +1,6 @@
 -- `decision::modes::byte` meets its contract: by its test. Assumes nothing.
 use borrow.Author.Tests.{eq-eqb, ne_eqb}
 use Rattle.decision.specs.Modes.{byte_of}
-use borrow.Author.Rules.{rules}
 use Rattle.decision.proofs.modes.byte.Goals as goal
 
 pub returns-then-to : goal.returns-then-to

@@ -9,7 +9,6 @@ use Rattle.values.proofs.Finds.{found-else}
 use Rattle.decision.specs.Parts.{offset_of}
 use Rattle.decision.specs.Modes.{barring, lost_by, transition_by}
 use Rattle.decision.proofs.Transitions.{transition-changes, gone-offset}
-use borrow.Author.Rules.{rules}
 use Rattle.decision.proofs.modes.decide.Goals as goal
 
 pub mode_by-m-requires : goal.mode_by-m-requires

@@ -3,7 +3,6 @@ use mathlib.Core.Path.{sym, ap, ap₂, ◌∙◌}
 use Rattle.model.specs.Name.{keyed}
 use Rattle.model.specs.Request.{key_pk, key_mode}
 use Rattle.decision.specs.Modes.{barring}
-use borrow.Author.Rules.{rules}
 use Rattle.decision.proofs.modes.is_barred.Goals as goal
 
 pub returns-then-is_barred : goal.returns-then-is_barred

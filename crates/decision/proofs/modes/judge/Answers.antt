@@ -6,7 +6,6 @@ use Rattle.decision.specs.Parts.{judged_of}
 use Rattle.decision.specs.Modes.{barring, transition_rules}
 use Rattle.decision.proofs.Broken.{broken-here, kept_here, none_here}
 use Rattle.decision.proofs.Transitions.{mode-foreign}
-use borrow.Author.Rules.{rules}
 use Rattle.decision.proofs.modes.judge.Goals as goal
 
 pub returns-then-said : goal.returns-then-said

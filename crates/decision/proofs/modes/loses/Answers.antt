@@ -1,6 +1,5 @@
 -- `decision::modes::loses` meets its contract: by the mode. Assumes nothing.
 use Rattle.decision.proofs.Transitions.{user-loses, setup-loses}
-use borrow.Author.Rules.{rules}
 use Rattle.decision.proofs.modes.loses.Goals as goal
 
 pub returns-in-User : goal.returns-in-User

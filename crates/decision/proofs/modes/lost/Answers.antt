@@ -1,7 +1,6 @@
 -- `decision::modes::lost` meets its contract: by whether PK is lost. Assumes nothing.
 use mathlib.Core.Path.{sym, ◌∙◌}
 use Rattle.decision.specs.Modes.{lost_by}
-use borrow.Author.Rules.{rules}
 use Rattle.decision.proofs.modes.lost.Goals as goal
 
 pub returns-then-loses : goal.returns-then-loses

@@ -1,7 +1,6 @@
 -- `decision::modes::mode_by` meets its contract: by its tests of what is there. Assumes nothing.
 use mathlib.Core.Path.{sym, ap, ◌∙◌}
 use Rattle.decision.specs.Parts.{stands, stores_by, mode_by_def}
-use borrow.Author.Rules.{rules}
 use Rattle.decision.proofs.modes.mode_by.Goals as goal
 
 pub returns-then-stores : goal.returns-then-stores

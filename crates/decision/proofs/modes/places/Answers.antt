@@ -4,7 +4,6 @@ use Rattle.model.specs.Name.{Key, keyed}
 use Rattle.model.specs.Region.{entries, added, replacing}
 use Rattle.model.specs.Request.{key_mode}
 use Rattle.values.specs.Found.{found_of}
-use borrow.Author.Rules.{rules}
 use Rattle.decision.proofs.modes.places.Goals as goal
 
 pub returns : goal.returns

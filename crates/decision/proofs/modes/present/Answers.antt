@@ -1,7 +1,6 @@
 -- `decision::modes::present` meets its contract: the mode is by what is there of PK and PlatMode. Assumes nothing.
 use mathlib.Core.Path.{◌∙◌}
 use Rattle.decision.proofs.Old.{mode-found}
-use borrow.Author.Rules.{rules}
 use Rattle.decision.proofs.modes.present.Goals as goal
 
 pub mode_by-requires : goal.mode_by-requires

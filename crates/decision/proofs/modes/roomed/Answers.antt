@@ -18,7 +18,6 @@ use Rattle.decision.specs.Joint.{taken_by}
 use Rattle.decision.specs.Modes.{barring, transition_rules, lost_by}
 use Rattle.decision.proofs.Broken.{kept-none, breaks-some}
 use Rattle.decision.proofs.Transitions.{transition-broken, gone-counts, transition-kept}
-use borrow.Author.Rules.{rules}
 use Rattle.decision.proofs.modes.roomed.Goals as goal
 
 pub room-full-requires : goal.room-full-requires

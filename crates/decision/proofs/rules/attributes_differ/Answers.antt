@@ -1,5 +1,4 @@
 -- `decision::rules::attributes_differ` meets its contract: rule 7 is asked of what was found. Assumes nothing.
-use borrow.Author.Rules.{rules}
 use Rattle.decision.proofs.rules.attributes_differ.Goals as goal
 
 pub returns-in-At : goal.returns-in-At

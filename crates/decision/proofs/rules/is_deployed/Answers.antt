@@ -2,7 +2,6 @@
 use mathlib.Core.Path.{ap, ◌∙◌}
 use Rattle.model.specs.Request.{deployed_mode}
 use Rattle.decision.specs.Parts.{stores_by}
-use borrow.Author.Rules.{rules}
 use Rattle.decision.proofs.rules.is_deployed.Goals as goal
 
 pub returns-then-user : goal.returns-then-user

@@ -5,7 +5,6 @@ use Rattle.model.specs.Request.{later}
 use Rattle.values.specs.declared.Found.{Found}
 use Rattle.policy.specs.Descriptor.{stamp_in_def}
 use Rattle.decision.specs.Parts.{not_later_def}
-use borrow.Author.Rules.{rules}
 use Rattle.decision.proofs.rules.not_later.Goals as goal
 
 pub returns-in-At : goal.returns-in-At

@@ -3,7 +3,6 @@ use mathlib.Core.Path.{sym, ap, ◌∙◌}
 use Rattle.model.specs.Rules.{rule3, request_rules}
 use Rattle.decision.specs.Parts.{judged_of}
 use Rattle.decision.proofs.Broken.{broken-here, kept_here, none_here}
-use borrow.Author.Rules.{rules}
 use Rattle.decision.proofs.rules.request.Goals as goal
 
 pub returns-then-not-is_named : goal.returns-then-not-is_named

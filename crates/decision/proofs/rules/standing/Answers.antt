@@ -2,7 +2,6 @@
 use mathlib.Core.Path.{sym, ◌∙◌}
 use Rattle.model.specs.Rules.{first_broken}
 use Rattle.decision.specs.Parts.{standing_by}
-use borrow.Author.Rules.{rules}
 use Rattle.decision.proofs.rules.standing.Goals as goal
 
 pub returns-then-attributes_differ : goal.returns-then-attributes_differ

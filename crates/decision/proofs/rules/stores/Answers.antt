@@ -1,11 +1,10 @@
 -- `decision::rules::stores` meets its contract: attributes and data of what was found are asked. Assumes nothing.
-use mathlib.Core.Path.{sym, ap, ◌∙◌}
+use mathlib.Core.Path.{ap}
 use mathlib.Core.List.{List, [], ◌∷◌}
 use Prim.Native.Nat.{ℕ}
 use borrow.Author.Tests.{ne_eqb, eq-eqb}
 use Rattle.model.specs.Lists.{same}
 use Rattle.decision.specs.Parts.{stores_by}
-use borrow.Author.Rules.{rules}
 use Rattle.decision.proofs.rules.stores.Goals as goal
 
 pub returns-then-e-ne7 : goal.returns-then-e-ne7

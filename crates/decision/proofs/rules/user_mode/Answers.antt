@@ -5,7 +5,6 @@ use Rattle.model.specs.Region.{entries, standing}
 use Rattle.model.specs.Request.{key_pk}
 use Rattle.values.specs.Found.{found_of}
 use Rattle.decision.specs.Parts.{stands}
-use borrow.Author.Rules.{rules}
 use Rattle.decision.proofs.rules.user_mode.Goals as goal
 
 pub returns-in-At : goal.returns-in-At

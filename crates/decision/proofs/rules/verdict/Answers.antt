@@ -2,7 +2,6 @@
 use mathlib.Core.Path.{sym, ◌∙◌}
 use Rattle.model.specs.Rules.{first_broken, rule24_set}
 use Rattle.decision.specs.Parts.{verdict_by}
-use borrow.Author.Rules.{rules}
 use Rattle.decision.proofs.rules.verdict.Goals as goal
 
 pub returns-then-verdict_broken : goal.returns-then-verdict_broken

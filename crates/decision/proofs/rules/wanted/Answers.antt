@@ -1,12 +1,10 @@
 -- `decision::rules::wanted` meets its contract: by whether the name is a key's, custom mode with presence, and the mode. Assumes nothing.
 use mathlib.Core.Path.{◌≡◌, sym, ap, ◌∙◌}
-use mathlib.Core.Bool.{Bool, true, false, not, ◌&&◌}
-use borrow.Author.Tests.{not-true, not-false}
+use mathlib.Core.Bool.{Bool, false, not, ◌&&◌}
 use Rattle.model.specs.Name.{keyed}
 use Rattle.model.specs.Request.{deployed_mode, is_deployed_def, key_verdicts_def, in_person_def, wanted_verdicts}
 use Rattle.decision.specs.Parts.{stores_by, found_mode, mode_by_def}
 use Rattle.decision.proofs.Old.{user-found, deployed-found}
-use borrow.Author.Rules.{rules}
 use Rattle.decision.proofs.rules.wanted.Goals as goal
 use Rattle.decision.proofs.rules.wanted.Goals.{then-in_person+else-not-is_deployed, else-in_person}
 
@@ -27,7 +25,7 @@ returns-then-is_key_name c =
     let r = a.region.now in
     let here : (in_person_def a.custom a.presence && not (is_deployed_def (mode_by_def r))) ≡ false =
     elim c.if-in_person.branch [
-      then-in_person+else-not-is_deployed w ↦ rw (
+      | then-in_person+else-not-is_deployed w ↦ rw (
         sym c.in_person.ensures ∙ w.if-in_person.true,
         sym (w.is_deployed.ensures ∙ ap (λ (u : Bool). u && stores_by r deployed_mode (found_mode r)) n.user_mode-user.ensures ∙ sym (deployed-found r)) ∙ w.if-not-is_deployed.false,
       )
