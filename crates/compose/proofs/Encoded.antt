@@ -1,7 +1,7 @@
 -- What is composed is what a compaction stores. The header and the entries of valid values take just the space that is counted for them, so FF bytes up to the
 -- region's length make them the encoded region; and an entry behind the values without its name is the list after a put.
 -- Assumes nothing.
-use Prim.Native.Nat.{ℕ, ◌+◌, ◌-◌}
+use Prim.Native.Nat.{ℕ, ◌-◌}
 use mathlib.Core.Path.{◌≡◌, refl, sym, ap, ◌∙◌}
 use mathlib.Core.List.{List, [], ◌∷◌, ◌++◌, append-nil}
 use lib.ListN.{length, replicate, length-append}

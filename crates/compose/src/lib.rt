@@ -1,6 +1,7 @@
 // Bytes of entries, and of a region that holds values, composed in a lent buffer. As in `output`, a function is given the place of its first byte and gives
 // back the place behind its last one, and bytes past the buffer's end are counted and not stored.
 #![tactic(auto)]
+
 ghost use Rattle.std.specs.Prelude.{◌≡◌, ◌≢◌, ◌+◌, ◌-◌, ◌^◌, ◌<◌, ◌≤◌, [], ◌∷◌, ◌++◌, length, replicate, leb};
 ghost use Rattle.model.specs.Lists.{bytes32, among};
 ghost use Rattle.model.specs.Image.{region_header_def};

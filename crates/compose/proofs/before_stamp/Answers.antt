@@ -2,7 +2,6 @@
 -- Assumes nothing.
 use Rattle.model.specs.Entry.{header_front}
 use Rattle.compose.specs.Compose.{before_stamp_def}
-use borrow.Author.Rules.{rules}
 use Rattle.compose.proofs.before_stamp.Goals as goal
 
 pub returns : goal.returns

@@ -1,7 +1,6 @@
 -- `compose::behind_stamp` meets its contract: the bytes of the definition, written out.
 -- Assumes nothing.
 use Rattle.compose.specs.Compose.{behind_stamp_def}
-use borrow.Author.Rules.{rules}
 use Rattle.compose.proofs.behind_stamp.Goals as goal
 
 pub returns : goal.returns

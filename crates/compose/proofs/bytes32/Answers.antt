@@ -4,7 +4,6 @@ use Prim.Native.Nat.{◌%◌}
 use native.Mathlib.Omega.{arith}
 use mathlib.Core.Path.{◌≡◌}
 use Rattle.layout.proofs.Bytes.{second-byte, fourth-byte}
-use borrow.Author.Rules.{rules}
 use Rattle.compose.proofs.bytes32.Goals as goal
 
 pub returns : goal.returns

@@ -2,7 +2,6 @@
 use native.Mathlib.Omega.{arith}
 use mathlib.Core.Path.{refl}
 use Rattle.compose.proofs.Carried.{carried-whole}
-use borrow.Author.Rules.{rules}
 use Rattle.compose.proofs.carry.Goals as goal
 
 pub overflow_add-at-4 : goal.overflow_add-at-4

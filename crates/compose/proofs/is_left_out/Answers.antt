@@ -1,11 +1,7 @@
 -- `compose::is_left_out` meets its contract: the offsets before `i` are others. Assumes nothing.
-use Prim.Native.Nat.{◌-◌, ◌≤◌}
 use native.Mathlib.Omega.{arith}
-use mathlib.Core.Path.{◌≡◌, refl, sym, ◌∙◌}
-use lib.ListN.{length, drop}
-use Rattle.model.specs.Lists.{among}
+use mathlib.Core.Path.{refl, sym, ◌∙◌}
 use Rattle.compose.proofs.Leaving.{among-here, among_next, among-end}
-use borrow.Author.Rules.{rules}
 use Rattle.compose.proofs.is_left_out.Goals as goal
 
 pub loop-i-init : goal.loop-i-init

@@ -1,11 +1,8 @@
 -- `compose::is_left_out` meets its contract: the offsets before `i` are others. Assumes nothing.
 use Prim.Native.Nat.{◌-◌, ◌≤◌}
-use native.Mathlib.Omega.{arith}
-use mathlib.Core.Path.{◌≡◌, refl, sym, ◌∙◌}
+use mathlib.Core.Path.{◌≡◌}
 use lib.ListN.{length, drop}
 use Rattle.model.specs.Lists.{among}
-use Rattle.compose.proofs.Leaving.{among-here, among_next, among-end}
-use borrow.Author.Rules.{rules}
 use Rattle.compose.proofs.is_left_out.Given as goal
 
 abbrev pub invariant-loop-i : goal.invariant-loop-i

@@ -1,7 +1,6 @@
 -- `compose::left_out` meets its contract: the definition goes by the same cases. Assumes nothing.
 use mathlib.Core.Path.{sym, ap}
 use Rattle.compose.specs.Compose.{leave_of}
-use borrow.Author.Rules.{rules}
 use Rattle.compose.proofs.left_out.Goals as goal
 
 pub returns-in-At : goal.returns-in-At

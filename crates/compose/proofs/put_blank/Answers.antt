@@ -1,11 +1,9 @@
 -- `compose::put_blank` meets its contract: after i turns i bytes FF are written. Assumes nothing.
-use Prim.Native.Nat.{◌+◌, ◌-◌, ◌≤◌}
+use Prim.Native.Nat.{◌+◌}
 use native.Mathlib.Omega.{arith}
 use mathlib.Core.Path.{◌≡◌, refl, ◌∙◌}
-use lib.ListN.{length, replicate, length-set}
-use Rattle.output.specs.Text.{Wrote}
+use lib.ListN.{length-set}
 use Rattle.compose.proofs.Headers.{wrote_one, blank-all}
-use borrow.Author.Rules.{rules}
 use Rattle.compose.proofs.put_blank.Goals as goal
 
 pub loop-i-init : goal.loop-i-init

@@ -1,11 +1,8 @@
 -- `compose::put_blank` meets its contract: after i turns i bytes FF are written. Assumes nothing.
 use Prim.Native.Nat.{◌+◌, ◌-◌, ◌≤◌}
-use native.Mathlib.Omega.{arith}
-use mathlib.Core.Path.{◌≡◌, refl, ◌∙◌}
-use lib.ListN.{length, replicate, length-set}
+use mathlib.Core.Path.{◌≡◌}
+use lib.ListN.{length, replicate}
 use Rattle.output.specs.Text.{Wrote}
-use Rattle.compose.proofs.Headers.{wrote_one, blank-all}
-use borrow.Author.Rules.{rules}
 use Rattle.compose.proofs.put_blank.Given as goal
 
 abbrev pub invariant-loop-i : goal.invariant-loop-i

@@ -1,6 +1,5 @@
 -- `compose::put_entry` meets its contract: header, name, data and padding, one behind the other. Assumes nothing.
 use Rattle.compose.proofs.Headers.{entry-joined}
-use borrow.Author.Rules.{rules}
 use Rattle.compose.proofs.put_entry.Goals as goal
 
 pub returns : goal.returns

@@ -2,7 +2,6 @@
 -- Assumes nothing.
 use Rattle.output.proofs.Writing.{wrote_as}
 use Rattle.compose.proofs.Headers.{header-wrote}
-use borrow.Author.Rules.{rules}
 use Rattle.compose.proofs.put_header.Goals as goal
 
 pub returns : goal.returns

@@ -4,7 +4,6 @@ use native.Mathlib.Omega.{arith}
 use mathlib.Core.Path.{sym, ◌∙◌}
 use Rattle.output.proofs.Writing.{wrote_none, wrote_as}
 use Rattle.compose.proofs.Carried.{left_out, carried-over}
-use borrow.Author.Rules.{rules}
 use Rattle.compose.proofs.put_other.Goals as goal
 
 pub returns-then-is_left_out : goal.returns-then-is_left_out

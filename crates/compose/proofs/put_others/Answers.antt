@@ -1,17 +1,12 @@
 -- `compose::put_others` meets its contract. The loop's invariant: the values before this offset are written, in no more bytes than were passed. What is left of
 -- the region falls.
 -- Assumes nothing.
-use Prim.Native.Nat.{◌+◌, ◌-◌, ◌≤◌}
 use native.Mathlib.Omega.{arith}
-use mathlib.Core.Path.{◌≡◌, refl, ◌∙◌}
-use lib.ListN.{length}
+use mathlib.Core.Path.{refl, ◌∙◌}
 use Rattle.values.proofs.Stands.{listed-nothing}
 use Rattle.values.proofs.Next.{next-value}
-use Rattle.model.specs.Compact.{joined}
-use Rattle.output.proofs.Writing.{Partly, partly_none, partly-next, partly-all}
-use Rattle.compose.specs.Compose.{values_but}
-use Rattle.compose.proofs.Carried.{to_come, all-to-come, next-to-come, none-to-come}
-use borrow.Author.Rules.{rules}
+use Rattle.output.proofs.Writing.{partly_none, partly-next, partly-all}
+use Rattle.compose.proofs.Carried.{all-to-come, next-to-come, none-to-come}
 use Rattle.compose.proofs.put_others.Goals as goal
 
 pub loop-place-init : goal.loop-place-init

@@ -2,16 +2,12 @@
 -- the region falls.
 -- Assumes nothing.
 use Prim.Native.Nat.{◌+◌, ◌-◌, ◌≤◌}
-use native.Mathlib.Omega.{arith}
-use mathlib.Core.Path.{◌≡◌, refl, ◌∙◌}
+use mathlib.Core.Path.{◌≡◌}
 use lib.ListN.{length}
-use Rattle.values.proofs.Stands.{listed-nothing}
-use Rattle.values.proofs.Next.{next-value}
 use Rattle.model.specs.Compact.{joined}
-use Rattle.output.proofs.Writing.{Partly, partly_none, partly-next, partly-all}
+use Rattle.output.proofs.Writing.{Partly}
 use Rattle.compose.specs.Compose.{values_but}
-use Rattle.compose.proofs.Carried.{to_come, all-to-come, next-to-come, none-to-come}
-use borrow.Author.Rules.{rules}
+use Rattle.compose.proofs.Carried.{to_come}
 use Rattle.compose.proofs.put_others.Given as goal
 
 abbrev pub invariant-loop-place : goal.invariant-loop-place

@@ -9,7 +9,6 @@ use lib.Seq.{length-take-le}
 use Rattle.model.specs.Entry.{rounded}
 use Rattle.output.proofs.Writing.{wrote_as}
 use Rattle.compose.proofs.Headers.{padding}
-use borrow.Author.Rules.{rules}
 use Rattle.compose.proofs.put_padding.Goals as goal
 
 pub slice_bounds-put_bytes-end : goal.slice_bounds-put_bytes-end

@@ -4,7 +4,6 @@ use native.Mathlib.Omega.{arith}
 use mathlib.Core.Path.{sym, ◌∙◌}
 use borrow.Author.Tests.{leb-true}
 use Rattle.compose.proofs.Carried.{value-short}
-use borrow.Author.Rules.{rules}
 use Rattle.compose.proofs.put_value.Goals as goal
 
 pub carry-requires : goal.carry-requires

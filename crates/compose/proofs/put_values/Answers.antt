@@ -1,6 +1,5 @@
 -- `compose::put_values` meets its contract: the region's header, then the values.
 -- Assumes nothing.
-use borrow.Author.Rules.{rules}
 use Rattle.output.proofs.Writing.{wrote-append, wrote_as}
 use Rattle.compose.proofs.put_values.Goals as goal
 

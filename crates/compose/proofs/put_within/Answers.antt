@@ -1,11 +1,10 @@
 -- `compose::put_within` meets its contract: after i turns the first i bytes are written.
 -- Assumes nothing.
-use Prim.Native.Nat.{◌+◌, ◌-◌, ◌≤◌}
+use Prim.Native.Nat.{◌+◌}
 use native.Mathlib.Omega.{arith}
-use mathlib.Core.Path.{◌≡◌, refl, ◌∙◌}
-use lib.ListN.{length, take, get_or, length-set}
+use mathlib.Core.Path.{refl, ◌∙◌}
+use lib.ListN.{get_or, length-set}
 use lib.Seq.{take_all}
-use Rattle.output.specs.Text.{Wrote}
 use Rattle.output.proofs.Writing.{wrote_as, wrote-byte}
 use borrow.Author.Rules.{rules}
 use Rattle.compose.proofs.put_within.Goals as goal
