@@ -1,5 +1,6 @@
 // The values of a region: found by name, listed in flash order, summed.
 #![tactic(auto)]
+
 use layout::Entry;
 
 pub mod list;

@@ -2,8 +2,6 @@
 -- Assumes nothing.
 use mathlib.Core.Path.{◌≡◌, sym, ◌∙◌}
 use mathlib.Core.Bool.{◌||◌}
-use mathlib.Core.Logic.{⊎_elim}
-use borrow.Author.Rules.{rules}
 use Rattle.model.specs.Request.{time_based_def}
 use Rattle.values.proofs.Counting.{by_first, by-second, counted-record, counted-own, counted-other}
 use Rattle.values.proofs.list.counted.Goals as goal

@@ -1,14 +1,12 @@
 -- `values::list::is_allotted` meets its contract: one sum after the other is held to its share. Assumes nothing.
-use Prim.Native.Nat.{◌+◌, ◌≤◌, ◌<◌}
 use native.Mathlib.Omega.{arith}
-use mathlib.Core.Path.{◌≡◌, sym, ap, ◌∙◌}
-use mathlib.Core.Bool.{true, false}
+use mathlib.Core.Path.{sym, ap, ◌∙◌}
+use mathlib.Core.Bool.{false}
 use lib.ListN.{length}
 use lib.Dec.{leb}
 use Rattle.model.specs.Region.{entries, values}
 use Rattle.values.proofs.Counting.{told-sums}
 use Rattle.values.proofs.Allotted.{unfit, ours-above, theirs-above, by-records}
-use borrow.Author.Rules.{rules}
 use Rattle.values.proofs.list.is_allotted.Goals as goal
 
 pub returns-then-region-share : goal.returns-then-region-share

@@ -1,13 +1,11 @@
 -- `values::list::is_own` meets its contract: a value's key is the name and the GUID of its entry, and under another GUID than the modem's it is ours.
 -- Assumes nothing.
-use mathlib.Core.Path.{◌≡◌, sym, ap, ap₂, ◌∙◌}
-use borrow.Author.Tests.{not-true}
+use mathlib.Core.Path.{sym, ap, ap₂, ◌∙◌}
 use Rattle.model.specs.Lists.{same}
 use Rattle.model.specs.Name.{keyed}
 use Rattle.model.specs.Sides.{owns}
 use Rattle.region.specs.Walk.{entry_as, vendor_as}
 use Rattle.values.proofs.Counting.{key-of, owns-elsewhere}
-use borrow.Author.Rules.{rules}
 use Rattle.values.proofs.list.is_own.Goals as goal
 
 pub returns-then-not-equal : goal.returns-then-not-equal

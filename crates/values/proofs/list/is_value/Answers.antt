@@ -2,7 +2,6 @@
 -- Assumes nothing.
 use mathlib.Core.Path.{sym, ap, ap₂, ◌∙◌}
 use mathlib.Core.Bool.{not}
-use borrow.Author.Rules.{rules}
 use Rattle.model.specs.Lists.{first}
 use Rattle.model.specs.Name.{keyed}
 use Rattle.model.specs.Region.{is_entry_def}

@@ -1,13 +1,7 @@
 -- `values::list::next_value` meets its contract. The loop's invariant: the first value from the start on is the first from here on.
 -- What is left of the region falls.
 -- Assumes nothing.
-use Prim.Native.Nat.{◌-◌}
-use mathlib.Core.Path.{◌≡◌, refl, sym, ap, ◌∙◌}
-use lib.ListN.{length}
-use borrow.Author.Rules.{rules}
-use Rattle.model.specs.Lists.{first}
-use Rattle.model.specs.Region.{entries_in, is_value}
-use Rattle.model.specs.Beside.{from_in}
+use mathlib.Core.Path.{refl, sym, ap, ◌∙◌}
 use Rattle.region.proofs.Turns.{at_entry, at-end}
 use Rattle.values.specs.Found.{next_of}
 use Rattle.values.proofs.Finds.{first-none, first-here, first_next, next-at}

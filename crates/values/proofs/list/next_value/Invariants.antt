@@ -2,15 +2,11 @@
 -- What is left of the region falls.
 -- Assumes nothing.
 use Prim.Native.Nat.{◌-◌}
-use mathlib.Core.Path.{◌≡◌, refl, sym, ap, ◌∙◌}
+use mathlib.Core.Path.{◌≡◌}
 use lib.ListN.{length}
-use borrow.Author.Rules.{rules}
 use Rattle.model.specs.Lists.{first}
 use Rattle.model.specs.Region.{entries_in, is_value}
 use Rattle.model.specs.Beside.{from_in}
-use Rattle.region.proofs.Turns.{at_entry, at-end}
-use Rattle.values.specs.Found.{next_of}
-use Rattle.values.proofs.Finds.{first-none, first-here, first_next, next-at}
 use Rattle.values.proofs.list.next_value.Given as goal
 
 abbrev pub invariant-loop-e : goal.invariant-loop-e

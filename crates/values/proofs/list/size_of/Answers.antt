@@ -3,7 +3,6 @@
 use native.Mathlib.Omega.{arith}
 use mathlib.Core.Path.{ap}
 use lib.ListN.{length}
-use borrow.Author.Rules.{rules}
 use Rattle.values.proofs.Sizes.{lengths}
 use Rattle.values.proofs.list.size_of.Goals as goal
 

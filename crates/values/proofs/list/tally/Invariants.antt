@@ -2,15 +2,10 @@
 -- region has. What is left of the region falls.
 -- Assumes nothing.
 use Prim.Native.Nat.{◌-◌}
-use native.Mathlib.Omega.{arith}
-use mathlib.Core.Path.{◌≡◌, sym, ap, ◌∙◌, subst}
 use lib.ListN.{length}
-use borrow.Author.Rules.{rules}
 use Rattle.model.specs.Region.{entries_in, values}
-use Rattle.values.proofs.Listed.{listed_in, listed-all}
-use Rattle.values.proofs.Stands.{listed-nothing}
-use Rattle.values.proofs.Next.{next-value}
-use Rattle.values.proofs.Counting.{Counted, counted_none, counted-all, sides-split, sums-within, counted-asks, counted-turn}
+use Rattle.values.proofs.Listed.{listed_in}
+use Rattle.values.proofs.Counting.{Counted}
 use Rattle.values.proofs.list.tally.Given as goal
 
 abbrev pub invariant-loop-at : goal.invariant-loop-at

@@ -1,16 +1,13 @@
 -- `values::lookup::find` meets its contract. The loop's invariant: what stands is the first 3F entry from here on, else the 3E entry found so far, else
 -- the first from here on. What is left of the region falls.
 -- Assumes nothing.
-use Prim.Native.Nat.{◌-◌}
-use mathlib.Core.Path.{◌≡◌, sym, ap₂, ◌∙◌}
-use lib.ListN.{length}
-use borrow.Author.Rules.{rules}
+use mathlib.Core.Path.{sym, ap₂, ◌∙◌}
 use Rattle.model.specs.Lists.{first}
-use Rattle.model.specs.Region.{entries_in, entries, is_entry_def, added, replacing, standing}
+use Rattle.model.specs.Region.{entries_in, is_entry_def, added, replacing, standing}
 use Rattle.model.specs.Name.{keyed}
 use Rattle.model.specs.Beside.{from, from_in}
 use Rattle.region.proofs.Turns.{at_entry, at-end}
-use Rattle.values.specs.Found.{found_of, else_found}
+use Rattle.values.specs.Found.{else_found}
 use Rattle.values.proofs.Finds.{found-else, found_none, found_here, found-next, found-hit, found-miss, else-none, else-found}
 use Rattle.values.proofs.lookup.find.Goals as goal
 

@@ -2,16 +2,13 @@
 -- the first from here on. What is left of the region falls.
 -- Assumes nothing.
 use Prim.Native.Nat.{◌-◌}
-use mathlib.Core.Path.{◌≡◌, sym, ap₂, ◌∙◌}
+use mathlib.Core.Path.{◌≡◌}
 use lib.ListN.{length}
-use borrow.Author.Rules.{rules}
 use Rattle.model.specs.Lists.{first}
-use Rattle.model.specs.Region.{entries_in, entries, is_entry_def, added, replacing, standing}
-use Rattle.model.specs.Name.{Key, keyed}
-use Rattle.model.specs.Beside.{from, from_in}
-use Rattle.region.proofs.Turns.{at_entry, at-end}
+use Rattle.model.specs.Region.{entries, is_entry_def, standing}
+use Rattle.model.specs.Name.{keyed}
+use Rattle.model.specs.Beside.{from}
 use Rattle.values.specs.Found.{found_of, else_found}
-use Rattle.values.proofs.Finds.{found-else, found_none, found_here, found-next, found-hit, found-miss, else-none, else-found}
 use Rattle.values.proofs.lookup.find.Given as goal
 
 abbrev pub invariant-loop-e : goal.invariant-loop-e

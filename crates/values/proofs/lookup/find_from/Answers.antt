@@ -1,16 +1,8 @@
 -- `values::lookup::find_from` meets its contract. The loop's invariant: the first such entry from the start on is the first from here on.
 -- What is left of the region falls.
 -- Assumes nothing.
-use Prim.Native.Nat.{◌-◌}
-use mathlib.Core.Path.{◌≡◌, refl, sym, ◌∙◌}
-use lib.ListN.{length}
-use borrow.Author.Rules.{rules}
-use Rattle.model.specs.Lists.{first}
-use Rattle.model.specs.Name.{keyed}
-use Rattle.model.specs.Region.{is_entry_def}
-use Rattle.model.specs.Beside.{from_in}
+use mathlib.Core.Path.{refl, sym, ◌∙◌}
 use Rattle.region.proofs.Turns.{at_entry, at-end}
-use Rattle.values.specs.Found.{found_of}
 use Rattle.values.proofs.Finds.{found_none, found_here, found-next}
 use Rattle.values.proofs.lookup.find_from.Goals as goal
 

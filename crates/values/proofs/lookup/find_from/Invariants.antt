@@ -2,16 +2,13 @@
 -- What is left of the region falls.
 -- Assumes nothing.
 use Prim.Native.Nat.{◌-◌}
-use mathlib.Core.Path.{◌≡◌, refl, sym, ◌∙◌}
+use mathlib.Core.Path.{◌≡◌}
 use lib.ListN.{length}
-use borrow.Author.Rules.{rules}
 use Rattle.model.specs.Lists.{first}
 use Rattle.model.specs.Name.{keyed}
 use Rattle.model.specs.Region.{is_entry_def}
 use Rattle.model.specs.Beside.{from_in}
-use Rattle.region.proofs.Turns.{at_entry, at-end}
 use Rattle.values.specs.Found.{found_of}
-use Rattle.values.proofs.Finds.{found_none, found_here, found-next}
 use Rattle.values.proofs.lookup.find_from.Given as goal
 
 abbrev pub invariant-loop-e : goal.invariant-loop-e

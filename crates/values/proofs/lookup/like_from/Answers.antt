@@ -1,15 +1,11 @@
 -- `values::lookup::like_from` meets its contract. The loop's invariant is the contract's, of the offset reached: an entry that two words of it tell from the name is
 -- not the first of that name. What is left of the region falls.
 -- Assumes nothing.
-use Prim.Native.Nat.{◌-◌, ◌≤◌}
 use native.Mathlib.Omega.{arith}
 use mathlib.Core.Path.{refl, ◌∙◌}
-use lib.ListN.{length}
-use borrow.Author.Rules.{rules}
 use Rattle.model.specs.Name.{keyed}
 use Rattle.model.specs.Region.{is_entry_def}
 use Rattle.region.proofs.Turns.{at_entry}
-use Rattle.values.specs.Found.{NoneBefore}
 use Rattle.values.proofs.Finds.{entry-unlike, first_next}
 use Rattle.values.proofs.lookup.like_from.Goals as goal
 

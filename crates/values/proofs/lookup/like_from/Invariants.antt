@@ -2,15 +2,8 @@
 -- not the first of that name. What is left of the region falls.
 -- Assumes nothing.
 use Prim.Native.Nat.{◌-◌, ◌≤◌}
-use native.Mathlib.Omega.{arith}
-use mathlib.Core.Path.{refl, ◌∙◌}
 use lib.ListN.{length}
-use borrow.Author.Rules.{rules}
-use Rattle.model.specs.Name.{keyed}
-use Rattle.model.specs.Region.{is_entry_def}
-use Rattle.region.proofs.Turns.{at_entry}
 use Rattle.values.specs.Found.{NoneBefore}
-use Rattle.values.proofs.Finds.{entry-unlike, first_next}
 use Rattle.values.proofs.lookup.like_from.Given as goal
 
 abbrev pub invariant-loop-next : goal.invariant-loop-next

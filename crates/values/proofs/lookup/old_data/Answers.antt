@@ -1,7 +1,6 @@
 -- `values::lookup::old_data` meets its contract: the data of what stands, if anything does. Assumes nothing.
 use mathlib.Core.Path.{sym, ap, ◌∙◌}
 use Rattle.values.specs.Found.{old_data_def}
-use borrow.Author.Rules.{rules}
 use Rattle.values.proofs.lookup.old_data.Goals as goal
 
 pub returns-in-At : goal.returns-in-At

@@ -1,6 +1,5 @@
 -- `values::lookup::or_entry` meets its contract: it goes by what was found, as the definition does.
 -- Assumes nothing.
-use borrow.Author.Rules.{rules}
 use Rattle.values.proofs.lookup.or_entry.Goals as goal
 
 pub returns-in-Nothing : goal.returns-in-Nothing

@@ -1,17 +1,12 @@
 -- `values::lookup::places` meets its contract. The loop's invariant: the first 3F entry of all is the one found so far, else the first from here on, and
 -- so for 3E. What is left of the region falls.
 -- Assumes nothing.
-use Prim.Native.Nat.{◌-◌}
 use native.Mathlib.Omega.{arith}
-use mathlib.Core.Path.{◌≡◌, refl, sym, ◌∙◌}
-use lib.ListN.{length}
-use borrow.Author.Rules.{rules}
-use Rattle.model.specs.Lists.{first}
-use Rattle.model.specs.Region.{entries_in, entries, is_entry_def, added, replacing}
+use mathlib.Core.Path.{refl, sym, ◌∙◌}
+use Rattle.model.specs.Region.{entries_in, is_entry_def, added, replacing}
 use Rattle.model.specs.Name.{keyed}
-use Rattle.model.specs.Beside.{from, from_in}
+use Rattle.model.specs.Beside.{from_in}
 use Rattle.region.proofs.Turns.{at_entry, at-end}
-use Rattle.values.specs.Found.{found_of, else_found}
 use Rattle.values.proofs.Finds.{found-later, found-hit, found-miss, else-none, one_state}
 use Rattle.values.proofs.lookup.places.Goals as goal
 
