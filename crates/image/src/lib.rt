@@ -1,5 +1,6 @@
 // A whole image: its length, and whether a call or a start-up may begin on it.
 #![tactic(auto)]
+
 ghost use Rattle.std.specs.Prelude.{◌≡◌, ◌≤◌};
 ghost use Rattle.model.specs.Image.{work};
 ghost use Rattle.model.specs.Work.{pending};

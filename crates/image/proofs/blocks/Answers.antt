@@ -3,7 +3,6 @@ use Prim.Native.Nat.{◌/◌}
 use native.Mathlib.Omega.{arith}
 use mathlib.Core.Path.{sym}
 use lib.ListN.{length}
-use borrow.Author.Rules.{rules}
 use Rattle.image.proofs.Cut.{blocks-right, blocks-wrong}
 use Rattle.image.proofs.blocks.Goals as goal
 

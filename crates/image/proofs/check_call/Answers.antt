@@ -1,6 +1,5 @@
 -- `image::check_call` meets its contract: what `check_for` tells beside the sought name. Assumes nothing.
 use Rattle.image.proofs.Ready.{checked_call}
-use borrow.Author.Rules.{rules}
 use Rattle.image.proofs.check_call.Goals as goal
 
 pub returns : goal.returns

@@ -5,7 +5,6 @@ use Rattle.model.specs.Lists.{all_ff}
 use Rattle.image.proofs.Cut.{none-refused, parted, call-ready, call-not-idle, call-not-blank, call-not-clean}
 use Rattle.image.proofs.Look.{told-idle, told-used, told-clean, told-clean-tail, told-judged, told-met}
 use Rattle.image.proofs.Ready.{checked-ready, checked_refused}
-use borrow.Author.Rules.{rules}
 use Rattle.image.proofs.check_for.Goals as goal
 
 pub returns-then-b-eq0 : goal.returns-then-b-eq0

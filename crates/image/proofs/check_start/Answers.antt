@@ -7,7 +7,6 @@ use Rattle.image.specs.declared.Start.TheVariants.{Pending, Sound}
 use Rattle.image.proofs.Cut.{none-refused, parted, start-pending, start-sound, start-refused}
 use Rattle.model.specs.Layout.{authenticated}
 use Rattle.image.proofs.Look.{told-sound, told-clean}
-use borrow.Author.Rules.{rules}
 use Rattle.image.proofs.check_start.Goals as goal
 
 pub returns-then-b-eq0 : goal.returns-then-b-eq0

@@ -4,7 +4,6 @@ use mathlib.Core.Path.{refl, sym, ◌∙◌}
 use Rattle.image.proofs.Cut.{parted, pending-of, not-pending}
 use Rattle.model.specs.Layout.{authenticated}
 use Rattle.image.proofs.Look.{told-closed, told-clean}
-use borrow.Author.Rules.{rules}
 use Rattle.image.proofs.is_pending.Goals as goal
 
 pub returns-then-ends_in_fc : goal.returns-then-ends_in_fc
