@@ -4,7 +4,7 @@
 use Prim.Native.Nat.{ℕ, ◌*◌}
 use native.Mathlib.Omega.{arith}
 use mathlib.Core.Path.{◌≡◌, refl, sym, ap, ap₂, ◌∙◌, subst}
-use mathlib.Core.Bool.{Bool, true, false, not, cond}
+use mathlib.Core.Bool.{Bool, true, false, not}
 use mathlib.Core.List.{List, [], ◌∷◌, ◌++◌, append_assoc}
 use mathlib.Core.Option.{Option, none, some}
 use lib.ListN.{length}
@@ -13,13 +13,13 @@ use Rattle.model.specs.declared.Session.{Session}
 use Rattle.model.specs.declared.Terms.{Terms}
 use Rattle.model.specs.declared.Rule.{Rule}
 use Rattle.model.specs.declared.Rule.TheVariants.{File, Twice, Room}
-use Rattle.model.specs.Lists.{part, is_some, on_some, or_else}
+use Rattle.model.specs.Lists.{part, on_some, or_else}
 use Rattle.model.specs.Name.{Key}
 use Rattle.model.specs.Image.{region_size, region}
 use Rattle.model.specs.Entry.{Value}
 use Rattle.model.specs.Region.{sound, entries, values, values_of, values_in}
 use Rattle.model.specs.Request.{Request, request_key}
-use Rattle.model.specs.Profile.{profile_of, items_in, shares_name_def}
+use Rattle.model.specs.Profile.{items_in, shares_name_def}
 use Rattle.model.specs.Limits.{Limit, limits_in, limits_for}
 use Rattle.model.specs.Change.{Change, changes_in, steps}
 use Rattle.model.specs.Rules.{first_broken, terms_of, terms_for_def, image_rules, items_rules, profile_rules, profile_broken, rule13, rule25, rule26}

@@ -17,8 +17,7 @@ use Rattle.model.specs.Name.{Key, well_named}
 use Rattle.model.specs.Entry.{Value}
 use Rattle.model.specs.Walk.{Entry, entry_value_def, placed}
 use Rattle.model.specs.Region.{entries, values, values_of, values_in}
-use Rattle.model.specs.Session.{at_runtime_def}
-use Rattle.model.specs.Rules.{first_broken, view_of, rule3, rule3_next, rule11_read, rule14, rule22, rule22_next, value_to_get, value_to_name, value_named, got_bytes, named_bytes, get_broken, next_broken}
+use Rattle.model.specs.Rules.{first_broken, view_of, rule3, rule3_next, rule11_read, rule14, rule22, value_to_get, value_to_name, value_named, got_bytes, named_bytes, get_broken, next_broken}
 use Rattle.model.specs.Answers.{rule_number, refusal, written, done, refused, outcome, get_reply, next_reply}
 use Rattle.model.specs.Beside.{Gives}
 use Rattle.model.specs.Book as book

@@ -1,11 +1,11 @@
 -- What a query answers: refused by the first of rules 1, 2 and 4 that is broken, else the room in the region, by the sums of its values.
 -- Assumes nothing.
-use Prim.Native.Nat.{ℕ, ◌+◌, ◌*◌, ◌-◌, ◌/◌, ◌≤◌, min}
+use Prim.Native.Nat.{ℕ, ◌+◌, ◌*◌, ◌-◌, ◌/◌, min}
 use native.Mathlib.Omega.{arith}
 use mathlib.Core.Path.{◌≡◌, refl, sym, ap, ◌∙◌}
 use mathlib.Core.Bool.{Bool, true, false, not, cond, ◌||◌, or-true}
-use mathlib.Core.List.{List, [], ◌∷◌, ◌++◌}
-use mathlib.Core.Option.{Option, none, some}
+use mathlib.Core.List.{List, [], ◌∷◌}
+use mathlib.Core.Option.{none, some}
 use lib.ListN.{length}
 use lib.Dec.{eqb}
 use Rattle.model.specs.declared.Terms.{Terms}
@@ -14,14 +14,14 @@ use Rattle.model.specs.declared.Rule.TheVariants.{Attributes}
 use Rattle.model.specs.declared.Queried.{Queried}
 use Rattle.model.specs.declared.Answer.TheVariants.{Done, Refused}
 use Rattle.model.specs.Layout.{authenticated}
-use Rattle.model.specs.Lists.{on_some, or_else}
+use Rattle.model.specs.Lists.{or_else}
 use Rattle.model.specs.Image.{region_header_size, block, region, region_size}
 use Rattle.model.specs.Entry.{Value}
 use Rattle.model.specs.Region.{record_bit, entries, values, values_of, values_in}
 use Rattle.model.specs.Change.{record_sizes, space_of}
 use Rattle.model.specs.Sides.{side_sizes}
 use Rattle.model.specs.Rules.{first_broken, rule4, image_rules}
-use Rattle.model.specs.Answers.{answer_of, done}
+use Rattle.model.specs.Answers.{answer_of}
 use Rattle.model.specs.Query.{record_share_def, storage_for, remaining_for, largest_for, query_broken, query_outcome, query_gives}
 use Rattle.model.proofs.Requests.{broken-append}
 use Rattle.model.proofs.Space.{all-sizes}

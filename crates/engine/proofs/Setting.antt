@@ -1,7 +1,7 @@
 -- A set over an image that is ready. Its decision over the region is that over the image's values: it names the rule that the set breaks, or the kind of its change,
 -- whose plan is refused, empty, a delete, a put or, where PlatMode changes with PK, one compaction; and what was found of the name in the region is what the stores of a delete and of a put ask for.
 -- Assumes nothing.
-use Prim.Native.Nat.{ℕ, ◌+◌, ◌*◌, ◌^◌, ◌≤◌}
+use Prim.Native.Nat.{ℕ, ◌*◌, ◌^◌, ◌≤◌}
 use native.Mathlib.Omega.{arith}
 use mathlib.Core.Path.{◌≡◌, refl, sym, ap, ap₂, ◌∙◌, subst}
 use mathlib.Core.Bool.{Bool, true, false, not, cond, ◌&&◌, false≢true}
@@ -9,7 +9,6 @@ use mathlib.Core.Logic.{◌≢◌}
 use mathlib.Core.List.{List, [], ◌∷◌, ◌++◌}
 use mathlib.Core.Option.{Option, none, some}
 use lib.ListN.{length}
-use lib.Dec.{eqb}
 use borrow.Author.Tests.{ne_eqb}
 use Rattle.model.specs.Layout.{authenticated}
 use Rattle.model.specs.declared.Session.{Session}
@@ -21,17 +20,17 @@ use Rattle.model.specs.Image.{block, region_size, region}
 use Rattle.model.specs.Entry.{Value, key_of}
 use Rattle.model.specs.Walk as walk
 use Rattle.model.specs.Region.{entries, sound, tail_at, values, values_of, added, replacing, standing, find, values_in}
-use Rattle.model.specs.Request.{Request, request_key, stamp_to_store, key_pk, key_mode, audit_mode, deployed_mode, mode_value, user_mode_def, stores_mode}
+use Rattle.model.specs.Request.{Request, request_key, key_pk, key_mode, audit_mode, deployed_mode, mode_value, user_mode_def, stores_mode}
 use Rattle.model.specs.Limits.{Limit, limits_in, limits_for}
-use Rattle.model.specs.Change.{Change, nothing, remove, put, change_in, without_mode, beside_pk, changes_of, steps, space_of, new_value}
-use Rattle.model.specs.Rules.{first_broken, terms_of, image_rules, request_rules, standing_rules, item_rules, setting_rules, room_rules, rule8, rule22, set_broken, image_rules_in}
+use Rattle.model.specs.Change.{Change, remove, put, change_in, without_mode, beside_pk, changes_of, steps, space_of, new_value}
+use Rattle.model.specs.Rules.{first_broken, terms_of, image_rules, item_rules, setting_rules, room_rules, rule22, set_broken}
 use Rattle.model.specs.Stores.{Store, Bytes}
 use Rattle.model.specs.Set.{Plan, refuse, make, fits_tail, delete_to, put_plan, change_plan, changes_plan, folded_plan, compact_plan}
 use Rattle.model.specs.Answers.{stores_of}
 use Rattle.model.specs.Beside.{Says}
 use Rattle.model.proofs.Chunks.{sound-parts}
 use Rattle.model.proofs.Values.{find-standing}
-use Rattle.model.proofs.Tests.{key-eq, and_split}
+use Rattle.model.proofs.Tests.{key-eq}
 use Rattle.model.proofs.Requests.{broken-append, set_rules, kept-valid, kept-room, kept-fits, remove-present}
 use Rattle.values.specs.Found.{found_of, else_found}
 use Rattle.values.specs.declared.Places.{Places}

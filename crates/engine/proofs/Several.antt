@@ -1,26 +1,26 @@
 -- One get after another: what those to come give and leave in the rest of the buffer, behind what is told and written already, is what all give. A get of one name, after
 -- rules 1 and 2, meets 3 and 22, then 11 and 14.
 -- Assumes nothing.
-use Prim.Native.Nat.{ℕ, zero, suc, ◌+◌, ◌*◌, ◌-◌, ◌≤◌, ◌<◌}
+use Prim.Native.Nat.{ℕ, suc, ◌+◌, ◌*◌, ◌-◌, ◌≤◌, ◌<◌}
 use native.Mathlib.Nat.{zero-add}
 use native.Mathlib.Numerals.{add-one}
 use native.Mathlib.Omega.{arith}
 use mathlib.Core.Path.{◌≡◌, refl, sym, ap, ap₂, subst, ◌∙◌}
-use mathlib.Core.Bool.{Bool, true, false, not, cond, ◌&&◌}
+use mathlib.Core.Bool.{Bool, true, false, ◌&&◌}
 use mathlib.Core.List.{List, [], ◌∷◌, ◌++◌, append_assoc, append-nil}
 use mathlib.Core.Option.{Option, none, some}
-use lib.ListN.{length, get_or, set, take, drop, length-append, length-drop, take-append-drop}
+use lib.ListN.{length, set, take, drop, length-append, length-drop, take-append-drop}
 use lib.Seq.{sets, sets-eq, length-take-le, drop-cons, drop-length, take-append-add, drop-append-add}
 use lib.Dec.{eqb, leb, ltb}
 use borrow.Author.Tests.{lt-ltb, le-ltb, leb-true}
-use Rattle.model.specs.Lists.{on_some, or_else, overlay, part}
+use Rattle.model.specs.Lists.{on_some, overlay, part}
 use Rattle.model.specs.Image.{region}
 use Rattle.model.specs.Name.{Key, well_named, zero_ended}
 use Rattle.model.specs.Entry.{Value}
 use Rattle.model.specs.Region.{entries, values, values_of, values_in}
 use Rattle.model.specs.Session.{at_runtime_def}
-use Rattle.model.specs.Rules.{first_broken, view_of, rule3, rule11_read, rule14, rule22, image_rules, get_rules, gets_broken, get_broken, value_to_get, got_bytes}
-use Rattle.model.specs.Answers.{rule_number, refusal, written, done, refused, outcome, answer_of, Reply, got_by, get_reply, given_by, Given, Gots, before, get_each_def, gets_reply}
+use Rattle.model.specs.Rules.{first_broken, view_of, rule3, rule22, image_rules, gets_broken, get_broken, value_to_get, got_bytes}
+use Rattle.model.specs.Answers.{rule_number, refusal, written, done, refused, got_by, get_reply, given_by, Given, Gots, before, get_each_def, gets_reply}
 use Rattle.model.specs.Book as book
 use Rattle.model.specs.Book.{plan_of}
 use Rattle.model.proofs.Tests.{and_split}
@@ -33,7 +33,7 @@ use Rattle.model.specs.declared.Session.{Session}
 use Rattle.model.specs.declared.View.{View}
 use Rattle.model.specs.declared.Context.{Context}
 use Rattle.model.specs.declared.Rule.{Rule}
-use Rattle.model.specs.declared.Rule.TheVariants.{Name, Side, Absent, Buffer}
+use Rattle.model.specs.declared.Rule.TheVariants.{Name, Side}
 use Rattle.model.specs.declared.Answer.{Answer}
 use Rattle.model.specs.declared.Answer.TheVariants.{Done, Refused}
 use Rattle.model.specs.declared.Got.{Got}

@@ -23,7 +23,6 @@ use Rattle.model.specs.Set.{Plan, refuse, make}
 use Rattle.model.specs.StartUp.{start_up_stores, start_up_plan}
 use Rattle.model.proofs.Requests.{broken-append, start_up-judged}
 use Rattle.image.specs.Check.{start_up_of}
-use Rattle.image.specs.declared.Start.{Start}
 use Rattle.image.specs.declared.Start.TheVariants.{Pending, Sound, Refused}
 use Rattle.records.specs.Look.{look_at_def}
 use Rattle.values.specs.Allotted.{allotted_by}

@@ -1,5 +1,6 @@
 // The calls. One that stores is planned first, from the image lent shared and without n, and then carried out.
 #![tactic(auto)]
+
 pub mod items;
 pub mod many;
 pub mod modes;

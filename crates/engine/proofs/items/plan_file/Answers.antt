@@ -4,7 +4,6 @@ use borrow.Author.Tests.{not-false}
 use Rattle.profile.proofs.Whole.{read-form}
 use Rattle.plan.proofs.Parts.{refused-plans}
 use Rattle.engine.proofs.Profiling.{formed, twice, file-refused, twice-refused}
-use borrow.Author.Rules.{rules}
 use Rattle.engine.proofs.items.plan_file.Goals as goal
 
 pub returns-then-not-settings : goal.returns-then-not-settings

@@ -1,7 +1,6 @@
 -- `engine::items::plan_items` meets its contract: the rule broken, no stores, or one compaction, as it was decided. Assumes nothing.
 use Rattle.plan.proofs.Parts.{refused-plans, nothing-plans}
 use Rattle.engine.proofs.Profiling.{weigh-asked, items_refused, items-nothing, never-removed, fold-asked, fold-plans}
-use borrow.Author.Rules.{rules}
 use Rattle.engine.proofs.items.plan_items.Goals as goal
 
 pub weigh-w-requires : goal.weigh-w-requires

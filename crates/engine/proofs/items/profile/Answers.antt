@@ -1,6 +1,5 @@
 -- `engine::items::profile` meets its contract: planned, then carried out. Assumes nothing.
 use Rattle.engine.proofs.Carrying.{planned-end}
-use borrow.Author.Rules.{rules}
 use Rattle.engine.proofs.items.profile.Goals as goal
 
 pub plan_profile-planned-requires : goal.plan_profile-planned-requires

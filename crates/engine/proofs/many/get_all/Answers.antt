@@ -1,7 +1,6 @@
 -- `engine::many::get_all` meets its contract: rule 3 by the number of names, else one get after another by where each name is met. Assumes nothing.
 use Rattle.model.specs.Region.{entries, values}
 use Rattle.engine.proofs.Several.{many-refused, many-answered}
-use borrow.Author.Rules.{rules}
 use Rattle.engine.proofs.many.get_all.Goals as goal
 
 pub returns-then-sizes-gt-MOST : goal.returns-then-sizes-gt-MOST

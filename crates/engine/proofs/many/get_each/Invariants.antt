@@ -1,15 +1,10 @@
 -- `engine::many::get_each` meets its contract. The loop's invariant: what the names to come are given, behind what is told and written already, is what all are given.
 -- Assumes nothing.
-use Prim.Native.Nat.{ℕ, ◌-◌}
-use native.Mathlib.Omega.{arith}
-use mathlib.Core.Path.{◌≡◌, refl, sym, ap, ◌∙◌}
-use mathlib.Core.List.{List}
+use Prim.Native.Nat.{◌-◌}
+use mathlib.Core.Path.{◌≡◌}
 use lib.ListN.{length}
 use Rattle.model.specs.Region.{entries, values}
-use Rattle.region.specs.Met.{key_from, met_of}
-use Rattle.engine.proofs.Copying.{put_rest}
-use Rattle.engine.proofs.Several.{Giving, giving-begin, turn-fits, turn-long, giving-turn, giving-end}
-use borrow.Author.Rules.{rules}
+use Rattle.engine.proofs.Several.{Giving}
 use Rattle.engine.proofs.many.get_each.Given as goal
 
 abbrev pub invariant-loop-k : goal.invariant-loop-k

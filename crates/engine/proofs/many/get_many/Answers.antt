@@ -6,7 +6,6 @@ use Rattle.model.specs.Layout.{authenticated}
 use Rattle.image.proofs.Ready.{is-ready, refused-rule}
 use Rattle.model.specs.Beside.{asked}
 use Rattle.engine.proofs.Several.{gets-answered, gets-refused}
-use borrow.Author.Rules.{rules}
 use Rattle.engine.proofs.many.get_many.Goals as goal
 
 pub overflow_mul-b : goal.overflow_mul-b

@@ -1,11 +1,9 @@
 -- `engine::many::get_one` meets its contract: rule 3, then 22, then what `get_from` answers. Assumes nothing.
 use mathlib.Core.Path.{◌≡◌, sym, ap, ap₂, ◌∙◌}
-use borrow.Author.Tests.{not-true, not-false}
 use Rattle.model.specs.Name.{Key, keyed, well_named}
 use Rattle.model.specs.Region.{entries, values}
 use Rattle.region.specs.Met.{key_from, met_of}
 use Rattle.engine.proofs.Several.{named-long, unnamed-one, foreign-one, found-one, one-as}
-use borrow.Author.Rules.{rules}
 use Rattle.engine.proofs.many.get_one.Goals as goal
 
 pub returns-then-not-is_named : goal.returns-then-not-is_named

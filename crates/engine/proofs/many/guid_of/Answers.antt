@@ -2,7 +2,6 @@
 use native.Mathlib.Omega.{arith}
 use mathlib.Core.Path.{refl}
 use Rattle.engine.proofs.Several.{guid-long, guid-whole}
-use borrow.Author.Rules.{rules}
 use Rattle.engine.proofs.many.guid_of.Goals as goal
 
 pub deliver-requires : goal.deliver-requires

@@ -1,6 +1,5 @@
 -- `engine::many::is_named` meets its contract: the quick test's yes is right, and where it says no the other decides. Assumes nothing.
 use mathlib.Core.Path.{sym}
-use borrow.Author.Rules.{rules}
 use Rattle.engine.proofs.many.is_named.Goals as goal
 
 pub is_zero_ended-requires : goal.is_zero_ended-requires

@@ -2,7 +2,6 @@
 use mathlib.Core.Path.{sym}
 use mathlib.Core.Bool.{true≢false}
 use borrow.Author.Tests.{eqb-true}
-use borrow.Author.Rules.{rules}
 use Rattle.engine.proofs.many.is_sized.Goals as goal
 
 pub returns-then-n-lt4 : goal.returns-then-n-lt4

@@ -1,5 +1,4 @@
 -- `engine::many::rule_told` meets its contract: each variant has its number. Assumes nothing.
-use borrow.Author.Rules.{rules}
 use Rattle.engine.proofs.many.rule_told.Goals as goal
 
 pub returns-in-Refused : goal.returns-in-Refused

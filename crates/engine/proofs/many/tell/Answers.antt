@@ -6,7 +6,6 @@ use mathlib.Core.List.{[], ◌∷◌}
 use lib.ListN.{length-set}
 use lib.Seq.{sets}
 use Rattle.engine.proofs.Several.{told-four}
-use borrow.Author.Rules.{rules}
 use Rattle.engine.proofs.many.tell.Goals as goal
 
 pub bounds-told-at-2 : goal.bounds-told-at-2

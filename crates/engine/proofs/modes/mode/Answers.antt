@@ -1,6 +1,5 @@
 -- `engine::modes::mode` meets its contract: planned, then carried out. Assumes nothing.
 use Rattle.engine.proofs.Carrying.{planned-end}
-use borrow.Author.Rules.{rules}
 use Rattle.engine.proofs.modes.mode.Goals as goal
 
 pub plan_mode-planned-requires : goal.plan_mode-planned-requires

@@ -1,7 +1,6 @@
 -- `engine::modes::plan_alone` meets its contract: the value put is PlatMode's. Assumes nothing.
 use Rattle.planner.proofs.Ready.{asked-as, planned-as}
 use Rattle.engine.proofs.Requesting.{mode-fields}
-use borrow.Author.Rules.{rules}
 use Rattle.engine.proofs.modes.plan_alone.Goals as goal
 
 pub put_value-requires : goal.put_value-requires

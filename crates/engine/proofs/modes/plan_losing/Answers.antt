@@ -1,6 +1,5 @@
 -- `engine::modes::plan_losing` meets its contract: PK's value goes, so it matters not which it were. Assumes nothing.
 use mathlib.Core.Bool.{false≢true}
-use borrow.Author.Rules.{rules}
 use Rattle.engine.proofs.modes.plan_losing.Goals as goal
 
 pub fold-requires : goal.fold-requires

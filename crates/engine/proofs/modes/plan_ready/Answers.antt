@@ -1,7 +1,6 @@
 -- `engine::modes::plan_ready` meets its contract: the rule broken, the mode alone, or with it PK's loss, as it was decided. Assumes nothing.
 use Rattle.plan.proofs.Parts.{refused-plans}
 use Rattle.engine.proofs.Requesting.{region-asked, mode-refused, never-else, alone-asked, alone-plans, losing-asked, losing-plans}
-use borrow.Author.Rules.{rules}
 use Rattle.engine.proofs.modes.plan_ready.Goals as goal
 
 pub decide-d-requires : goal.decide-d-requires

@@ -9,7 +9,6 @@ use Rattle.model.specs.Request.{mode_of}
 use Rattle.image.proofs.Ready.{is-ready, refused-rule}
 use Rattle.engine.specs.declared.modes.Platform.TheVariants.{Mode}
 use Rattle.engine.specs.Modes.{platform_of}
-use borrow.Author.Rules.{rules}
 use Rattle.engine.proofs.modes.present.Goals as goal
 
 pub overflow_mul-b : goal.overflow_mul-b

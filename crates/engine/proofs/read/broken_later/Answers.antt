@@ -1,6 +1,5 @@
 -- `engine::read::broken_later` meets its contract: the cases are the definition's. Assumes nothing.
 use mathlib.Core.Path.{sym, ap}
-use borrow.Author.Rules.{rules}
 use Rattle.engine.specs.Read.{broken_later_def}
 use Rattle.engine.proofs.read.broken_later.Goals as goal
 

@@ -5,7 +5,6 @@ use mathlib.Core.List.{List}
 use Rattle.model.specs.Layout.{authenticated}
 use Rattle.image.specs.Check.{checked_in}
 use Rattle.engine.proofs.Opened.{joined_key, joined-long}
-use borrow.Author.Rules.{rules}
 use Rattle.engine.proofs.read.check_name.Goals as goal
 
 pub slice_bounds-cut-end : goal.slice_bounds-cut-end

@@ -1,12 +1,10 @@
 -- `engine::read::deliver` meets its contract: after i turns the first i bytes are copied.
 -- Assumes nothing.
-use Prim.Native.Nat.{◌-◌, ◌≤◌}
 use native.Mathlib.Omega.{arith}
-use mathlib.Core.Path.{◌≡◌, ap, ◌∙◌}
+use mathlib.Core.Path.{ap, ◌∙◌}
 use lib.ListN.{length}
-use lib.Seq.{paste, paste-zero, length-paste}
+use lib.Seq.{paste-zero, length-paste}
 use Rattle.engine.proofs.Copying.{copy-next, copy-all}
-use borrow.Author.Rules.{rules}
 use Rattle.engine.proofs.read.deliver.Goals as goal
 
 pub loop-i-init : goal.loop-i-init

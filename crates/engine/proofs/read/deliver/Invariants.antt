@@ -1,12 +1,9 @@
 -- `engine::read::deliver` meets its contract: after i turns the first i bytes are copied.
 -- Assumes nothing.
 use Prim.Native.Nat.{◌-◌, ◌≤◌}
-use native.Mathlib.Omega.{arith}
-use mathlib.Core.Path.{◌≡◌, ap, ◌∙◌}
+use mathlib.Core.Path.{◌≡◌}
 use lib.ListN.{length}
-use lib.Seq.{paste, paste-zero, length-paste}
-use Rattle.engine.proofs.Copying.{copy-next, copy-all}
-use borrow.Author.Rules.{rules}
+use lib.Seq.{paste}
 use Rattle.engine.proofs.read.deliver.Given as goal
 
 abbrev pub invariant-loop-i : goal.invariant-loop-i

@@ -11,7 +11,6 @@ use Rattle.region.specs.Met.{met_of}
 use Rattle.model.specs.Rules.{got_bytes, value_to_get}
 use Rattle.engine.proofs.Opened.{named-short, opens, refuses}
 use Rattle.engine.proofs.Reading.{read_found, read-refused, read_as, region-get, get-answered}
-use borrow.Author.Rules.{rules}
 use Rattle.engine.proofs.read.get.Goals as goal
 
 pub open-checked-requires : goal.open-checked-requires

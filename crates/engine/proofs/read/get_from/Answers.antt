@@ -11,7 +11,6 @@ use Rattle.region.specs.Walk.{entry_at}
 use Rattle.query.specs.Query.{entry_to_get}
 use Rattle.query.proofs.Held.{get_value}
 use Rattle.engine.proofs.Reading.{answered-absent, answered-found, value_found, value_none, entry-attributes, short-data}
-use borrow.Author.Rules.{rules}
 use Rattle.engine.proofs.read.get_from.Goals as goal
 
 pub to_get-found-requires : goal.to_get-found-requires

@@ -4,7 +4,6 @@ use mathlib.Core.Path.{refl}
 use lib.ListN.{length}
 use borrow.Author.Tests.{lt-ltb, le-ltb}
 use Rattle.engine.proofs.Reading.{short-buffer, long-buffer}
-use borrow.Author.Rules.{rules}
 use Rattle.engine.proofs.read.give.Goals as goal
 
 pub returns-then-buffer-bytes : goal.returns-then-buffer-bytes

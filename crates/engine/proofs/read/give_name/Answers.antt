@@ -8,7 +8,6 @@ use lib.ListN.{length, length-append}
 use borrow.Author.Tests.{lt-ltb, le-ltb}
 use Rattle.engine.proofs.Copying.{copied_behind}
 use Rattle.engine.proofs.Reading.{short-buffer, long-buffer}
-use borrow.Author.Rules.{rules}
 use Rattle.engine.proofs.read.give_name.Goals as goal
 
 pub returns-then-buffer-front : goal.returns-then-buffer-front

@@ -3,7 +3,6 @@
 use mathlib.Core.Path.{ap}
 use mathlib.Core.Bool.{not}
 use Rattle.model.specs.Rules.{rule22}
-use borrow.Author.Rules.{rules}
 use Rattle.engine.proofs.read.is_foreign.Goals as goal
 
 pub returns : goal.returns

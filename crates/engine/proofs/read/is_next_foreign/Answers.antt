@@ -2,7 +2,6 @@
 -- Assumes nothing.
 use mathlib.Core.Path.{sym, ◌∙◌}
 use Rattle.model.specs.Rules.{rule22_next}
-use borrow.Author.Rules.{rules}
 use Rattle.engine.proofs.read.is_next_foreign.Goals as goal
 
 pub returns-then-is_empty_name : goal.returns-then-is_empty_name

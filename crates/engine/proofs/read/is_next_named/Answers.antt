@@ -1,7 +1,6 @@
 -- `engine::read::is_next_named` meets its contract: the tests are the rule's.
 -- Assumes nothing.
 use mathlib.Core.Path.{sym, ◌∙◌}
-use borrow.Author.Rules.{rules}
 use Rattle.engine.proofs.read.is_next_named.Goals as goal
 
 pub returns-then-is_named : goal.returns-then-is_named

@@ -12,7 +12,6 @@ use Rattle.model.specs.Rules.{named_bytes, value_to_name}
 use Rattle.engine.specs.Read.{next_at}
 use Rattle.engine.proofs.Opened.{next-short, opens, refuses}
 use Rattle.engine.proofs.Reading.{read_found, read-refused, read_as, region-name}
-use borrow.Author.Rules.{rules}
 use Rattle.engine.proofs.read.name_behind.Goals as goal
 
 pub open-checked-requires : goal.open-checked-requires

@@ -12,7 +12,6 @@ use Rattle.region.specs.Walk.{entry_at}
 use Rattle.query.specs.Query.{entry_to_name}
 use Rattle.query.proofs.Held.{name-value}
 use Rattle.engine.proofs.Reading.{answered-absent, answered-found, value_found, value_none, entry-vendor, short-name, short-vendor}
-use borrow.Author.Rules.{rules}
 use Rattle.engine.proofs.read.name_from.Goals as goal
 
 pub to_name-found-requires : goal.to_name-found-requires

@@ -2,7 +2,6 @@
 -- Assumes nothing.
 use Rattle.model.specs.Name.{keyed}
 use Rattle.engine.proofs.Reading.{next-answered}
-use borrow.Author.Rules.{rules}
 use Rattle.engine.proofs.read.next_name.Goals as goal
 
 pub returns : goal.returns

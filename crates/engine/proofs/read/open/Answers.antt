@@ -7,7 +7,6 @@ use Rattle.model.specs.Name.{keyed}
 use Rattle.model.specs.declared.Rule.TheVariants.{Name, Side}
 use Rattle.image.proofs.Ready.{checked_call}
 use Rattle.engine.proofs.Opened.{open-foreign, open-unnamed, opened-own, opened-broken}
-use borrow.Author.Rules.{rules}
 use Rattle.engine.proofs.read.open.Goals as goal
 
 pub check_name-checked-requires : goal.check_name-checked-requires

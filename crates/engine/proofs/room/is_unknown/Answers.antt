@@ -2,7 +2,6 @@
 -- Assumes nothing.
 use borrow.Author.Tests.{ne_eqb}
 use Rattle.engine.proofs.Rooms.{unknown-none, unknown-some}
-use borrow.Author.Rules.{rules}
 use Rattle.engine.proofs.room.is_unknown.Goals as goal
 
 pub returns-then-attributes-eq0 : goal.returns-then-attributes-eq0

@@ -3,7 +3,6 @@
 use native.Mathlib.Omega.{arith}
 use mathlib.Core.Path.{refl}
 use Rattle.model.specs.Query.{largest_for}
-use borrow.Author.Rules.{rules}
 use Rattle.engine.proofs.room.largest.Goals as goal
 
 pub returns : goal.returns

@@ -6,7 +6,6 @@ use lib.ListN.{length}
 use Rattle.model.specs.Layout.{authenticated}
 use Rattle.image.proofs.Ready.{is-ready}
 use Rattle.engine.proofs.Rooms.{told-unknown, told-refused, told-room}
-use borrow.Author.Rules.{rules}
 use Rattle.engine.proofs.room.query.Goals as goal
 
 pub returns-then-is_unknown : goal.returns-then-is_unknown

@@ -1,6 +1,5 @@
 -- `engine::room::record_share` meets its contract: error records are ours.
 -- Assumes nothing.
-use borrow.Author.Rules.{rules}
 use Rattle.engine.proofs.room.record_share.Goals as goal
 
 pub returns-then-t : goal.returns-then-t

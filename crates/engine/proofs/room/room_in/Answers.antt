@@ -7,7 +7,6 @@ use Rattle.model.specs.Region.{entries, values}
 use Rattle.model.specs.Query.{remaining_for, largest_for}
 use Rattle.values.proofs.Counting.{told-sums}
 use Rattle.engine.proofs.Rooms.{remaining-by}
-use borrow.Author.Rules.{rules}
 use Rattle.engine.proofs.room.room_in.Goals as goal
 
 pub remaining-remaining-requires : goal.remaining-remaining-requires

@@ -4,7 +4,6 @@ use Rattle.model.specs.StartUp.{start_up_plan}
 use Rattle.model.specs.Book.{plan_of}
 use Rattle.engine.proofs.Starts.{given, given-gives}
 use Rattle.engine.proofs.Carrying.{planned-end}
-use borrow.Author.Rules.{rules}
 use Rattle.engine.proofs.start.start_up.Goals as goal
 
 pub carry_out-requires : goal.carry_out-requires

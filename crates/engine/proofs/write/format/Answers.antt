@@ -1,6 +1,5 @@
 -- `engine::write::format` meets its contract: planned, then carried out. Assumes nothing.
 use Rattle.engine.proofs.Carrying.{planned-end}
-use borrow.Author.Rules.{rules}
 use Rattle.engine.proofs.write.format.Goals as goal
 
 pub returns : goal.returns

@@ -1,11 +1,10 @@
 -- `engine::write::plan_joint` meets its contract: the data kept and those given are the value's, and the offset is that of what stands. Assumes nothing.
-use mathlib.Core.Path.{◌≡◌, ap, ap₂, ◌∙◌}
+use mathlib.Core.Path.{ap, ap₂, ◌∙◌}
 use mathlib.Core.List.{List, ◌++◌}
 use Prim.Native.Nat.{ℕ}
 use Rattle.planner.specs.Asked.{valued}
 use Rattle.decision.specs.Parts.{value_by, offset_of}
 use Rattle.engine.proofs.Setting.{joinable-as, folded-as}
-use borrow.Author.Rules.{rules}
 use Rattle.engine.proofs.write.plan_joint.Goals as goal
 
 pub fold-requires : goal.fold-requires

@@ -1,11 +1,10 @@
 -- `engine::write::plan_put` meets its contract: the data kept and those given are the value's. Assumes nothing.
-use mathlib.Core.Path.{◌≡◌, ap₂, ◌∙◌}
+use mathlib.Core.Path.{ap₂}
 use mathlib.Core.List.{List, ◌++◌}
 use Prim.Native.Nat.{ℕ}
 use Rattle.planner.specs.Asked.{valued}
 use Rattle.planner.proofs.Ready.{asked-as, planned-as}
 use Rattle.decision.specs.Parts.{value_by}
-use borrow.Author.Rules.{rules}
 use Rattle.engine.proofs.write.plan_put.Goals as goal
 
 pub put_value-requires : goal.put_value-requires

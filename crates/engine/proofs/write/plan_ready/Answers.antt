@@ -2,7 +2,6 @@
 use Rattle.decision.specs.Parts.{value_by}
 use Rattle.plan.proofs.Parts.{refused-plans, nothing-plans}
 use Rattle.engine.proofs.Setting.{region-asked, said-foreign, set-refused, set-nothing, remove-asked, remove-plans, put-asked, put-plans, removed-asked, removed-plans, enrolled-asked, enrolled-plans}
-use borrow.Author.Rules.{rules}
 use Rattle.engine.proofs.write.plan_ready.Goals as goal
 
 pub decide-d-requires : goal.decide-d-requires

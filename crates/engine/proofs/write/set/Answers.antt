@@ -1,6 +1,5 @@
 -- `engine::write::set` meets its contract: planned, then carried out. Assumes nothing.
 use Rattle.engine.proofs.Carrying.{planned-end}
-use borrow.Author.Rules.{rules}
 use Rattle.engine.proofs.write.set.Goals as goal
 
 pub plan_set-planned-requires : goal.plan_set-planned-requires
