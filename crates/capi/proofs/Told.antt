@@ -2,7 +2,7 @@
 -- Assumes nothing.
 use Prim.Native.Nat.{ℕ}
 use native.Mathlib.Omega.{arith}
-use mathlib.Core.Path.{◌≡◌, refl, ap}
+use mathlib.Core.Path.{◌≡◌, refl}
 use mathlib.Core.List.{List}
 use mathlib.Core.Option.{Option, none, some}
 use Rattle.model.specs.Layout.{authenticated}
@@ -11,7 +11,6 @@ use Rattle.model.specs.declared.PlatMode.{PlatMode}
 use Rattle.model.specs.declared.Answer.{Answer}
 use Rattle.model.specs.declared.Answer.TheVariants.{Done, Stopped, Refused}
 use Rattle.model.specs.Lists.{on_some}
-use Rattle.model.specs.Image.{blocks}
 use Rattle.model.specs.Region.{values_of}
 use Rattle.model.specs.Request.{mode_of}
 use Rattle.model.specs.Rules.{first_broken, image_rules}
@@ -20,7 +19,6 @@ use Rattle.image.specs.Check.{call_of}
 use Rattle.image.specs.declared.Check.TheVariants as call
 use Rattle.image.proofs.Ready.{refused-rule, is-ready}
 use Rattle.engine.specs.Modes.{platform_of}
-use Rattle.engine.specs.declared.modes.Platform.{Platform}
 use Rattle.engine.specs.declared.modes.Platform.TheVariants as platform
 use Rattle.capi.specs.declared.Answered.{Answered}
 use Rattle.capi.specs.declared.Checked.{Checked}

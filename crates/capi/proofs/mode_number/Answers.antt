@@ -1,6 +1,5 @@
 -- `capi::mode_number` meets its contract. Assumes nothing.
 use Rattle.capi.specs.Numbers.{mode_number_def}
-use borrow.Author.Rules.{rules}
 use Rattle.capi.proofs.mode_number.Goals as goal
 
 pub returns-in-Setup : goal.returns-in-Setup

@@ -1,7 +1,6 @@
 -- `capi::numbers` meets its contract: each case of the answer has its numbers.
 -- Assumes nothing.
 use Rattle.capi.proofs.Told.{done-told, stopped-told, refused-told}
-use borrow.Author.Rules.{rules}
 use Rattle.capi.proofs.numbers.Goals as goal
 
 pub returns-in-Done : goal.returns-in-Done

@@ -5,7 +5,6 @@ use mathlib.Core.Path.{sym, ◌∙◌}
 use Rattle.model.specs.Layout.{authenticated}
 use Rattle.image.proofs.Ready.{is-ready}
 use Rattle.capi.proofs.Told.{ready-told, broken-told}
-use borrow.Author.Rules.{rules}
 use Rattle.capi.proofs.vs_check.Goals as goal
 
 pub overflow_cast-result : goal.overflow_cast-result

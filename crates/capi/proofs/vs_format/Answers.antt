@@ -1,7 +1,6 @@
 -- `capi::vs_format` meets its contract: it is the engine's, with the answer in numbers. Assumes nothing.
 use mathlib.Core.Path.{ap, ◌∙◌}
 use Rattle.capi.specs.Numbers.{numbers_of}
-use borrow.Author.Rules.{rules}
 use Rattle.capi.proofs.vs_format.Goals as goal
 
 pub returns : goal.returns

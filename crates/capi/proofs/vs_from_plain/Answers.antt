@@ -4,7 +4,6 @@ use mathlib.Core.Path.{ap, ap₂, ◌∙◌}
 use Rattle.model.specs.declared.Layout.{Layout}
 use Rattle.model.specs.Move.{move_answer, image_moved}
 use Rattle.capi.specs.Numbers.{numbers_of}
-use borrow.Author.Rules.{rules}
 use Rattle.capi.proofs.vs_from_plain.Goals as goal
 
 pub returns : goal.returns

@@ -3,7 +3,6 @@ use mathlib.Core.Path.{ap, ◌∙◌}
 use Rattle.model.specs.Answers.{side_of}
 use Rattle.capi.specs.Numbers.{numbers_of}
 use Rattle.capi.proofs.Said.{view-told}
-use borrow.Author.Rules.{rules}
 use Rattle.capi.proofs.vs_get.Goals as goal
 
 pub returns : goal.returns

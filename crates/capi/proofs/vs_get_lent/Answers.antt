@@ -5,7 +5,6 @@ use Rattle.model.specs.Rules.{view_of}
 use Rattle.model.specs.Answers.{side_of}
 use Rattle.model.specs.Lent.{session_of}
 use Rattle.capi.specs.Numbers.{numbers_of}
-use borrow.Author.Rules.{rules}
 use Rattle.capi.proofs.vs_get_lent.Goals as goal
 
 pub returns : goal.returns

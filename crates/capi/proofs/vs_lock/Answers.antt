@@ -4,7 +4,6 @@ use mathlib.Core.Bool.{Bool}
 use Rattle.model.specs.Name.{keyed}
 use Rattle.model.specs.Answers.{lock_outcome, lock_session}
 use Rattle.capi.specs.Numbers.{numbers_of}
-use borrow.Author.Rules.{rules}
 use Rattle.capi.proofs.vs_lock.Goals as goal
 
 pub returns : goal.returns

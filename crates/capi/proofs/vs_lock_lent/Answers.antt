@@ -5,7 +5,6 @@ use Rattle.model.specs.Name.{keyed}
 use Rattle.model.specs.Answers.{lock_outcome, lock_session}
 use Rattle.model.specs.Lent.{session_of}
 use Rattle.capi.specs.Numbers.{numbers_of}
-use borrow.Author.Rules.{rules}
 use Rattle.capi.proofs.vs_lock_lent.Goals as goal
 
 pub returns : goal.returns

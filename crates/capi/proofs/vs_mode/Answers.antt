@@ -3,7 +3,6 @@ use mathlib.Core.Path.{refl, ap, ◌∙◌}
 use Rattle.model.specs.Answers.{side_of}
 use Rattle.capi.specs.Numbers.{numbers_of}
 use Rattle.capi.proofs.Said.{for-told, modes-told}
-use borrow.Author.Rules.{rules}
 use Rattle.capi.proofs.vs_mode.Goals as goal
 
 pub mode-answer-requires : goal.mode-answer-requires

@@ -1,6 +1,5 @@
 -- `capi::vs_plan_format` meets its contract: what the engine planned, in numbers. Assumes nothing.
 use Rattle.plan.proofs.InNumbers.{told}
-use borrow.Author.Rules.{rules}
 use Rattle.capi.proofs.vs_plan_format.Goals as goal
 
 pub returns : goal.returns

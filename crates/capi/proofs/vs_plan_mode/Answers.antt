@@ -3,7 +3,6 @@ use mathlib.Core.Path.{refl}
 use Rattle.model.specs.Session.{is_modem_def}
 use Rattle.plan.proofs.InNumbers.{told}
 use Rattle.capi.proofs.Said.{for-told, modes-told}
-use borrow.Author.Rules.{rules}
 use Rattle.capi.proofs.vs_plan_mode.Goals as goal
 
 pub plan_mode-planned-requires : goal.plan_mode-planned-requires

@@ -3,7 +3,6 @@ use mathlib.Core.Path.{refl}
 use Rattle.model.specs.Session.{is_modem_def}
 use Rattle.plan.proofs.InNumbers.{told}
 use Rattle.capi.proofs.Said.{for-told, all_told}
-use borrow.Author.Rules.{rules}
 use Rattle.capi.proofs.vs_plan_profile.Goals as goal
 
 pub plan_profile-planned-requires : goal.plan_profile-planned-requires

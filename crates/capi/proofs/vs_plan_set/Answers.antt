@@ -3,7 +3,6 @@ use Rattle.model.specs.Name.{keyed}
 use Rattle.model.specs.Session.{is_modem_def}
 use Rattle.capi.proofs.Said.{says-told}
 use Rattle.plan.proofs.InNumbers.{told}
-use borrow.Author.Rules.{rules}
 use Rattle.capi.proofs.vs_plan_set.Goals as goal
 
 pub plan_set-planned-requires : goal.plan_set-planned-requires

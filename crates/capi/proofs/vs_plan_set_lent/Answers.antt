@@ -6,7 +6,6 @@ use Rattle.model.specs.Rules.{terms_of}
 use Rattle.model.specs.Session.{is_modem_def}
 use Rattle.model.specs.Lent.{session_of}
 use Rattle.plan.proofs.InNumbers.{told}
-use borrow.Author.Rules.{rules}
 use Rattle.capi.proofs.vs_plan_set_lent.Goals as goal
 
 pub plan_set-told-requires : goal.plan_set-told-requires

@@ -1,7 +1,6 @@
 -- `capi::vs_plan_start_up` meets its contract: the plan with what it is given, in numbers. Assumes nothing.
 use mathlib.Core.Path.{refl}
 use Rattle.plan.proofs.InNumbers.{told}
-use borrow.Author.Rules.{rules}
 use Rattle.capi.proofs.vs_plan_start_up.Goals as goal
 
 pub returns : goal.returns

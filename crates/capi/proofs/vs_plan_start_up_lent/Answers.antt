@@ -2,7 +2,6 @@
 use mathlib.Core.Path.{sym}
 use Rattle.model.specs.Lent.{session_of}
 use Rattle.plan.proofs.InNumbers.{told}
-use borrow.Author.Rules.{rules}
 use Rattle.capi.proofs.vs_plan_start_up_lent.Goals as goal
 
 pub returns : goal.returns

@@ -1,7 +1,6 @@
 -- `capi::vs_present_mode` meets its contract: what the engine found, in numbers. Assumes nothing.
 use mathlib.Core.Path.{sym, ◌∙◌}
 use Rattle.capi.proofs.Told.{mode-told, unready-told}
-use borrow.Author.Rules.{rules}
 use Rattle.capi.proofs.vs_present_mode.Goals as goal
 
 pub returns-in-Mode : goal.returns-in-Mode

@@ -3,7 +3,6 @@ use mathlib.Core.Path.{refl, ap, ◌∙◌}
 use Rattle.model.specs.Answers.{side_of}
 use Rattle.capi.specs.Numbers.{numbers_of}
 use Rattle.capi.proofs.Said.{for-told, all_told}
-use borrow.Author.Rules.{rules}
 use Rattle.capi.proofs.vs_profile.Goals as goal
 
 pub profile-answer-requires : goal.profile-answer-requires

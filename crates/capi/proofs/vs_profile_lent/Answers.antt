@@ -6,7 +6,6 @@ use Rattle.model.specs.Answers.{side_of}
 use Rattle.model.specs.Lent.{session_of}
 use Rattle.capi.specs.Numbers.{numbers_of}
 use Rattle.capi.proofs.Said.{all_told}
-use borrow.Author.Rules.{rules}
 use Rattle.capi.proofs.vs_profile_lent.Goals as goal
 
 pub profile-told-requires : goal.profile-told-requires

@@ -6,7 +6,6 @@ use Rattle.model.specs.Answers.{side_of}
 use Rattle.engine.proofs.Rooms.{Told}
 use Rattle.capi.specs.Numbers.{numbers_of}
 use Rattle.capi.proofs.Said.{for-told}
-use borrow.Author.Rules.{rules}
 use Rattle.capi.proofs.vs_query.Goals as goal
 
 pub returns : goal.returns

@@ -6,7 +6,6 @@ use Rattle.model.specs.Rules.{terms_for_def}
 use Rattle.model.specs.Lent.{session_of}
 use Rattle.engine.proofs.Rooms.{Told}
 use Rattle.capi.specs.Numbers.{numbers_of}
-use borrow.Author.Rules.{rules}
 use Rattle.capi.proofs.vs_query_lent.Goals as goal
 
 pub returns : goal.returns

@@ -4,7 +4,6 @@ use Rattle.model.specs.Name.{keyed}
 use Rattle.model.specs.Answers.{side_of}
 use Rattle.capi.specs.Numbers.{numbers_of}
 use Rattle.capi.proofs.Said.{says-told}
-use borrow.Author.Rules.{rules}
 use Rattle.capi.proofs.vs_set.Goals as goal
 
 pub set-answer-requires : goal.set-answer-requires

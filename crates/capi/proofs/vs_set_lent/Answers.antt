@@ -6,7 +6,6 @@ use Rattle.model.specs.Rules.{terms_of}
 use Rattle.model.specs.Answers.{side_of}
 use Rattle.model.specs.Lent.{session_of}
 use Rattle.capi.specs.Numbers.{numbers_of}
-use borrow.Author.Rules.{rules}
 use Rattle.capi.proofs.vs_set_lent.Goals as goal
 
 pub set-told-requires : goal.set-told-requires

@@ -3,7 +3,6 @@ use mathlib.Core.Path.{refl, ap, ◌∙◌}
 use Rattle.model.specs.StartUp.{start_up_plan}
 use Rattle.model.specs.Book.{plan_of}
 use Rattle.capi.specs.Numbers.{numbers_of}
-use borrow.Author.Rules.{rules}
 use Rattle.capi.proofs.vs_start_up.Goals as goal
 
 pub returns : goal.returns

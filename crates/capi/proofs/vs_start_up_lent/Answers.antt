@@ -4,7 +4,6 @@ use Rattle.model.specs.StartUp.{start_up_plan}
 use Rattle.model.specs.Book.{plan_of}
 use Rattle.model.specs.Lent.{session_of}
 use Rattle.capi.specs.Numbers.{numbers_of}
-use borrow.Author.Rules.{rules}
 use Rattle.capi.proofs.vs_start_up_lent.Goals as goal
 
 pub returns : goal.returns
