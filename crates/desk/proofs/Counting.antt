@@ -1,10 +1,10 @@
 -- A call of the desk: with no dead byte it makes its first n stores, and its answer tells how many. So what is counted from the plan's operations is what it did.
 -- Assumes nothing.
-use Prim.Native.Nat.{ℕ, ◌*◌, ◌^◌, ◌≤◌, ◌<◌, min}
+use Prim.Native.Nat.{ℕ, ◌^◌, ◌≤◌, ◌<◌, min}
 use native.Mathlib.Omega.{arith}
 use mathlib.Core.Path.{◌≡◌, refl, sym, ap, ap₂, ◌∙◌}
 use mathlib.Core.Bool.{Bool, true, false, cond}
-use mathlib.Core.List.{List, [], ◌++◌}
+use mathlib.Core.List.{List, []}
 use lib.ListN.{length, take, drop, take-append-drop}
 use lib.Seq.{take-nil}
 use lib.Dec.{leb}

@@ -3,8 +3,8 @@
 use Prim.Native.Nat.{ℕ, ◌+◌, ◌*◌, ◌-◌, ◌≤◌}
 use native.Mathlib.Omega.{arith}
 use mathlib.Core.Path.{◌≡◌, refl, sym, ap, ap₂, ◌∙◌}
-use mathlib.Core.Bool.{Bool, true, false, cond, ◌&&◌}
-use mathlib.Core.List.{List, [], ◌∷◌, ◌++◌, append-nil}
+use mathlib.Core.Bool.{Bool, true, false, ◌&&◌}
+use mathlib.Core.List.{List, [], ◌++◌, append-nil}
 use native.Mathlib.Nat.{mul-zero}
 use lib.ListN.{length, replicate, length-append, length-replicate, replicate-append-replicate}
 use borrow.Author.Tests.{le-leb, eq-eqb}
@@ -14,7 +14,7 @@ use Rattle.model.specs.Layout.{signature}
 use Rattle.model.specs.Image.{block, blocks, right_length, region_size, region_header_def, region_header_in, region_header_size}
 use Rattle.model.specs.Session.{no_locks_def, no_sizes_def, kept, fresh_session}
 use Rattle.model.specs.Rules.{first_broken, rule1, format_broken}
-use Rattle.model.specs.Stores.{Store, stores, apply_all, after, erases, run, width_of}
+use Rattle.model.specs.Stores.{Store, stores, apply_all, erases, run, width_of}
 use Rattle.model.specs.Set.{make}
 use Rattle.model.specs.StartUp.{format_stores, format_plan}
 use Rattle.model.specs.Answers.{stores_of, image_after}

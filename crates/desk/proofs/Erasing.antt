@@ -10,7 +10,7 @@ use lib.Seq.{length-take-le, take-nil, drop-cons}
 use Rattle.model.specs.Lists.{part}
 use Rattle.model.specs.Image.{block}
 use Rattle.model.specs.Layout.{state_at}
-use Rattle.model.specs.Stores.{Store, page, erase, Write, run, mark, erases, bytewise, stores, todays, todays_one}
+use Rattle.model.specs.Stores.{Store, page, erase, Write, erases, bytewise, stores, todays, todays_one}
 use Rattle.model.proofs.Stores.{stores-todays}
 use Rattle.plan.specs.declared.Step.{Step}
 use Rattle.plan.specs.declared.Step.TheVariants.{Nothing, Mark, Erase, Program, Header}

@@ -1,5 +1,6 @@
 // A season tried on the desk: the steps of a script played through the engine on an empty image, and a line of text for each.
 #![tactic(auto)]
+
 ghost use Rattle.std.specs.Prelude.{◌≡◌, ◌+◌, ◌*◌, ◌^◌, ◌≤◌, ◌<◌, length};
 ghost use Rattle.model.specs.Image.{block};
 ghost use Rattle.model.specs.Region.{tail_at};

@@ -1,16 +1,12 @@
 -- `desk::play_all` meets its contract. The loop's invariant: the lines of the steps before this place are written, and what is left of the text is that of the steps
 -- from here on, on the image as it is and after so many erases. The steps that are left fall.
 -- Assumes nothing.
-use Prim.Native.Nat.{ℕ, suc, ◌+◌, ◌*◌, ◌-◌, ◌^◌, ◌≤◌}
-use native.Mathlib.Omega.{arith}
-use native.Mathlib.Nat.{sub-zero}
-use mathlib.Core.Path.{◌≡◌, refl}
+use Prim.Native.Nat.{◌+◌, ◌*◌, ◌-◌, ◌^◌, ◌≤◌}
+use mathlib.Core.Path.{◌≡◌}
 use lib.ListN.{length}
-use borrow.Author.Rules.{rules}
 use Rattle.model.specs.Image.{block}
 use Rattle.desk.specs.Season.{season_text}
-use Rattle.desk.proofs.Steps.{step-stops}
-use Rattle.desk.proofs.Underway.{Underway, all-steps, underway-none, never-missing, underway-next, underway-all}
+use Rattle.desk.proofs.Underway.{Underway}
 use Rattle.desk.proofs.play_all.Given as goal
 
 abbrev pub invariant-loop-i : goal.invariant-loop-i

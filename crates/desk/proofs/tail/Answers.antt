@@ -1,11 +1,8 @@
 -- `desk::tail` meets its contract. The loop's invariant: the walk from the first entry on ends where the walk from this place on does. Assumes nothing.
-use Prim.Native.Nat.{◌-◌}
-use mathlib.Core.Path.{◌≡◌, refl, sym, ap, ◌∙◌}
-use lib.ListN.{length}
-use borrow.Author.Rules.{rules}
+use mathlib.Core.Path.{refl, sym, ap, ◌∙◌}
 use Rattle.model.specs.Walk.{walk_end_def}
-use Rattle.model.specs.Region.{entries_in, tail_at_in, tail_at}
-use Rattle.model.specs.Beside.{from_in, from}
+use Rattle.model.specs.Region.{entries_in, tail_at_in}
+use Rattle.model.specs.Beside.{from_in}
 use Rattle.region.proofs.Turns.{at_entry, at-end}
 use Rattle.desk.proofs.Tails.{tail-next}
 use Rattle.desk.proofs.tail.Goals as goal

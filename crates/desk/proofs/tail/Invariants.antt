@@ -1,13 +1,10 @@
 -- `desk::tail` meets its contract. The loop's invariant: the walk from the first entry on ends where the walk from this place on does. Assumes nothing.
 use Prim.Native.Nat.{◌-◌}
-use mathlib.Core.Path.{◌≡◌, refl, sym, ap, ◌∙◌}
+use mathlib.Core.Path.{◌≡◌}
 use lib.ListN.{length}
-use borrow.Author.Rules.{rules}
 use Rattle.model.specs.Walk.{walk_end_def}
-use Rattle.model.specs.Region.{entries_in, tail_at_in, tail_at}
-use Rattle.model.specs.Beside.{from_in, from}
-use Rattle.region.proofs.Turns.{at_entry, at-end}
-use Rattle.desk.proofs.Tails.{tail-next}
+use Rattle.model.specs.Region.{tail_at}
+use Rattle.model.specs.Beside.{from}
 use Rattle.desk.proofs.tail.Given as goal
 
 abbrev pub invariant-loop-next : goal.invariant-loop-next

@@ -1,12 +1,11 @@
-
-use Prim.Native.Nat.{ℕ, ◌+◌, ◌-◌, ◌^◌, ◌≤◌, ◌<◌}
+use Prim.Native.Nat.{ℕ, ◌+◌, ◌-◌, ◌^◌, ◌<◌}
 use native.Mathlib.Omega.{arith}
-use mathlib.Core.Path.{◌≡◌, refl, sym, ap, ◌∙◌}
-use lib.ListN.{length, drop, get_or}
+use mathlib.Core.Path.{◌≡◌, sym, ap, ◌∙◌}
+use lib.ListN.{length, get_or}
 use borrow.Author.Rules.{rules}
 use Rattle.plan.specs.declared.Step.TheVariants.{Nothing}
 use Rattle.plan.specs.Plan.{op, size_of}
-use Rattle.desk.specs.Erasing.{erased_of_def, erased_in}
+use Rattle.desk.specs.Erasing.{erased_of_def}
 use Rattle.desk.proofs.Erasing.{step-most, one-operation, no-operation, none_dropped}
 use Rattle.desk.proofs.erases.erased.Goals as goal
 

@@ -1,13 +1,7 @@
-
-use Prim.Native.Nat.{ℕ, ◌+◌, ◌-◌, ◌^◌, ◌≤◌, ◌<◌}
-use native.Mathlib.Omega.{arith}
-use mathlib.Core.Path.{◌≡◌, refl, sym, ap, ◌∙◌}
-use lib.ListN.{length, drop, get_or}
-use borrow.Author.Rules.{rules}
-use Rattle.plan.specs.declared.Step.TheVariants.{Nothing}
-use Rattle.plan.specs.Plan.{op, size_of}
-use Rattle.desk.specs.Erasing.{erased_of_def, erased_in}
-use Rattle.desk.proofs.Erasing.{step-most, one-operation, no-operation, none_dropped}
+use Prim.Native.Nat.{◌+◌, ◌-◌, ◌≤◌}
+use mathlib.Core.Path.{◌≡◌}
+use lib.ListN.{drop}
+use Rattle.desk.specs.Erasing.{erased_in}
 use Rattle.desk.proofs.erases.erased.Given as goal
 
 abbrev pub invariant-loop-i : goal.invariant-loop-i

@@ -1,5 +1,3 @@
-
-use borrow.Author.Rules.{rules}
 use Rattle.desk.proofs.erases.erased_of.Goals as goal
 
 pub returns-in-Erase : goal.returns-in-Erase

@@ -1,7 +1,6 @@
 -- `desk::play::set` meets its contract: what is planned is what is then made, and its erases are counted from the plan. Assumes nothing.
 use mathlib.Core.Path.{sym, ap, ◌∙◌}
 use mathlib.Core.Bool.{false}
-use borrow.Author.Rules.{rules}
 use Rattle.model.specs.declared.Context.{Context}
 use Rattle.model.specs.Name.{keyed}
 use Rattle.model.specs.Beside.{Says}

@@ -1,6 +1,4 @@
 -- `desk::play::set_item` meets its contract: the item's fields are those of its request. Assumes nothing.
-use mathlib.Core.Path.{ap, ◌∙◌}
-use borrow.Author.Rules.{rules}
 use Rattle.profile.specs.Reader.{request_in}
 use Rattle.desk.proofs.play.set_item.Goals as goal
 

@@ -1,6 +1,4 @@
 -- `desk::play::step` meets its contract: a set, whole; or one that is cut, and a start_up. Assumes nothing.
-use native.Mathlib.Omega.{arith}
-use borrow.Author.Rules.{rules}
 use Rattle.desk.proofs.Playing.{step_cut, step-whole}
 use Rattle.desk.proofs.play.step.Goals as goal
 

@@ -2,7 +2,6 @@
 use Prim.Native.Nat.{ℕ}
 use mathlib.Core.Path.{ap₂, ◌∙◌}
 use mathlib.Core.Bool.{false}
-use borrow.Author.Rules.{rules}
 use Rattle.model.specs.declared.Tenant.{Tenant}
 use Rattle.model.specs.Name.{keyed}
 use Rattle.session.specs.Said.{terms_by}

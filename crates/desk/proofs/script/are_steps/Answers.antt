@@ -1,11 +1,10 @@
 -- `desk::script::are_steps` meets its contract. The loop's invariant: whether the steps from the first place on are there is whether those from this place on are.
 -- Assumes nothing.
-use Prim.Native.Nat.{ℕ, suc, ◌+◌, ◌-◌, ◌≤◌}
+use Prim.Native.Nat.{ℕ, suc, ◌+◌, ◌-◌}
 use native.Mathlib.Omega.{arith}
 use native.Mathlib.Nat.{sub-zero}
 use mathlib.Core.Path.{◌≡◌, sym, ap, ◌∙◌}
 use lib.ListN.{drop}
-use borrow.Author.Rules.{rules}
 use Rattle.model.specs.Lists.{is_some}
 use Rattle.desk.specs.Script.{steps_at}
 use Rattle.desk.proofs.Steps.{none-there, one-there, nothing_left}

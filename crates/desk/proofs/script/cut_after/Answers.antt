@@ -1,5 +1,4 @@
 -- `desk::script::cut_after` meets its contract: the item after the number that was read. Assumes nothing.
-use borrow.Author.Rules.{rules}
 use Prim.Native.Nat.{ℕ}
 use mathlib.Core.Path.{◌∙◌}
 use mathlib.Core.List.{List}

@@ -1,5 +1,4 @@
 -- `desk::script::delete` meets its contract: the item that was read, if it has no data. Assumes nothing.
-use borrow.Author.Rules.{rules}
 use Rattle.profile.specs.Reader.{item_of}
 use Rattle.desk.specs.Reader.{step_of}
 use Rattle.desk.proofs.Steps.{no-delete, without-data, with-data, found-ends}

@@ -1,6 +1,5 @@
 -- `desk::script::judge` meets its contract: each number is within its limit, or the script is none. Assumes nothing.
 use mathlib.Core.Path.{sym, ◌∙◌}
-use borrow.Author.Rules.{rules}
 use Rattle.desk.proofs.Scripts.{too_long, no_blocks, too_few, too_large, no-count, too-many-steps, all_there, not_there}
 use Rattle.desk.proofs.script.judge.Goals as goal
 

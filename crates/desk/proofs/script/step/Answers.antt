@@ -1,5 +1,4 @@
 -- `desk::script::step` meets its contract: what comes after the kind that was read. Assumes nothing.
-use borrow.Author.Rules.{rules}
 use mathlib.Core.Path.{◌∙◌}
 use Rattle.desk.specs.Script.{kind_step, step_at}
 use Rattle.desk.proofs.Steps.{no-number-there, number-there}

@@ -1,5 +1,4 @@
 -- `desk::script::with_item` meets its contract: the item that was read at the place, or none. Assumes nothing.
-use borrow.Author.Rules.{rules}
 use Rattle.profile.specs.Reader.{item_of}
 use Rattle.desk.specs.Reader.{cut_at, step_of}
 use Rattle.desk.proofs.Steps.{no_item, one-item, found-ends}

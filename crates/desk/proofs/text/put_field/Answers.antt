@@ -2,7 +2,6 @@
 use native.Mathlib.Omega.{arith}
 use Rattle.output.proofs.Writing.{wrote-append}
 use Rattle.report.specs.Varlist.{field}
-use borrow.Author.Rules.{rules}
 use Rattle.desk.proofs.text.put_field.Goals as goal
 
 pub returns : goal.returns

@@ -3,7 +3,6 @@ use native.Mathlib.Omega.{arith}
 use Rattle.output.specs.Text.{ascii}
 use Rattle.output.proofs.Writing.{wrote-append}
 use Rattle.desk.specs.Season.{step_line}
-use borrow.Author.Rules.{rules}
 use Rattle.desk.proofs.text.put_line.Goals as goal
 
 pub returns : goal.returns

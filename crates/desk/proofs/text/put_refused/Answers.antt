@@ -4,7 +4,6 @@ use mathlib.Core.Path.{ap}
 use Rattle.output.specs.Text.{ascii}
 use Rattle.output.proofs.Writing.{wrote-append, wrote_as}
 use Rattle.report.specs.Varlist.{field, refused_line}
-use borrow.Author.Rules.{rules}
 use Rattle.desk.proofs.text.put_refused.Goals as goal
 
 pub returns : goal.returns

@@ -5,7 +5,6 @@ use Rattle.output.specs.Text.{ascii}
 use Rattle.output.proofs.Writing.{wrote_as}
 use Rattle.report.specs.Varlist.{field}
 use Rattle.desk.specs.Season.{word_of}
-use borrow.Author.Rules.{rules}
 use Rattle.desk.proofs.text.put_word.Goals as goal
 
 pub returns-in-Done : goal.returns-in-Done
