@@ -12,7 +12,7 @@ PREFIX = /usr/local
 # a program, by its name: what it prints of its own input must be what the gate wants
 BUILD = cd crates/$@ && mkdir -p out && rt run <stdin >out/said && cmp out/said stdout
 # what the library is made of
-SOURCES := crates.txt tools/lib c/memory.c c/varstore.h $(shell find crates -name out -prune -o \( -path '*/src/*' -o -path '*/specs/*' -o -path '*/proofs/*' \) -type f -print)
+SOURCES := crates.txt tools/lib tools/marks.py c/memory.c c/varstore.h $(shell find crates -name out -prune -o \( -path '*/src/*' -o -path '*/specs/*' -o -path '*/proofs/*' \) -type f -print)
 
 # these lines; each target has its own in the comment before it
 help:
