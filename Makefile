@@ -83,7 +83,7 @@ stack: $(LIB)
 	$(CC) $(CFLAGS) c/stack.c $(LIB) -o target/stack
 	target/stack
 
-# all edits of code and of definitions, each of which must be refused; the gate tries those of wrong programs, and one or two of each function; of definitions the first row
+# all edits of code and of definitions, each of which must be refused; the gate tries those of wrong programs, two or three of each function, and all of definitions
 edits: kit
 	tools/edits-of-code
 	tools/edits-of-definitions
