@@ -1,5 +1,5 @@
 -- What the reader of an entry finds at the front of a part of the region.
-use Rattle.std.specs.Prelude.{ℕ, ◌+◌, ◌-◌, ◌≡◌, Bool, true, false, cond, ◌&&◌, List, length, eqb, leb}
+use Rattle.std.specs.Prelude.{ℕ, ◌+◌, ◌-◌, ◌≡◌, Bool, true, false, cond, ◌&&◌, List, length, eqb, leb, Option, Some, None}
 use Rattle.model.specs.declared.Layout.{Layout}
 use Rattle.model.specs.Layout.{authenticated, header_length}
 use Rattle.model.specs.Lists.{on_some, same}
@@ -7,15 +7,13 @@ use Rattle.model.specs.Entry.{Header, header_size_def, header_fields_in, read_he
 use Rattle.model.specs.Walk.{placed}
 use Rattle.slices.specs.Agree.{four_at}
 use Rattle.layout.specs.declared.Entry.{Entry}
-use Rattle.layout.specs.declared.Head.{Head}
-use Rattle.layout.specs.declared.Head.TheVariants.{Present, End}
 
 -- the numbers of a header: stamp and GUID stay in the image
 abbrev pub numbers_of : Header → Entry
 numbers_of h = record { state = h.state; attributes = h.attributes; name = h.name_size_def; size = h.data_size_def }
 
-unfoldable pub head_in : Layout → List ℕ → Head
-head_in y s = on_some (read_header_in y s) (λ h. Present (numbers_of h)) End
+unfoldable pub head_in : Layout → List ℕ → Option Entry
+head_in y s = on_some (read_header_in y s) (λ h. Some (numbers_of h)) None
 
 -- a header of these numbers, with stamp and GUID as they stand in the bytes
 abbrev pub header_as : Layout → Entry → List ℕ → Header

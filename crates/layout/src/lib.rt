@@ -1,7 +1,7 @@
 // The readers of an entry, in every stored form; the fixed byte strings of the format stand in `fixed`.
 #![tactic(auto)]
 
-ghost use Rattle.std.specs.Prelude.{◌≡◌, false, ◌++◌, ◌+◌, ◌<◌, ◌^◌, get_or};
+ghost use Rattle.std.specs.Prelude.{◌≡◌, false, ◌++◌, ◌+◌, ◌<◌, ◌^◌};
 ghost use Rattle.model.specs.Lists.{u16_at_def, u32_at};
 ghost use Rattle.model.specs.Layout.{header_length};
 ghost use Rattle.model.specs.Region.{record_bit};
@@ -33,36 +33,15 @@ pub struct Entry {
     pub size: u32,
 }
 
-// What stands at the front of a part of the region: an entry, or the end of the walk.
-#[derive(Clone, Copy)]
-pub enum Head {
-    Present(Entry),
-    End,
-}
-
-fn wide(x: u8) -> u32
-    ensures { (result ≡ x) × (result < 256) }
-{
-    x as u32
-}
-
 // Little-endian fields; bytes past the end count as 0.
-fn byte_at(s: &[u8], i: usize) -> u32
-    ensures { (result ≡ get_or s.now i 0) × (result < 256) }
-{
-    if i < s.len() {
-        return wide(s[i]);
-    }
-    0
-}
-
 pub fn u16_at(s: &[u8], i: usize) -> u32
     ensures { (result ≡ u16_at_def s.now i) × (result < 65536) }
 {
-    if s.len() <= i {
-        return 0;
+    match slices::from(s, i) {
+        [] => 0,
+        [low] => u32::from(*low),
+        [low, high, ..] => u32::from(*low) + 256 * u32::from(*high),
     }
-    byte_at(s, i) + 256 * byte_at(s, i + 1)
 }
 
 pub fn u32_at(s: &[u8], i: usize) -> u32
@@ -74,22 +53,22 @@ pub fn u32_at(s: &[u8], i: usize) -> u32
     u16_at(s, i) + 65536 * u16_at(s, i + 2)
 }
 
-// The header at the front of `s`, the part of the region from an entry's first byte on.
-pub fn read_head(y: Layout, s: &[u8]) -> Head
+// The header at the front of `s`, the part of the region from an entry's first byte on; none at the end of the walk.
+pub fn read_head(y: Layout, s: &[u8]) -> Option<Entry>
     ensures { result ≡ head_in y s.now }
 {
     if s.len() < y.header() {
-        return Head::End;
+        return None;
     }
     if u16_at(s, 0) == 0x55AA {
-        Head::Present(Entry {
+        Some(Entry {
             state: s[Layout::STATE],
             attributes: u32_at(s, Layout::ATTRIBUTES),
             name: u32_at(s, y.name_size()),
             size: u32_at(s, y.data_size()),
         })
     } else {
-        Head::End
+        None
     }
 }
 

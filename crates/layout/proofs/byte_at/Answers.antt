@@ -1,8 +1,0 @@
--- `layout::byte_at` meets its contract: past the end the byte counts as 0. Assumes nothing.
-use native.Mathlib.Omega.{arith}
-use mathlib.Core.Path.{sym}
-use lib.ListN.{get_or-eq_default}
-use Rattle.layout.proofs.byte_at.Goals as goal
-
-pub returns : goal.returns
-returns c = (sym (get_or-eq_default c.args.s.now 0 c.if-i-s.false), omega arith)
