@@ -18,8 +18,7 @@ use Rattle.layout.specs.declared.Entry as numbers
 use Rattle.region.specs.Walk.{entry_as, turn_in}
 use Rattle.region.specs.Judge.{live_state_def, doubled_in}
 use Rattle.region.specs.Marks.{up_to}
-use Rattle.region.specs.declared.Turn.{Turn}
-use Rattle.region.specs.declared.Turn.TheVariants.{Entry, Stop}
+use Rattle.std.specs.Prelude.{Option, Some, None}
 use Rattle.region.proofs.Turns.{Turned, Ended, at_entry, at-end}
 
 -- ---- the entries before an offset
@@ -45,18 +44,18 @@ up_none z end = ap (up_to end) z.walk
 pub up-past : (form : Layout) (r : List ℕ) (at end : ℕ) → end ≤ at → up_to end (from_in form r at) ≡ []
 up-past form r at end h = go (turn_in form r at) refl
   where
-    go : (t : Turn) → turn_in form r at ≡ t → up_to end (from_in form r at) ≡ []
-    go (Entry e k) p = up-stop (at_entry refl p) h
-    go Stop p = up_none (at-end refl p) end
+    go : (t : Option (numbers.Entry × ℕ)) → turn_in form r at ≡ t → up_to end (from_in form r at) ≡ []
+    go (Some (e, k)) p = up-stop (at_entry refl p) h
+    go None p = up_none (at-end refl p) end
 
 -- before the end of the region all begin
-all-turn : (form : Layout) (r : List ℕ) (at : ℕ) (t : Turn) → turn_in form r at ≡ t
+all-turn : (form : Layout) (r : List ℕ) (at : ℕ) (t : Option (numbers.Entry × ℕ)) → turn_in form r at ≡ t
     → ((k : ℕ) → length r - k < length r - at → up_to (length r) (from_in form r k) ≡ from_in form r k)
     → up_to (length r) (from_in form r at) ≡ from_in form r at
-all-turn form r at (Entry e k) p later =
+all-turn form r at (Some (e, k)) p later =
     let w = at_entry refl p in
     up_next w (omega (arith, w.fits)) ∙ ap (λ l. entry_as form r at e ∷ l) (later k w.less) ∙ sym w.walk
-all-turn form r at Stop p later = let z = at-end refl p in up_none z (length r) ∙ sym z.walk
+all-turn form r at None p later = let z = at-end refl p in up_none z (length r) ∙ sym z.walk
 
 all_from : (form : Layout) (r : List ℕ) (n at : ℕ) → length r - at ≤ n → up_to (length r) (from_in form r at) ≡ from_in form r at
 all_from form r zero at h = all-turn form r at (turn_in form r at) refl (λ k l. absurd (omega arith))

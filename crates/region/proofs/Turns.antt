@@ -2,21 +2,19 @@
 -- stand in the bytes, so the entry that they make up is the one that the walk places.
 -- Assumes nothing.
 use Rattle.std.proofs.Common.{◌≡◌, ℕ, ◌+◌, ◌-◌, ◌<◌, ◌≤◌, List, [], ◌∷◌, length, take, drop, sym, refl, ap, ◌∙◌, ap₂, le_of_eq, arith, length-drop, drop_of_length-le, take_all}
-use mathlib.Core.Option.{Option, none, some}
+use mathlib.Core.Option as maybe
+use mathlib.Core.Option.{none, some}
 use Rattle.model.specs.declared.Layout.{Layout}
 use Rattle.model.specs.Layout.{header_length}
 use Rattle.model.specs.Entry.{read_header_in, Header}
 use Rattle.model.proofs.Walking.{read-nil, from_end, from_past, from-entry, from-fits, read-fields, stride-least}
 use Rattle.layout.specs.Head.{head_in, header_as, numbers_of}
-use Rattle.region.specs.Walk.{stride_in, entry_as, turn_in, on_head}
+use Rattle.region.specs.Walk.{stride_in, entry_as, turn_in}
 use Rattle.model.specs.Lists.{on_some}
 use Rattle.model.specs.Walk as walk
 use Rattle.model.specs.Beside.{from_in}
 use Rattle.layout.specs.declared.Entry as numbers
-use Rattle.layout.specs.declared.Head.{Head}
-use Rattle.layout.specs.declared.Head.TheVariants.{Present, End}
-use Rattle.region.specs.declared.Turn.{Turn}
-use Rattle.region.specs.declared.Turn.TheVariants.{Entry, Stop}
+use Rattle.std.specs.Prelude.{Option, Some, None, option_map}
 
 -- the part that `&r[at..]` lends is the rest of the list
 pub rest : (r : List ℕ) (at : ℕ) → take (length r - at) (drop at r) ≡ drop at r
@@ -24,9 +22,9 @@ rest r at = take_all (length r - at) (drop at r) (le_of_eq (length-drop at r))
 
 module _ (y : Layout) where
   -- past the end nothing stands
-  pub past : (r : List ℕ) (at : ℕ) → length r ≤ at → (head_in y) (drop at r) ≡ End
+  pub past : (r : List ℕ) (at : ℕ) → length r ≤ at → (head_in y) (drop at r) ≡ None
   unfolding head_in read_header_in
-  past r at h = ap (λ (o : Option Header). on_some o (λ h. Present (numbers_of h)) End) (ap (read_header_in y) (drop_of_length-le r h) ∙ read-nil y)
+  past r at h = ap (λ (o : maybe.Option Header). on_some o (λ h. Some (numbers_of h)) None) (ap (read_header_in y) (drop_of_length-le r h) ∙ read-nil y)
 
   -- ---- what the numbers found say of the header that was read
 
@@ -35,19 +33,19 @@ module _ (y : Layout) where
     read : (read_header_in y) s ≡ some header
     numbers : numbers_of header ≡ e
 
-  present : (s : List ℕ) (e : numbers.Entry) → (head_in y) s ≡ Present e → Read s e
+  present : (s : List ℕ) (e : numbers.Entry) → (head_in y) s ≡ Some e → Read s e
   unfolding head_in
   present s e p = go ((read_header_in y) s) refl p
     where
-      go : (o : Option Header) → (read_header_in y) s ≡ o → on_some o (λ h. Present (numbers_of h)) End ≡ Present e → Read s e
+      go : (o : maybe.Option Header) → (read_header_in y) s ≡ o → on_some o (λ h. Some (numbers_of h)) None ≡ Some e → Read s e
       go (some h) q p = record { header = h; read = q; numbers = cc }
       go none q p = let z : ◌≡◌ {A = ℕ} 0 1 = cc in absurd (omega arith)
 
-  ended : (s : List ℕ) → (head_in y) s ≡ End → (read_header_in y) s ≡ none
+  ended : (s : List ℕ) → (head_in y) s ≡ None → (read_header_in y) s ≡ none
   unfolding head_in
   ended s p = go ((read_header_in y) s) refl p
     where
-      go : (o : Option Header) → (read_header_in y) s ≡ o → on_some o (λ h. Present (numbers_of h)) End ≡ End → (read_header_in y) s ≡ none
+      go : (o : maybe.Option Header) → (read_header_in y) s ≡ o → on_some o (λ h. Some (numbers_of h)) None ≡ None → (read_header_in y) s ≡ none
       go (some h) q p = let z : ◌≡◌ {A = ℕ} 0 1 = cc in absurd (omega arith)
       go none q p = q
 
@@ -81,17 +79,18 @@ pub record Turned (y : Layout) (r : List ℕ) (at : ℕ) (e : numbers.Entry) (k 
 pub record Ended (y : Layout) (r : List ℕ) (at : ℕ) : Type 0 where
   pub walk : from_in y r at ≡ []
 
-module _ {y : Layout} {r : List ℕ} {at : ℕ} {t : Turn} (answer : t ≡ turn_in y r at) where
-  pub at_entry : {e : numbers.Entry} {k : ℕ} → t ≡ Entry e k → Turned y r at e k
+module _ {y : Layout} {r : List ℕ} {at : ℕ} {t : Option (numbers.Entry × ℕ)} (answer : t ≡ turn_in y r at) where
+  pub at_entry : {e : numbers.Entry} {k : ℕ} → t ≡ Some (e, k) → Turned y r at e k
   unfolding turn_in entry_as walk.placed
   at_entry {e} {k} told = go (head_in y (drop at r)) refl (sym answer ∙ told)
     where
-      go : (x : Head) → head_in y (drop at r) ≡ x → on_head x (λ n. Entry n (at + stride_in y n)) Stop ≡ Entry e k → Turned y r at e k
-      go End h p = let z : ◌≡◌ {A = ℕ} 0 1 = cc in absurd (omega arith)
-      go (Present n) h p =
-          let same : n ≡ e = cc in
-          let last : at + stride_in y e ≡ k = ap (λ (m : numbers.Entry). at + stride_in y m) (sym same) ∙ (cc) in
-          let q = present y (drop at r) e (h ∙ ap Present same) in
+      go : (x : Option numbers.Entry) → head_in y (drop at r) ≡ x → option_map {U = numbers.Entry × ℕ} (λ (n : numbers.Entry). (n, at + stride_in y n)) x ≡ Some (e, k) → Turned y r at e k
+      go None h p = let z : ◌≡◌ {A = ℕ} 0 1 = cc in absurd (omega arith)
+      go (Some n) h p =
+          let both : ◌≡◌ {A = numbers.Entry × ℕ} (n, at + stride_in y n) (e, k) = cc in
+          let same : n ≡ e = ap (λ (b : numbers.Entry × ℕ). b.0) both in
+          let last : at + stride_in y e ≡ k = ap (λ (m : numbers.Entry). at + stride_in y m) (sym same) ∙ ap (λ (b : numbers.Entry × ℕ). b.1) both in
+          let q = present y (drop at r) e (h ∙ ap Some same) in
           let room = from-fits y r at q.header q.read in
           let least = stride-least y (header_as y e (drop at r)) in
           record {
@@ -104,13 +103,13 @@ module _ {y : Layout} {r : List ℕ} {at : ℕ} {t : Turn} (answer : t ≡ turn_
             less = omega arith;
           }
 
-  pub at-end : t ≡ Stop → Ended y r at
+  pub at-end : t ≡ None → Ended y r at
   unfolding turn_in
   at-end told = go (head_in y (drop at r)) refl (sym answer ∙ told)
     where
-      go : (x : Head) → head_in y (drop at r) ≡ x → on_head x (λ n. Entry n (at + stride_in y n)) Stop ≡ Stop → Ended y r at
-      go End h p = record { walk = from_end y r at (ended y (drop at r) h) }
-      go (Present n) h p = let z : ◌≡◌ {A = ℕ} 0 1 = cc in absurd (omega arith)
+      go : (x : Option numbers.Entry) → head_in y (drop at r) ≡ x → option_map {U = numbers.Entry × ℕ} (λ (n : numbers.Entry). (n, at + stride_in y n)) x ≡ None → Ended y r at
+      go None h p = record { walk = from_end y r at (ended y (drop at r) h) }
+      go (Some n) h p = let z : ◌≡◌ {A = ℕ} 0 1 = cc in absurd (omega arith)
 
 -- past the end of the region nothing stands
 pub at-past : (y : Layout) (r : List ℕ) (at : ℕ) → length r ≤ at → Ended y r at

@@ -11,12 +11,11 @@ use Rattle.model.specs.Walk as walk
 use Rattle.slices.specs.Agree.{u64_at}
 use Rattle.layout.specs.Head.{head_in, numbers_of}
 use Rattle.layout.specs.declared.Entry as numbers
-use Rattle.layout.specs.declared.Head.TheVariants.{Present}
+use Rattle.std.specs.Prelude.{Some}
 use Rattle.layout.proofs.Named.{named-key}
 use Rattle.region.specs.Walk.{entry_as, turn_in}
 use Rattle.region.specs.Judge.{plain_attributes_def, live_state_def, entry_sound_def, UsualFront, UsualOf}
 use Rattle.region.specs.Marks.{key_mark, mark_at, mark_in}
-use Rattle.region.specs.declared.Turn.TheVariants.{Entry}
 use Rattle.region.proofs.Turns.{rest, Turned, at_entry}
 use Rattle.region.proofs.Judging.{right-plain, sound-within}
 use Rattle.region.proofs.Marked.{live-mark, here-mark}
@@ -77,11 +76,11 @@ module _ (y : Layout) (r : List ℕ) (at name end : ℕ) (found : 0 < name → (
   unfolding header_fields_in
   end_is = ap (λ (n : ℕ). header_length y + n + (numbers_at y (drop at r)).size) u.name-size ∙ u.ends
 
-  head : head_in y (drop at r) ≡ Present (numbers_at y (drop at r))
+  head : head_in y (drop at r) ≡ Some (numbers_at y (drop at r))
   unfolding head_in read_header_in
   head = rw (le-leb (header_length y) (length (drop at r)) u.header, eq-eqb (u16_at_def (drop at r) 0) start_id u.front.start)
 
-  turn : turn_in y r at ≡ Entry (numbers_at y (drop at r)) (at + rounded end)
+  turn : turn_in y r at ≡ Some (numbers_at y (drop at r), at + rounded end)
   unfolding turn_in
   turn = rw (head, ne_eqb (numbers_at y (drop at r)).state 0xFF finished, end_is)
 

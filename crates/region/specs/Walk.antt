@@ -1,15 +1,11 @@
 -- A turn of the walk: what stands at an offset of the region, and where the next entry begins.
-use Rattle.std.specs.Prelude.{ℕ, ◌+◌, List, [], drop}
+use Rattle.std.specs.Prelude.{ℕ, ◌+◌, List, [], drop, Option, option_map}
 use Rattle.model.specs.declared.Layout.{Layout}
 use Rattle.model.specs.Layout.{authenticated, header_length}
 use Rattle.model.specs.Entry.{header_fields_in, read_header_in}
 use Rattle.model.specs.Walk as walk
 use Rattle.layout.specs.Head.{head_in, header_as}
 use Rattle.layout.specs.declared.Entry as numbers
-use Rattle.layout.specs.declared.Head.{Head}
-use Rattle.layout.specs.declared.Head.TheVariants.{Present, End}
-use Rattle.region.specs.declared.Turn.{Turn}
-use Rattle.region.specs.declared.Turn.TheVariants.{Entry, Stop}
 
 -- the bytes up to the next entry, by the numbers alone
 abbrev pub stride_in : Layout → numbers.Entry → ℕ
@@ -27,14 +23,9 @@ stamp_at r at = (header_fields_in authenticated (drop at r)).stamp
 unfoldable pub vendor_as : Layout → List ℕ → ℕ → List ℕ
 vendor_as y r at = (header_fields_in y (drop at r)).vendor
 
--- by what stands there: f of the entry's numbers, or d
-abbrev pub on_head : {A : Type 0} → Head → (numbers.Entry → A) → A → A
-on_head (Present e) f d = f e
-on_head End f d = d
-
 -- the numbers of the entry at an offset, and the offset of the next one
-unfoldable pub turn_in : Layout → List ℕ → ℕ → Turn
-turn_in y r at = on_head (head_in y (drop at r)) (λ e. Entry e (at + stride_in y e)) Stop
+unfoldable pub turn_in : Layout → List ℕ → ℕ → Option (numbers.Entry × ℕ)
+turn_in y r at = option_map (λ e. (e, at + stride_in y e)) (head_in y (drop at r))
 
 -- the same in the form in which calls store
 abbrev pub entry_at : List ℕ → ℕ → numbers.Entry → walk.Entry

@@ -11,7 +11,7 @@ ghost use Rattle.region.specs.Judge.{plain_attributes_def, live_state_def, right
 ghost use Rattle.region.specs.Marks.{up_to};
 ghost use Rattle.region.specs.Met.{Meeting, key_from, is_sought_def, nowhere, met_of, met_by, met_at_def, Surveys, searched_in};
 
-use crate::{Judged, Met, Pass, Scan, Searched, Survey, Turn, Usual, marks, sorted, walk};
+use crate::{Judged, Met, Pass, Scan, Searched, Survey, Usual, marks, sorted, walk};
 use layout::Entry;
 use model::Layout;
 
@@ -119,7 +119,7 @@ fn first_before(
     let mut at: usize = layout::REGION_HEADER;
     while at < end {
         let t = walk::turn(y, region, at);
-        let Turn::Entry(e, next) = t else {
+        let Some((e, next)) = t else {
             return 0;
         };
         if walk::is_entry(y, region, at, e, state, name, vendor) {
@@ -375,7 +375,7 @@ fn scan_by_marks(y: Layout, region: &[u8], key: &[u8]) -> Pass
             at += layout::rounded(u.end);
         }
         let t = walk::turn(y, region, at);
-        let Turn::Entry(e, next) = t else {
+        let Some((e, next)) = t else {
             return Pass {
                 known: true,
                 survey: Survey {

@@ -8,11 +8,11 @@ pub mod marks;
 mod sorted;
 pub mod walk;
 
-// What a turn of the walk finds at an offset: an entry's numbers and the offset of the next entry, or the end.
+// An entry at its place: the offset at which it begins, and its numbers.
 #[derive(Clone, Copy)]
-pub enum Turn {
-    Entry(Entry, usize),
-    Stop,
+pub struct Placed {
+    pub at: usize,
+    pub entry: Entry,
 }
 
 // What one pass over the entries finds: whether each is sound by itself and no name is doubled, and then where the tail begins (else 0).

@@ -6,7 +6,7 @@ ghost use Rattle.region.specs.Judge.{scan_of};
 ghost use Rattle.region.specs.Walk.{entry_as};
 ghost use Rattle.region.specs.Sorted.{key_before_def, is_before_def, place_of_def, owns_place_def};
 
-use crate::{Scan, Turn, judge, walk};
+use crate::{Scan, judge, walk};
 use layout::Entry;
 use model::Layout;
 
@@ -113,7 +113,7 @@ fn insert(table: &mut [u16; 720], count: usize, place: usize, at: usize)
 // Whether the entry at an offset has this state, GUID and name.
 fn is_same(y: Layout, region: &[u8], at: usize, state: u8, key: &[u8]) -> bool {
     let t = walk::turn(y, region, at);
-    let Turn::Entry(e, _) = t else {
+    let Some((e, _)) = t else {
         return false;
     };
     if e.state == state {
@@ -156,7 +156,7 @@ fn sort(y: Layout, region: &[u8], table: &mut [u16; 720]) {
     let mut at: usize = layout::REGION_HEADER;
     while count < PLACES {
         let t = walk::turn(y, region, at);
-        let Turn::Entry(e, next) = t else {
+        let Some((e, next)) = t else {
             return;
         };
         count = enter(y, region, table, count, at, e);
@@ -184,7 +184,7 @@ fn scan_by_table(y: Layout, region: &[u8], table: &[u16]) -> Scan
     let mut at: usize = layout::REGION_HEADER;
     loop {
         let t = walk::turn(y, region, at);
-        let Turn::Entry(e, next) = t else {
+        let Some((e, next)) = t else {
             return Scan {
                 sound: true,
                 tail: at,

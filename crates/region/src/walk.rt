@@ -4,8 +4,7 @@ ghost use Rattle.model.specs.Name.{keyed};
 ghost use Rattle.model.specs.Region.{is_entry_def};
 ghost use Rattle.region.specs.Walk.{stride_in, entry_as, stamp_at, vendor_as, turn_in};
 
-use crate::Turn;
-use layout::{Entry, Head};
+use layout::Entry;
 use model::Layout;
 
 // The bytes of an entry up to the next: an unfinished entry counts as its header alone.
@@ -18,18 +17,15 @@ fn stride(y: Layout, e: Entry) -> usize
     layout::entry_size(y, e.name as usize, e.size as usize)
 }
 
-// What stands at an offset; past the end, the end of the walk.
-pub fn turn(y: Layout, region: &[u8], at: usize) -> Turn
+// What a turn of the walk finds at an offset: an entry's numbers and the offset of the next entry. At the end of the walk, and past it, nothing.
+pub fn turn(y: Layout, region: &[u8], at: usize) -> Option<(Entry, usize)>
     ensures { result ≡ turn_in y region.now at }
 {
     if region.len() < at {
-        return Turn::Stop;
+        return None;
     }
-    let h = layout::read_head(y, &region[at..]);
-    match h {
-        Head::Present(e) => Turn::Entry(e, at + stride(y, e)),
-        Head::End => Turn::Stop,
-    }
+    let e = layout::read_head(y, &region[at..])?;
+    Some((e, at + stride(y, e)))
 }
 
 // The name of the entry at an offset, by its numbers: the part of the region from its first byte on is handed to the reader of entries.

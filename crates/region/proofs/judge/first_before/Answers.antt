@@ -23,17 +23,17 @@ returns-then-is_entry c =
     let b = c in
     let l = b in
     let a = l.args in
-    let up = up_next (at_entry b.turn-t.ensures b.in-Entry.is) b.loop-at-test.true in
-    l.loop-at.invariant.1 l.loop-at.at (meeting-here a.y a.region.now l.loop-at.at b.in-Entry.e _ up (sym c.is_entry.ensures ∙ c.if-is_entry.true) l.loop-at.invariant.0)
+    let up = up_next (at_entry b.turn-t.ensures b.in-Some.is) b.loop-at-test.true in
+    l.loop-at.invariant.1 l.loop-at.at (meeting-here a.y a.region.now l.loop-at.at b.in-Some.e _ up (sym c.is_entry.ensures ∙ c.if-is_entry.true) l.loop-at.invariant.0)
 
 pub loop-at-smaller : goal.loop-at-smaller
-loop-at-smaller c = let b = c in (at_entry b.turn-t.ensures b.in-Entry.is).less
+loop-at-smaller c = let b = c in (at_entry b.turn-t.ensures b.in-Some.is).less
 
 pub loop-at-preserved : goal.loop-at-preserved
 loop-at-preserved c =
     let b = c in
     let l = b in
-    let w = at_entry b.turn-t.ensures b.in-Entry.is in
+    let w = at_entry b.turn-t.ensures b.in-Some.is in
     let up = up_next w b.loop-at-test.true in
     (omega (arith, w.more), λ n h. l.loop-at.invariant.1 n (meeting-behind _ up (sym c.is_entry.ensures ∙ c.if-is_entry.false) h))
 

@@ -164,34 +164,34 @@ returns-in_default c =
     λ _. surveys-right a.y a.region.now a.key.now (sym (scan-right a.y a.region.now _ (i.0 ∙ ap (scanned _ _) z.walk) (ended i.1.passing z))) (meets-end i.1.passing i.1.meets z)
 
 pub slice_bounds-entry_sound-count : goal.slice_bounds-entry_sound-count
-slice_bounds-entry_sound-count c = (at_entry c.turn-t.ensures c.in-Entry.is).inside
+slice_bounds-entry_sound-count c = (at_entry c.turn-t.ensures c.in-Some.is).inside
 
 pub slice_bounds-entry_sound-start : goal.slice_bounds-entry_sound-start
-slice_bounds-entry_sound-start c = let w = at_entry c.turn-t.ensures c.in-Entry.is in omega arith
+slice_bounds-entry_sound-start c = let w = at_entry c.turn-t.ensures c.in-Some.is in omega arith
 
 pub slice_bounds-entry_sound-end : goal.slice_bounds-entry_sound-end
-slice_bounds-entry_sound-end c = let w = at_entry c.turn-t.ensures c.in-Entry.is in omega arith
+slice_bounds-entry_sound-end c = let w = at_entry c.turn-t.ensures c.in-Some.is in omega arith
 
 pub returns-then-not-entry_sound : goal.returns-then-not-entry_sound
 returns-then-not-entry_sound c =
     let d = c in
     let l = d in
     let a = l.args in
-    let w = at_entry d.turn-t.ensures d.in-Entry.is in
+    let w = at_entry d.turn-t.ensures d.in-Some.is in
     let own = sym (front-sound w) ∙ sym d.entry_sound.ensures in
     λ _. surveys-wrong a.y a.region.now a.key.now c.wrong.ensures (scan-wrong a.y a.region.now (l.loop-u-2.invariant.0 ∙ scan-stop w.walk _ _ (own ∙ d.if-not-entry_sound.true)))
 
 pub slice_bounds-mark_of-count : goal.slice_bounds-mark_of-count
-slice_bounds-mark_of-count c = (at_entry c.turn-t.ensures c.in-Entry.is).inside
+slice_bounds-mark_of-count c = (at_entry c.turn-t.ensures c.in-Some.is).inside
 
 pub slice_bounds-mark_of-start : goal.slice_bounds-mark_of-start
-slice_bounds-mark_of-start c = let w = at_entry c.turn-t.ensures c.in-Entry.is in omega arith
+slice_bounds-mark_of-start c = let w = at_entry c.turn-t.ensures c.in-Some.is in omega arith
 
 pub slice_bounds-mark_of-end : goal.slice_bounds-mark_of-end
-slice_bounds-mark_of-end c = let w = at_entry c.turn-t.ensures c.in-Entry.is in omega arith
+slice_bounds-mark_of-end c = let w = at_entry c.turn-t.ensures c.in-Some.is in omega arith
 
 pub is_sought-requires : goal.is_sought-requires
-is_sought-requires c = (at_entry c.turn-t.ensures c.in-Entry.is).fits
+is_sought-requires c = (at_entry c.turn-t.ensures c.in-Some.is).fits
 
 pub returns-then-is_met : goal.returns-then-is_met
 returns-then-is_met c =
@@ -199,16 +199,16 @@ returns-then-is_met c =
     let t = m in
     let l = t in
     let a = l.args in
-    let w = at_entry t.turn-t.ensures t.in-Entry.is in
-    let x = entry_as a.y a.region.now l.loop-u-2.at t.in-Entry.e in
+    let w = at_entry t.turn-t.ensures t.in-Some.is in
+    let x = entry_as a.y a.region.now l.loop-u-2.at t.in-Some.e in
     let sought = and_split m.is_noted-suspect.result (is_sought_def (key_from a.key.now) x) (sym m.is_sought.ensures ∙ c.if-is_sought.true) in
-    let twice = met-doubled l.loop-u-2.invariant.1.meets t.in-Entry.e sought.1 ∙ sym c.is_met.ensures ∙ c.if-is_met.true in
+    let twice = met-doubled l.loop-u-2.invariant.1.meets t.in-Some.e sought.1 ∙ sym c.is_met.ensures ∙ c.if-is_met.true in
     λ _. surveys-wrong a.y a.region.now a.key.now c.wrong-then-is_met.ensures (scan-doubled a.y a.region.now (doubled l.loop-u-2.invariant.1.passing w true twice))
 
 pub loop-u-smaller-then-is_sought : goal.loop-u-smaller-then-is_sought
 loop-u-smaller-then-is_sought c =
     let t = c in
-    let less = (at_entry t.turn-t.ensures t.in-Entry.is).less in
+    let less = (at_entry t.turn-t.ensures t.in-Some.is).less in
     let here = t.loop-u-2.invariant.2 in
     omega arith
 
@@ -218,10 +218,10 @@ loop-u-preserved-then-is_sought c =
     let t = m in
     let l = t in
     let a = l.args in
-    let w = at_entry t.turn-t.ensures t.in-Entry.is in
+    let w = at_entry t.turn-t.ensures t.in-Some.is in
     let own = sym (front-sound w) ∙ sym m.entry_sound.ensures in
-    let q = m.mark_of-m.ensures.0 ∙ here-mark a.y a.region.now l.loop-u-2.at t.in-Entry.e in
-    let x = entry_as a.y a.region.now l.loop-u-2.at t.in-Entry.e in
+    let q = m.mark_of-m.ensures.0 ∙ here-mark a.y a.region.now l.loop-u-2.at t.in-Some.e in
+    let x = entry_as a.y a.region.now l.loop-u-2.at t.in-Some.e in
     let noted = c.is_noted-suspect in
     let sought = and_split noted.result (is_sought_def (key_from a.key.now) x) (sym c.is_sought.ensures ∙ c.if-is_sought.true) in (
       l.loop-u-2.invariant.0 ∙ scan-next w.walk _ _ _ (own ∙ m.if-not-entry_sound.false) w.next,
@@ -237,13 +237,13 @@ returns-then-is_doubled c =
     let t = m in
     let l = t in
     let a = l.args in
-    let w = at_entry t.turn-t.ensures t.in-Entry.is in
+    let w = at_entry t.turn-t.ensures t.in-Some.is in
     λ _. surveys-wrong a.y a.region.now a.key.now c.wrong-then-is_doubled.ensures (scan-doubled a.y a.region.now (doubled l.loop-u-2.invariant.1.passing w c.is_noted-suspect.result (sym c.is_doubled.ensures ∙ c.if-is_doubled.true)))
 
 pub loop-u-smaller : goal.loop-u-smaller
 loop-u-smaller c =
     let t = c in
-    let less = (at_entry t.turn-t.ensures t.in-Entry.is).less in
+    let less = (at_entry t.turn-t.ensures t.in-Some.is).less in
     let here = t.loop-u-2.invariant.2 in
     omega arith
 
@@ -253,10 +253,10 @@ loop-u-preserved c =
     let t = m in
     let l = t in
     let a = l.args in
-    let w = at_entry t.turn-t.ensures t.in-Entry.is in
+    let w = at_entry t.turn-t.ensures t.in-Some.is in
     let own = sym (front-sound w) ∙ sym m.entry_sound.ensures in
     let e = m.mark_of-m.ensures in
-    let q = e.0 ∙ here-mark a.y a.region.now l.loop-u-2.at t.in-Entry.e in
+    let q = e.0 ∙ here-mark a.y a.region.now l.loop-u-2.at t.in-Some.e in
     let noted = c.is_noted-suspect in (
       l.loop-u-2.invariant.0 ∙ scan-next w.walk _ _ _ (own ∙ m.if-not-entry_sound.false) w.next,
       rw c.note-in-loop-u.ensures (next l.loop-u-2.invariant.1 w _ q e.1 (rw (← noted.ensures) (sym c.is_doubled.ensures ∙ c.if-is_doubled.false)) (rw (← noted.ensures) (sym c.is_sought.ensures ∙ c.if-is_sought.false))),

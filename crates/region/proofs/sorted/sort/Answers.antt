@@ -3,4 +3,4 @@ use Rattle.region.proofs.Turns.{at_entry}
 use Rattle.region.proofs.sorted.sort.Goals as goal
 
 pub loop-count-smaller : goal.loop-count-smaller
-loop-count-smaller c = let t = c in (at_entry t.turn-t.ensures t.in-Entry.is).less
+loop-count-smaller c = let t = c in (at_entry t.turn-t.ensures t.in-Some.is).less

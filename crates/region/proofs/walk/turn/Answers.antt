@@ -1,8 +1,8 @@
 -- `region::walk::turn` meets its contract: the part that it lends to `read_head` is the rest of the region, and past the end nothing stands.
 -- Assumes nothing.
 use Rattle.std.proofs.Common.{◌≡◌, drop, sym, ap, ◌∙◌, arith}
+use Rattle.std.specs.Prelude.{Some, None}
 use Rattle.layout.specs.Head.{head_in}
-use Rattle.layout.specs.declared.Head.TheVariants.{Present, End}
 use Rattle.region.specs.Walk.{turn_in}
 use Rattle.region.proofs.Turns.{rest, past}
 use Rattle.region.proofs.walk.turn.Goals as goal
@@ -13,19 +13,17 @@ returns-then-region-at c =
     let a = c.args in
     rw (past a.y a.region.now a.at (omega arith))
 
-pub returns-in-Present : goal.returns-in-Present
+pub returns-in_err-e : goal.returns-in_err-e
 unfolding turn_in
-returns-in-Present c =
-    let b = c in
-    let a = b.args in
-    let here : head_in a.y (drop a.at a.region.now) ≡ Present b.in-Present.e =
-    sym (b.read_head-h.ensures ∙ ap (head_in a.y) (rest a.region.now a.at)) ∙ b.in-Present.is in
-    rw (here, c.stride.ensures.0)
-
-pub returns-in-End : goal.returns-in-End
-unfolding turn_in
-returns-in-End c =
+returns-in_err-e c =
     let a = c.args in
-    let here : head_in a.y (drop a.at a.region.now) ≡ End =
-    sym (c.read_head-h.ensures ∙ ap (head_in a.y) (rest a.region.now a.at)) ∙ c.in-End.is in
-    rw here
+    let here : head_in a.y (drop a.at a.region.now) ≡ None = sym (c.read_head.ensures ∙ ap (head_in a.y) (rest a.region.now a.at)) ∙ c.in_err-e.was in
+    rw here c.from_residual.ensures
+
+pub returns : goal.returns
+unfolding turn_in
+returns c =
+    let a = c.args in
+    let here : head_in a.y (drop a.at a.region.now) ≡ Some c.in_ok-e.e =
+    sym (c.read_head.ensures ∙ ap (head_in a.y) (rest a.region.now a.at)) ∙ c.in_ok-e.was in
+    rw (here, c.stride.ensures.0)
