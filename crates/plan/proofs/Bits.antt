@@ -12,7 +12,6 @@ use Rattle.model.specs.Book.{ClearsOne}
 use Rattle.model.proofs.Stores.{stores-append, stores-mark}
 use Rattle.plan.specs.declared.Step.{Step}
 use Rattle.plan.specs.declared.Step.TheVariants.{Nothing, Mark, Erase, Program, Header}
-use Rattle.plan.specs.declared.Op.{Op}
 use Rattle.plan.specs.Plan.{stores_of_step, expand, OneBit, AllOneBit, MarkAt, AllMarks}
 
 clears-split : (marks : ℕ → Bool) (xs ys : List Store) (img : List ℕ) → ClearsOne marks (xs ++ ys) img
@@ -35,13 +34,13 @@ one_bit marks w c (Erase first count) img m h = tt
 one_bit marks w c (Program at from len) img m h = tt
 one_bit marks w c (Header at from) img m h = tt
 
-pub bits-clear : (marks : ℕ → Bool) (w : ℕ) (c : List ℕ) (ops : List Op) (img : List ℕ) → AllMarks marks ops → ClearsOne marks (stores w (expand c ops)) img → AllOneBit w c ops img
+pub bits-clear : (marks : ℕ → Bool) (w : ℕ) (c : List ℕ) (ops : List Step) (img : List ℕ) → AllMarks marks ops → ClearsOne marks (stores w (expand c ops)) img → AllOneBit w c ops img
 unfolding expand
 bits-clear marks w c [] img m h = tt
 bits-clear marks w c (o ∷ os) img m h =
-    let xs : List Store = stores w (stores_of_step c o.step) in
-    let s = clears-split marks xs (stores w (expand c os)) img (subst (λ (ss : List Store). ClearsOne marks ss img) (stores-append w (stores_of_step c o.step) (expand c os)) h) in
-    (one_bit marks w c o.step img m.0 s.0, bits-clear marks w c os (apply_all xs img) m.1 s.1)
+    let xs : List Store = stores w (stores_of_step c o) in
+    let s = clears-split marks xs (stores w (expand c os)) img (subst (λ (ss : List Store). ClearsOne marks ss img) (stores-append w (stores_of_step c o) (expand c os)) h) in
+    (one_bit marks w c o img m.0 s.0, bits-clear marks w c os (apply_all xs img) m.1 s.1)
 
 -- numbers below 256 are bytes
 pub bytes_of : (l : List ℕ) → ((i : ℕ) → get_or l i 0 ≤ 0xFF) → Bytes l

@@ -13,7 +13,6 @@ use Rattle.model.proofs.Stores.{apply_all-append}
 use Rattle.model.proofs.Failing.{reach_few, after_more, reach-more, reach_here, ended-done, ended-stopped, ended-worn}
 use Rattle.plan.specs.declared.Step.{Step}
 use Rattle.plan.specs.declared.Step.TheVariants.{Nothing}
-use Rattle.plan.specs.declared.Op.{Op}
 use Rattle.plan.specs.Plan.{expand, size_of, rest_of, OneBit, AllOneBit, Ready, FirstFails, Made, count_of, Turned}
 use Rattle.plan.proofs.Stores.{after_none, step_at, expand-from, bits-from, fits-at, blank-at, rest-whole, rest_end, rest_some}
 
@@ -40,14 +39,14 @@ unchanged m z = go m.made (m.many ∙ z) m.image
     go (s ∷ ss) e f = absurd (omega arith)
 
 -- the first `made` stores of a plan are made, none of them failed, and what is left begins within an operation
-pub record Underway (dead : List ℕ) (w : ℕ) (c : List ℕ) (ops : List Op) (img₀ : List ℕ) (k i : ℕ) (img : List ℕ) (made : ℕ) : Type 0 where
+pub record Underway (dead : List ℕ) (w : ℕ) (c : List ℕ) (ops : List Step) (img₀ : List ℕ) (k i : ℕ) (img : List ℕ) (made : ℕ) : Type 0 where
   pub left : drop made (stores w (expand c ops)) ≡ rest_of w c (step_at ops k) i ++ stores w (expand c (drop (suc k) ops))
   pub image : img ≡ after made (stores w (expand c ops)) img₀
   pub reached : made ≤ reach dead (stores w (expand c ops)) img₀
   pub bit : i ≡ 0 → OneBit (step_at ops k) img
   pub bits : AllOneBit w c (drop (suc k) ops) (apply_all (rest_of w c (step_at ops k) i) img)
 
-module _ (dead : List ℕ) (w : ℕ) (c : List ℕ) (ops : List Op) (img₀ : List ℕ) (ready : Ready c ops img₀) where
+module _ (dead : List ℕ) (w : ℕ) (c : List ℕ) (ops : List Step) (img₀ : List ℕ) (ready : Ready c ops img₀) where
   abbrev all : List Store
   all = stores w (expand c ops)
 
@@ -124,7 +123,7 @@ module _ (dead : List ℕ) (w : ℕ) (c : List ℕ) (ops : List Op) (img₀ : Li
   unfolding rest_of expand stores
   underway-done k i img made n u l h =
       let none : drop made all ≡ [] =
-      u.left ∙ ap (λ (s : Step). rest_of w c s i ++ later k) (past ops k l) ∙ ap (λ (os : List Op). stores w (expand c os)) (drop_of_length-le ops {i = suc k} (omega arith)) in
+      u.left ∙ ap (λ (s : Step). rest_of w c s i ++ later k) (past ops k l) ∙ ap (λ (os : List Step). stores w (expand c os)) (drop_of_length-le ops {i = suc k} (omega arith)) in
       let last = drop-none made all none in
       let few = reach_few dead all img₀ in
       let whole : made ≡ length all = omega (arith, u.reached) in
@@ -133,7 +132,7 @@ module _ (dead : List ℕ) (w : ℕ) (c : List ℕ) (ops : List Op) (img₀ : Li
         u.image ∙ ap (λ (x : ℕ). after x all img₀) same,
       )
     where
-      past : (ops : List Op) (k : ℕ) → length ops ≤ k → step_at ops k ≡ Nothing
+      past : (ops : List Step) (k : ℕ) → length ops ≤ k → step_at ops k ≡ Nothing
       past [] k h = refl
       past (o ∷ ops) zero h = absurd (omega arith)
       past (o ∷ ops) (suc k) h = past ops k (omega arith)

@@ -19,8 +19,7 @@ use Rattle.model.proofs.Stores.{stores-append, stores_run, stores-mark, pages-by
 use Rattle.model.proofs.Pages.{pages-page, pages-append}
 use Rattle.plan.specs.declared.Step.{Step}
 use Rattle.plan.specs.declared.Step.TheVariants.{Nothing, Mark, Erase, Program, Header}
-use Rattle.plan.specs.declared.Op.{Op}
-use Rattle.plan.specs.Plan.{behind_state, stores_of_step, expand, op, size_of, run_of, header_rest_of, rest_of, Fits, OneBit, Blank, AllFit, AllOneBit, AllBlank}
+use Rattle.plan.specs.Plan.{behind_state, stores_of_step, expand, size_of, run_of, header_rest_of, rest_of, Fits, OneBit, Blank, AllFit, AllOneBit, AllBlank}
 
 length-bytewise : (at : ℕ) (bs : List ℕ) → length (bytewise at bs) ≡ length bs
 unfolding bytewise
@@ -40,18 +39,18 @@ after_none ss img = refl
 
 -- ---- lists of operations
 
-pub expand-append : (c : List ℕ) (xs ys : List Op) → expand c (xs ++ ys) ≡ expand c xs ++ expand c ys
+pub expand-append : (c : List ℕ) (xs ys : List Step) → expand c (xs ++ ys) ≡ expand c xs ++ expand c ys
 unfolding expand
 expand-append c [] ys = refl
 expand-append c (x ∷ xs) ys =
-    ap (λ (l : List Write). stores_of_step c x.step ++ l) (expand-append c xs ys)
-    ∙ sym (append_assoc (stores_of_step c x.step) (expand c xs) (expand c ys))
+    ap (λ (l : List Write). stores_of_step c x ++ l) (expand-append c xs ys)
+    ∙ sym (append_assoc (stores_of_step c x) (expand c xs) (expand c ys))
 
 -- the operation at a place; none past the end
-abbrev pub step_at : List Op → ℕ → Step
-step_at ops k = (get_or ops k (op Nothing)).step
+abbrev pub step_at : List Step → ℕ → Step
+step_at ops k = get_or ops k Nothing
 
-writes-from : (c : List ℕ) (ops : List Op) (k : ℕ) → expand c (drop k ops) ≡ stores_of_step c (step_at ops k) ++ expand c (drop (suc k) ops)
+writes-from : (c : List ℕ) (ops : List Step) (k : ℕ) → expand c (drop k ops) ≡ stores_of_step c (step_at ops k) ++ expand c (drop (suc k) ops)
 unfolding expand stores_of_step
 writes-from c [] zero = refl
 writes-from c [] (suc k) = refl
@@ -59,24 +58,24 @@ writes-from c (o ∷ ops) zero = refl
 writes-from c (o ∷ ops) (suc k) = writes-from c ops k
 
 -- the stores from a place on begin with those of the operation there
-pub expand-from : (w : ℕ) (c : List ℕ) (ops : List Op) (k : ℕ)
+pub expand-from : (w : ℕ) (c : List ℕ) (ops : List Step) (k : ℕ)
     → stores w (expand c (drop k ops)) ≡ stores w (stores_of_step c (step_at ops k)) ++ stores w (expand c (drop (suc k) ops))
 expand-from w c ops k = ap (stores w) (writes-from c ops k) ∙ stores-append w (stores_of_step c (step_at ops k)) (expand c (drop (suc k) ops))
 
 -- and what is asked of them with what is asked of it
-pub bits-from : (w : ℕ) (c : List ℕ) (ops : List Op) (k : ℕ) (img : List ℕ) → AllOneBit w c (drop k ops) img
+pub bits-from : (w : ℕ) (c : List ℕ) (ops : List Step) (k : ℕ) (img : List ℕ) → AllOneBit w c (drop k ops) img
     → OneBit (step_at ops k) img × AllOneBit w c (drop (suc k) ops) (apply_all (stores w (stores_of_step c (step_at ops k))) img)
 bits-from w c [] zero img h = (tt, tt)
 bits-from w c [] (suc k) img h = (tt, tt)
 bits-from w c (o ∷ ops) zero img h = h
 bits-from w c (o ∷ ops) (suc k) img h = bits-from w c ops k img h
 
-pub fits-at : (held long : ℕ) (ops : List Op) (k : ℕ) → AllFit held long ops → Fits held long (step_at ops k)
+pub fits-at : (held long : ℕ) (ops : List Step) (k : ℕ) → AllFit held long ops → Fits held long (step_at ops k)
 fits-at held long [] k h = tt
 fits-at held long (o ∷ ops) zero h = h.0
 fits-at held long (o ∷ ops) (suc k) h = fits-at held long ops k h.1
 
-pub blank-at : (c : List ℕ) (ops : List Op) (k : ℕ) → AllBlank c ops → Blank c (step_at ops k)
+pub blank-at : (c : List ℕ) (ops : List Step) (k : ℕ) → AllBlank c ops → Blank c (step_at ops k)
 blank-at c [] k h = tt
 blank-at c (o ∷ ops) zero h = h.0
 blank-at c (o ∷ ops) (suc k) h = blank-at c ops k h.1

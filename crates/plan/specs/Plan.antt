@@ -8,7 +8,6 @@ use Rattle.model.specs.Entry.{header_size_def}
 use Rattle.model.specs.Stores.{Store, byte, Write, header, pages, stores, apply_all, run, mark, erases, difference, fails, reach}
 use Rattle.plan.specs.declared.Step.{Step}
 use Rattle.plan.specs.declared.Step.TheVariants.{Nothing, Mark, Erase, Program, Header}
-use Rattle.plan.specs.declared.Op.{Op}
 
 -- how many bytes of a header stand behind its state
 abbrev pub behind_state : ℕ
@@ -25,13 +24,9 @@ stores_of_step content (Header at from) =
     header at (part from state_at content) (part (from + state_at + 1) behind_state content) ∷ []
 
 -- one operation after the other
-unfoldable pub expand : List ℕ → List Op → List Write
+unfoldable pub expand : List ℕ → List Step → List Write
 expand content [] = []
-expand content (o ∷ os) = stores_of_step content o.step ++ expand content os
-
--- an operation of a plan
-abbrev pub op : Step → Op
-op s = record { step = s }
+expand content (o ∷ os) = stores_of_step content o ++ expand content os
 
 -- an operation is a mark
 abbrev pub is_mark : Step → Bool
@@ -87,14 +82,14 @@ OneBit (Program at from len) img = Unit {0}
 OneBit (Header at from) img = Unit {0}
 
 -- every operation lies within, and each mark clears one bit of what then stands there, with stores of at most w bytes
-abbrev pub AllFit : ℕ → ℕ → List Op → Type 0
+abbrev pub AllFit : ℕ → ℕ → List Step → Type 0
 AllFit held long [] = Unit {0}
-AllFit held long (o ∷ os) = Fits held long o.step × AllFit held long os
+AllFit held long (o ∷ os) = Fits held long o × AllFit held long os
 
-abbrev pub AllOneBit : ℕ → List ℕ → List Op → List ℕ → Type 0
+abbrev pub AllOneBit : ℕ → List ℕ → List Step → List ℕ → Type 0
 AllOneBit w content [] img = Unit {0}
 AllOneBit w content (o ∷ os) img =
-    OneBit o.step img × AllOneBit w content os (apply_all (stores w (stores_of_step content o.step)) img)
+    OneBit o img × AllOneBit w content os (apply_all (stores w (stores_of_step content o)) img)
 
 -- in the content a header has FF in the place of its state
 abbrev pub Blank : List ℕ → Step → Type 0
@@ -104,12 +99,12 @@ Blank content (Erase first count) = Unit {0}
 Blank content (Program at from len) = Unit {0}
 Blank content (Header at from) = get_or content (from + state_at) 0 ≡ 0xFF
 
-abbrev pub AllBlank : List ℕ → List Op → Type 0
+abbrev pub AllBlank : List ℕ → List Step → Type 0
 AllBlank content [] = Unit {0}
-AllBlank content (o ∷ os) = Blank content o.step × AllBlank content os
+AllBlank content (o ∷ os) = Blank content o × AllBlank content os
 
 -- what the executor asks, for every w
-pub record Ready (content : List ℕ) (ops : List Op) (img : List ℕ) : Type 0 where
+pub record Ready (content : List ℕ) (ops : List Step) (img : List ℕ) : Type 0 where
   pub fit : AllFit (length content) (length img) ops
   pub blank : AllBlank content ops
   pub bits : (w : ℕ) → AllOneBit w content ops img
@@ -122,9 +117,9 @@ MarkAt marks (Erase first count) = Unit {0}
 MarkAt marks (Program at from len) = Unit {0}
 MarkAt marks (Header at from) = Unit {0}
 
-abbrev pub AllMarks : (ℕ → Bool) → List Op → Type 0
+abbrev pub AllMarks : (ℕ → Bool) → List Step → Type 0
 AllMarks marks [] = Unit {0}
-AllMarks marks (o ∷ os) = MarkAt marks o.step × AllMarks marks os
+AllMarks marks (o ∷ os) = MarkAt marks o × AllMarks marks os
 
 -- the first store of a list fails
 abbrev pub FirstFails : List ℕ → List Store → List ℕ → Type 0

@@ -2,9 +2,8 @@
 #![tactic(auto)]
 
 ghost use Rattle.std.specs.Prelude.{◌≡◌};
-ghost use Rattle.plan.specs.Planned.{accepted, refused, nothings};
-ghost use Rattle.plan.specs.Told.{no_operations_def};
-ghost use Rattle.plan.specs.Numbers.{operation_of, operation_at_def, operations_of, in_numbers_def};
+ghost use Rattle.plan.specs.Planned.{nothings};
+ghost use Rattle.plan.specs.Numbers.{operation_of, operations_of, in_numbers_def};
 
 use model::{Layout, Rule};
 
@@ -23,66 +22,27 @@ pub enum Step {
     Header(usize, usize),
 }
 
-// An array holds no enum, but structs that do.
-#[derive(Clone, Copy)]
-pub struct Op {
-    pub step: Step,
-}
-
 // The places of a plan: a start-up that compacts has the most operations, ten.
 pub const OPERATIONS: usize = 12;
 
-// The deciding operation's number where none decides: that of no place.
+// The deciding operation's number where none decides, as a host is told it: that of no place.
 pub const NONE_DECIDES: usize = OPERATIONS;
 
 // The operations of a call, in their order.
-pub type Plan = [Op; OPERATIONS];
+pub type Plan = [Step; OPERATIONS];
 
-// A call judged: accepted, or the first rule that it breaks.
-#[derive(Clone, Copy)]
-pub enum Judged {
-    Accepted,
-    Refused(Rule),
-}
-
-// What was planned for a call; no operation where it is refused. Its deciding store is operation number `deciding`, always a mark; or none decides.
+// What was planned for an accepted call. Its deciding store is operation number `deciding`, always a mark; or none decides.
 #[derive(Clone, Copy)]
 pub struct Planned {
-    pub judged: Judged,
     pub plan: Plan,
-    pub deciding: usize,
+    pub deciding: Option<usize>,
 }
 
 // No operation at all.
 pub fn nothing() -> Plan
     ensures { result ≡ nothings }
 {
-    let none = Op {
-        step: Step::Nothing,
-    };
-    [none; OPERATIONS]
-}
-
-// A call that is to carry out a plan.
-pub fn accept(plan: Plan, deciding: usize) -> Planned
-    ensures { result ≡ accepted plan deciding }
-{
-    Planned {
-        judged: Judged::Accepted,
-        plan,
-        deciding,
-    }
-}
-
-// A call that breaks a rule.
-pub fn refuse(rule: Rule) -> Planned
-    ensures { result ≡ refused rule }
-{
-    Planned {
-        judged: Judged::Refused(rule),
-        plan: nothing(),
-        deciding: NONE_DECIDES,
-    }
+    [Step::Nothing; OPERATIONS]
 }
 
 // One operation in numbers, as a host reads it: kind 0 none; 1 a mark: the byte at `at` becomes `from` (len 1); 2 an erase: `len` blocks from block `at` on;
@@ -107,103 +67,73 @@ pub struct HostPlan {
 }
 
 // An operation in numbers.
-fn operation(step: Step) -> HostOp
-    ensures { result ≡ operation_of step }
-{
-    match step {
-        Step::Nothing => HostOp {
-            kind: 0,
-            at: 0,
-            from: 0,
-            len: 0,
-        },
-        Step::Mark(at, v) => HostOp {
-            kind: 1,
-            at: at as u64,
-            from: v as u64,
-            len: 1,
-        },
-        Step::Erase(first, count) => HostOp {
-            kind: 2,
-            at: first as u64,
-            from: 0,
-            len: count as u64,
-        },
-        Step::Program(at, from, len) => HostOp {
-            kind: 3,
-            at: at as u64,
-            from: from as u64,
-            len: len as u64,
-        },
-        Step::Header(at, from) => HostOp {
-            kind: 4,
-            at: at as u64,
-            from: from as u64,
-            len: HEADER,
-        },
+impl From<Step> for HostOp {
+    ghost from_gives = { λ step told. told ≡ operation_of step };
+
+    fn from(step: Step) -> HostOp {
+        match step {
+            Step::Nothing => HostOp {
+                kind: 0,
+                at: 0,
+                from: 0,
+                len: 0,
+            },
+            Step::Mark(at, v) => HostOp {
+                kind: 1,
+                at: at as u64,
+                from: u64::from(v),
+                len: 1,
+            },
+            Step::Erase(first, count) => HostOp {
+                kind: 2,
+                at: first as u64,
+                from: 0,
+                len: count as u64,
+            },
+            Step::Program(at, from, len) => HostOp {
+                kind: 3,
+                at: at as u64,
+                from: from as u64,
+                len: len as u64,
+            },
+            Step::Header(at, from) => HostOp {
+                kind: 4,
+                at: at as u64,
+                from: from as u64,
+                len: HEADER,
+            },
+        }
     }
 }
 
-// That of a plan at a place.
-fn operation_at(plan: Plan, i: usize) -> HostOp
-    ensures { result ≡ operation_at_def plan i }
-{
-    if i < OPERATIONS {
-        let o = plan[i];
-        let step = o.step;
-        return operation(step);
-    }
-    HostOp {
-        kind: 0,
-        at: 0,
-        from: 0,
-        len: 0,
-    }
-}
-
-// All of them.
+// All operations of a plan.
 fn operations(plan: Plan) -> [HostOp; OPERATIONS]
     ensures { result ≡ operations_of plan }
 {
-    [
-        operation_at(plan, 0),
-        operation_at(plan, 1),
-        operation_at(plan, 2),
-        operation_at(plan, 3),
-        operation_at(plan, 4),
-        operation_at(plan, 5),
-        operation_at(plan, 6),
-        operation_at(plan, 7),
-        operation_at(plan, 8),
-        operation_at(plan, 9),
-        operation_at(plan, 10),
-        operation_at(plan, 11),
-    ]
-}
-
-// The operations of a refused call.
-fn no_operations() -> [HostOp; OPERATIONS]
-    ensures { result ≡ no_operations_def }
-{
-    operations(nothing())
+    plan.map(HostOp::from)
 }
 
 // What was planned for a call, in numbers.
-pub fn in_numbers(planned: Planned) -> HostPlan
+pub fn in_numbers(planned: Result<Planned, Rule>) -> HostPlan
     ensures { result ≡ in_numbers_def planned }
 {
-    let judged = planned.judged;
-    let plan = planned.plan;
-    match judged {
-        Judged::Accepted => HostPlan {
-            rule: 0,
-            deciding: planned.deciding as u64,
-            ops: operations(plan),
-        },
-        Judged::Refused(rule) => HostPlan {
-            rule: model::number(rule),
-            deciding: NONE_DECIDES as u64,
-            ops: no_operations(),
-        },
+    match planned {
+        Ok(planned) => {
+            let Planned { plan, deciding } = planned;
+            let ops = operations(plan);
+            HostPlan {
+                rule: 0,
+                deciding: deciding.unwrap_or(NONE_DECIDES) as u64,
+                ops,
+            }
+        }
+        Err(rule) => {
+            let ops = operations(nothing());
+            HostPlan {
+                rule: model::number(rule),
+                deciding: NONE_DECIDES as u64,
+                ops,
+            }
+        }
     }
 }

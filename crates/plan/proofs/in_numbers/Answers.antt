@@ -1,13 +1,13 @@
--- `plan::in_numbers` meets its contract, by how the call was judged. Assumes nothing.
-use Rattle.plan.proofs.InNumbers.{accepted-numbers, refused-numbers}
+-- `plan::in_numbers` meets its contract, accepted and refused. Assumes nothing.
+use Rattle.plan.specs.Told.{refusal_of}
+use Rattle.plan.specs.Numbers.{in_numbers_def}
+use Rattle.plan.proofs.InNumbers.{none_at_all}
 use Rattle.plan.proofs.in_numbers.Goals as goal
 
-pub returns-in-Accepted : goal.returns-in-Accepted
-returns-in-Accepted c =
-    let s = c in
-    accepted-numbers s.args.planned _ c.in-Accepted.is c.operations.ensures
+pub returns-in-Ok : goal.returns-in-Ok
+unfolding in_numbers_def
+returns-in-Ok c = rw (c.in-Ok.is, c.unwrap_or.ensures, c.operations-ops.ensures)
 
-pub returns-in-Refused : goal.returns-in-Refused
-returns-in-Refused c =
-    let s = c in
-    refused-numbers s.args.planned _ _ _ c.in-Refused.is c.number.ensures c.no_operations.ensures
+pub returns-in-Err : goal.returns-in-Err
+unfolding in_numbers_def refusal_of
+returns-in-Err c = rw (c.in-Err.is, c.number.ensures, c.operations-ops-in-Err.ensures, c.nothing.ensures, none_at_all)
