@@ -11,6 +11,7 @@ use lib.Seq.{drop-cons, drop-length, drop-drop}
 use lib.Bits.{bit_and, and_le_l, and_le_r}
 use lib.Dec.{eqb}
 use borrow.Author.Tests.{eqb-true, eqb-false, ne_eqb}
+use Rattle.std.specs.List.{list_all}
 use Rattle.model.specs.Lists.{all_ff, part}
 
 and-ff : (b x : ℕ) → b ≤ 0xFF → x ≤ 0xFF → eqb (bit_and b x) 0xFF ≡ (eqb b 0xFF && eqb 0xFF x)
@@ -21,15 +22,17 @@ and-ff b x hb hx = go (eqb b 0xFF) refl (eqb 0xFF x) refl
     go true p false q = ne_eqb (bit_and b x) 0xFF (λ e. eqb-false 0xFF x q (omega (arith, and_le_r b x)))
     go false p t q = ne_eqb (bit_and b x) 0xFF (λ e. eqb-false b 0xFF p (omega (arith, and_le_l b x)))
 
-pub blank-next : (s : List ℕ) (i b : ℕ) → i < length s → b ≤ 0xFF → get_or s i 0 ≤ 0xFF
+blank-next : (s : List ℕ) (i b : ℕ) → i < length s → b ≤ 0xFF → get_or s i 0 ≤ 0xFF
     → (eqb b 0xFF && all_ff (drop i s)) ≡ (eqb (bit_and b (get_or s i 0)) 0xFF && all_ff (drop (i + 1) s))
 unfolding all_ff
 blank-next s i b h hb hx =
     rw (and-ff b (get_or s i 0) hb hx, add-one i, drop-cons s i 0 h, and_assoc (eqb b 0xFF) (eqb 0xFF (get_or s i 0)) (all_ff (drop (suc i) s)))
 
-pub blank-end : (s : List ℕ) (b : ℕ) → (eqb b 0xFF && all_ff (drop (length s) s)) ≡ eqb b 0xFF
+-- FF one by one
+pub blank-each : (s : List ℕ) → list_all (λ b. eqb 0xFF b) s ≡ all_ff s
 unfolding all_ff
-blank-end s b = rw (drop-length s, and-true (eqb b 0xFF))
+blank-each [] = refl
+blank-each (x ∷ s) = ap (λ (r : Bool). eqb 0xFF x && r) (blank-each s)
 
 and_commutes : (a b : Bool) → (a && b) ≡ (b && a)
 and_commutes true b = sym (and-true b)

@@ -1,22 +1,23 @@
 -- A name's characters are tested in pairs of bytes: a pair that is not the last must not be zero, the last must be, and one byte alone is no character.
 -- Assumes nothing.
-use Prim.Native.Nat.{ℕ, suc, ◌+◌, ◌≤◌, ◌<◌}
+use Prim.Native.Nat.{ℕ, suc, ◌+◌, ◌%◌, ◌≤◌, ◌<◌}
 use native.Mathlib.Omega.{arith}
 use native.Mathlib.Numerals.{towards_suc}
 use mathlib.Core.Path.{◌≡◌, refl, ap, ◌∙◌}
 use mathlib.Core.Bool.{true, false, not, ◌&&◌, and-false}
 use mathlib.Core.List.{List, [], ◌∷◌}
-use lib.ListN.{length, get_or, drop, length-drop, drop_of_length-le}
+use lib.ListN.{length, get_or, drop, drop_of_length-le}
 use lib.Seq.{drop-cons}
-use lib.Dec.{eqb}
+use lib.Dec.{eqb, leb}
 use borrow.Author.Tests.{eq-eqb, ne_eqb, le-leb, lt-leb}
 use Rattle.model.specs.Name.{zero_character, zero_ended, well_named}
 
-alone : (t : List ℕ) → length t ≤ 1 → zero_ended t ≡ false
+odd : (s : List ℕ) → length s % 2 ≡ 1 → zero_ended s ≡ false
 unfolding zero_ended
-alone [] h = refl
-alone (a ∷ []) h = refl
-alone (a ∷ b ∷ t) h = absurd (omega arith)
+odd [] h = refl
+odd (a ∷ []) h = refl
+odd (a ∷ b ∷ []) h = absurd (omega arith)
+odd (a ∷ b ∷ c ∷ s) h = rw (odd (c ∷ s) (omega arith)) (and-false (not (zero_character a b)))
 
 module _ (s : List ℕ) (i : ℕ) where
   two : i + 2 ≤ length s → drop i s ≡ get_or s i 0 ∷ get_or s (i + 1) 0 ∷ drop (i + 2) s
@@ -38,9 +39,6 @@ module _ (s : List ℕ) (i : ℕ) where
       → zero_ended (drop i s) ≡ zero_ended (drop (i + 2) s)
   ended-next h z = rw (ended-step h, z)
 
-  pub ended-alone : length s ≤ i + 1 → zero_ended (drop i s) ≡ false
-  ended-alone h = alone (drop i s) (simp length-drop (omega arith))
-
 pub zero-pair : (a b : ℕ) → a ≡ 0 → b ≡ 0 → zero_character a b ≡ true
 zero-pair a b p q = rw (eq-eqb a 0 p, eq-eqb b 0 q)
 
@@ -61,3 +59,7 @@ named-long s h k = rw (le-leb 4 (length s) h, lt-leb (length s) 128 k)
 pub named-ended : (s : List ℕ) → 4 ≤ length s → length s ≤ 128 → well_named s ≡ zero_ended s
 unfolding well_named
 named-ended s h k = rw (le-leb 4 (length s) h, le-leb (length s) 128 k)
+
+pub named-odd : (s : List ℕ) → length s % 2 ≡ 1 → well_named s ≡ false
+unfolding well_named
+named-odd s h = rw (odd s h) (and-false (leb 4 (length s) && leb (length s) 128))

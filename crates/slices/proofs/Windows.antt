@@ -2,7 +2,7 @@
 -- Assumes nothing.
 use Prim.Native.Nat.{ℕ, zero, suc, ◌+◌, ◌*◌, ◌-◌, ◌%◌, ◌/◌, ◌≤◌, ◌<◌}
 use native.Mathlib.Omega.{arith}
-use mathlib.Core.Path.{◌≡◌, refl, ◌∙◌}
+use mathlib.Core.Path.{◌≡◌, refl, sym, ◌∙◌}
 use mathlib.Core.Logic.{◌≢◌}
 use mathlib.Core.Bool.{Bool, true, false, not, ◌&&◌}
 use mathlib.Core.List.{List}
@@ -25,6 +25,13 @@ module _ (a b : ℕ) where
 
   pub number-zero : a + 256 * b ≡ 0 → zero_character a b ≡ true
   number-zero h = zero-pair a b (omega arith) (omega arith)
+
+  pub number-test : (k : ℕ) → k ≡ a + 256 * b → eqb k 0 ≡ zero_character a b
+  number-test k e = go (eqb k 0) refl
+    where
+      go : (t : Bool) → eqb k 0 ≡ t → t ≡ zero_character a b
+      go true z = sym (number-zero (sym e ∙ eqb-true k 0 z))
+      go false z = sym (number-nonzero (λ q. eqb-false k 0 z (e ∙ q)))
 
 -- by the test of its number
 tested-nonzero : (a b k : ℕ) → k ≡ a + 256 * b → not (eqb k 0) ≡ true → zero_character a b ≡ false
@@ -76,15 +83,15 @@ module _ (s : List ℕ) where
       (tested-nonzero (get_or s (i + 4) 0) (get_or s (i + 4 + 1) 0) y c q.1)
       (tested-nonzero (get_or s (i + 6) 0) (get_or s (i + 6 + 1) 0) z d p.1)
 
-  -- with the last character zero the name is well formed
-  module _ (n : ℕ) (long : length s ≡ n) (f : NonZero s 0 (n - 2)) (z : zero_character (get_or s (n - 2) 0) (get_or s (n - 2 + 1) 0) ≡ true) where
-    ended : (k j : ℕ) → 2 * j + 2 * k + 2 ≡ n → zero_ended (drop (2 * j) s) ≡ true
+  -- where no other is zero, the last character decides whether the name is well formed
+  module _ (n : ℕ) (long : length s ≡ n) (f : NonZero s 0 (n - 2)) where
+    ended : (k j : ℕ) → 2 * j + 2 * k + 2 ≡ n → zero_ended (drop (2 * j) s) ≡ zero_character (get_or s (n - 2) 0) (get_or s (n - 2 + 1) 0)
     ended zero j h =
         let e : 2 * j ≡ n - 2 = omega arith in
-        ended-last s (2 * j) (omega arith) ∙ rw e z
+        rw (← e) (ended-last s (2 * j) (omega arith))
     ended (suc k) j h =
         let e : 2 * j + 2 ≡ 2 * (j + 1) = omega arith in
         ended-next s (2 * j) (omega arith) (f.each j (omega arith) (omega arith)) ∙ rw e (ended k (j + 1) (omega arith))
 
-    pub well-named : 4 ≤ n → n ≤ 128 → n % 2 ≡ 0 → well_named s ≡ true
-    well-named h k e = named-ended s (omega arith) (omega arith) ∙ ended (n / 2 - 1) 0 (omega arith)
+    pub named-last : 4 ≤ n → n ≤ 128 → n % 2 ≡ 0 → well_named s ≡ zero_character (get_or s (n - 2) 0) (get_or s (n - 2 + 1) 0)
+    named-last h k e = named-ended s (omega arith) (omega arith) ∙ ended (n / 2 - 1) 0 (omega arith)

@@ -1,37 +1,32 @@
 // Byte slices: compared, cut, tested.
 #![tactic(auto)]
 
-ghost use Rattle.std.specs.Prelude.{◌≡◌, true, ◌&&◌, ◌+◌, ◌*◌, ◌-◌, ◌%◌, ◌<◌, ◌≤◌, ◌^◌, length, drop, get_or};
+ghost use Rattle.std.specs.Prelude.{◌≡◌, ◌==◌, true, false, ◌&&◌, ◌+◌, ◌*◌, ◌-◌, ◌%◌, ◌<◌, ◌≤◌, ◌^◌, length, drop, get_or};
+ghost use Rattle.std.specs.List.{list_all};
 ghost use Rattle.model.specs.Lists.{same, part, all_ff, u32_at};
-ghost use Rattle.model.specs.Name.{well_named};
+ghost use Rattle.model.specs.Name.{zero_ended, well_named};
 ghost use Rattle.slices.specs.Agree.{Agree, u64_at, four_at};
 ghost use Rattle.slices.specs.Characters.{NonZero};
 
 // The bytes of the longest well-formed name: 63 characters and a zero character.
 pub const LONGEST_NAME: usize = 128;
 
-fn wide(x: u8) -> u64
-    ensures { (result ≡ x) × (result < 256) }
-{
-    x as u64
-}
-
 // Four bytes as a number, where they are all there.
 pub fn word(s: &[u8], i: usize) -> u64
     requires { i + 4 ≤ length s.now }
     ensures { (result ≡ u32_at s.now i) × (result < 2 ^ 32) }
 {
-    wide(s[i]) + 256 * wide(s[i + 1]) + 65536 * (wide(s[i + 2]) + 256 * wide(s[i + 2 + 1]))
+    u64::from(s[i])
+        + 256 * u64::from(s[i + 1])
+        + 65536 * (u64::from(s[i + 2]) + 256 * u64::from(s[i + 2 + 1]))
 }
 
 // Four bytes as a number; 0 where they are not all there.
+#[tactic(auto, unfolding(crate::specs::Agree::four_at))]
 pub fn four(s: &[u8], i: usize) -> u64
     ensures { result ≡ four_at s.now i }
 {
-    if s.len() < 4 {
-        return 0;
-    }
-    if s.len() - 4 < i {
+    if s.len() < 4 || s.len() - 4 < i {
         return 0;
     }
     word(s, i)
@@ -43,21 +38,6 @@ pub fn standing_eight(s: &[u8], i: usize) -> u64
     ensures { result ≡ u64_at s.now i }
 {
     word(s, i) + 4294967296 * word(s, i + 4)
-}
-
-// Whether two slices that agree from an offset on hold the same bytes.
-fn equal_front(a: &[u8], b: &[u8], end: usize) -> bool
-    requires { (end ≤ length a.now) × Agree a.now b.now end }
-    ensures { result ≡ same a.now b.now }
-{
-    let mut i = end;
-    while 0 < i {
-        i -= 1;
-        if a[i] != b[i] {
-            return false;
-        }
-    }
-    true
 }
 
 // Whether two slices hold the same bytes: eight at a time, from their ends on, since in most stores names that differ do so late.
@@ -74,20 +54,14 @@ pub fn equal(a: &[u8], b: &[u8]) -> bool
             return false;
         }
     }
-    equal_front(a, b, i)
+    a[..i] == b[..i]
 }
 
 // Whether every byte is FF, one by one: for what is left over by the quarters.
 fn is_blank_rest(s: &[u8]) -> bool
-    ensures { result ≡ all_ff s.now }
+    ensures { result ≡ list_all (λ b. 0xFF == b) s.now }
 {
-    let mut both: u8 = 0xFF;
-    let mut i = 0;
-    while i < s.len() {
-        both = both & s[i];
-        i += 1;
-    }
-    both == 0xFF
+    s.iter().all(|&b| b == 0xFF)
 }
 
 // Whether every byte of four slices of one length is FF. No early exit: a blank slice is read whole anyway, and without one the compiler takes many bytes of each
@@ -97,10 +71,8 @@ fn are_blank(a: &[u8], b: &[u8], c: &[u8], d: &[u8]) -> bool
     ensures { result ≡ (all_ff a.now && (all_ff b.now && (all_ff c.now && all_ff d.now))) }
 {
     let mut both: u8 = 0xFF;
-    let mut i = 0;
-    while i < a.len() {
+    for i in 0..a.len() {
         both = both & a[i] & b[i] & c[i] & d[i];
-        i += 1;
     }
     both == 0xFF
 }
@@ -110,39 +82,27 @@ pub fn is_blank(s: &[u8]) -> bool
     ensures { result ≡ all_ff s.now }
 {
     let q = s.len() / 4;
-    if are_blank(
+    are_blank(
         cut(s, 0, q),
         cut(s, q, q),
         cut(s, 2 * q, q),
         cut(s, 3 * q, q),
-    ) {
-        return is_blank_rest(from(s, 4 * q));
-    }
-    false
+    ) && is_blank_rest(from(s, 4 * q))
 }
 
 // The bytes from start on, at most len of them.
 pub fn cut(s: &[u8], start: usize, len: usize) -> &[u8]
     ensures { result.now ≡ part start len s.now }
 {
-    let n = s.len();
-    if n <= start {
-        return &s[..0];
-    }
-    if n - start <= len {
-        return &s[start..];
-    }
-    &s[start..start + len]
+    let rest = from(s, start);
+    &rest[..len.min(rest.len())]
 }
 
 // The bytes from start on; past the end, none.
 pub fn from(s: &[u8], start: usize) -> &[u8]
     ensures { result.now ≡ drop start s.now }
 {
-    if s.len() < start {
-        return &s[..0];
-    }
-    &s[start..]
+    &s[start.min(s.len())..]
 }
 
 // A character as a number.
@@ -150,7 +110,7 @@ fn character(s: &[u8], i: usize) -> u64
     requires { i + 2 ≤ length s.now }
     ensures { (result ≡ get_or s.now i 0 + 256 * get_or s.now (i + 1) 0) × (result < 65536) }
 {
-    wide(s[i]) + 256 * wide(s[i + 1])
+    u64::from(s[i]) + 256 * u64::from(s[i + 1])
 }
 
 // Whether none of the four characters from an offset on is zero. Joined by `&`, which asks all four, the tests become one of the whole window.
@@ -172,18 +132,16 @@ fn eight_nonzero(name: &[u8], i: usize, j: usize) -> bool
     four_nonzero(name, i) & four_nonzero(name, j)
 }
 
-// Whether no character but the last is zero, one by one: for names shorter than a window and the last character.
-fn short_nonzero(name: &[u8]) -> bool
+// Whether no character but the last is zero, one by one.
+fn front_nonzero(name: &[u8]) -> bool
     requires { length name.now % 2 ≡ 0 }
-    ensures { result ≡ true → NonZero name.now 0 (length name.now - 2) }
+    ensures yes { result ≡ true → NonZero name.now 0 (length name.now - 2) }
+    ensures no { result ≡ false → zero_ended name.now ≡ false }
 {
-    let n = name.len();
-    let mut i = 0;
-    while i + 2 < n {
-        if character(name, i) == 0 {
+    for k in 0..(name.len() / 2).saturating_sub(1) {
+        if character(name, 2 * k) == 0 {
             return false;
         }
-        i += 2;
     }
     true
 }
@@ -196,11 +154,10 @@ fn inner_nonzero(name: &[u8]) -> bool
     let n = name.len();
     let mut i: usize = 8;
     while i + 10 < n {
-        if four_nonzero(name, i) {
-            i += 8;
-        } else {
+        if !four_nonzero(name, i) {
             return false;
         }
+        i += 8;
     }
     true
 }
@@ -215,15 +172,9 @@ pub fn is_zero_ended(name: &[u8]) -> bool
         return false;
     }
     if n < 10 {
-        return short_nonzero(name);
+        return front_nonzero(name);
     }
-    if eight_nonzero(name, 0, n - 10) {
-        if n <= 18 {
-            return true;
-        }
-        return inner_nonzero(name);
-    }
-    false
+    eight_nonzero(name, 0, n - 10) && (n <= 18 || inner_nonzero(name))
 }
 
 // Whether a name is well formed: 1 to 63 characters of UTF-16 and a zero character, with no zero character before.
@@ -231,25 +182,8 @@ pub fn is_named(name: &[u8]) -> bool
     ensures { result ≡ well_named name.now }
 {
     let n = name.len();
-    if n < 4 {
+    if n < 4 || LONGEST_NAME < n || n % 2 != 0 {
         return false;
     }
-    if LONGEST_NAME < n {
-        return false;
-    }
-    let mut i = 0;
-    while i + 2 < n {
-        if name[i] == 0 {
-            if name[i + 1] == 0 {
-                return false;
-            }
-        }
-        i += 2;
-    }
-    if i + 2 == n {
-        if name[i] == 0 {
-            return name[i + 1] == 0;
-        }
-    }
-    false
+    front_nonzero(name) && character(name, n - 2) == 0
 }

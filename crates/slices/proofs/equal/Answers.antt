@@ -1,10 +1,9 @@
--- `slices::equal` meets its contract. The loop's invariant: the lists agree from `i` on. Assumes nothing.
 use Prim.Native.Nat.{ℕ, ◌-◌, ◌<◌}
 use native.Mathlib.Omega.{arith}
 use mathlib.Core.Path.{sym, ◌∙◌}
 use lib.ListN.{length, get_or}
 use Rattle.slices.specs.Agree.{u64_at}
-use Rattle.slices.proofs.Agreed.{differ, agree-end, agree-eight}
+use Rattle.slices.proofs.Agreed.{differ, agree-end, agree-eight, agree-front}
 use Rattle.slices.proofs.equal.Goals as goal
 
 pub returns-then-a-b : goal.returns-then-a-b
@@ -19,24 +18,23 @@ loop-i-init c =
 
 pub standing_eight-requires-in-loop-i : goal.standing_eight-requires-in-loop-i
 standing_eight-requires-in-loop-i c =
-    let l = c in
-    let long = l.loop-i.invariant.1.long in
+    let long = c.loop-i.invariant.1.long in
     omega arith
 
 pub returns-then-standing_eight : goal.returns-then-standing_eight
 returns-then-standing_eight c =
-    let l = c in
-    let a = l.args in
-    let i = l.loop-i.i - 8 in
+    let a = c.args in
+    let i = c.loop-i.i - 8 in
     sym (differ a.a.now a.b.now (λ s. u64_at s i)
     (λ e. c.if-standing_eight.true (c.standing_eight.ensures ∙ e ∙ sym c.standing_eight-in-loop-i.ensures)))
 
 pub loop-i-preserved : goal.loop-i-preserved
 loop-i-preserved c =
-    let l = c in
-    let k = l in
-    let a = k.args in
-    let hx : (j : ℕ) → get_or a.a.now j 0 < 256 = λ j. omega (arith, k.type_inv.a j) in
-    let hy : (j : ℕ) → get_or a.b.now j 0 < 256 = λ j. omega (arith, k.type_inv.b j) in
+    let a = c.args in
+    let hx : (j : ℕ) → get_or a.a.now j 0 < 256 = λ j. omega (arith, c.type_inv.a j) in
+    let hy : (j : ℕ) → get_or a.b.now j 0 < 256 = λ j. omega (arith, c.type_inv.b j) in
     let e = sym c.standing_eight.ensures ∙ c.if-standing_eight.false ∙ c.standing_eight-in-loop-i.ensures in
-    (omega arith, agree-eight a.a.now a.b.now hx hy (l.loop-i.i - 8) l.loop-i.i (omega arith) l.loop-i.invariant.1 e)
+    (omega arith, agree-eight a.a.now a.b.now hx hy (c.loop-i.i - 8) c.loop-i.i (omega arith) c.loop-i.invariant.1 e)
+
+pub returns : goal.returns
+returns c = c.eq.ensures ∙ agree-front c.args.a.now c.args.b.now c.loop-i.i c.loop-i.invariant.1

@@ -4,8 +4,7 @@ use Rattle.slices.proofs.four_nonzero.Goals as goal
 
 pub returns : goal.returns
 returns c =
-    let k = c in
-    let a = k.args in
+    let a = c.args in
     λ t.
-    window a.name.now a.i k.requires.1 k.character.result c.character-2.result c.character-3.result c.character-4.result
-    k.character.ensures.0 c.character-2.ensures.0 c.character-3.ensures.0 c.character-4.ensures.0 t
+    window a.name.now a.i c.requires.1 c.character.result c.character-2.result c.character-3.result c.character-4.result
+    c.character.ensures.0 c.character-2.ensures.0 c.character-3.ensures.0 c.character-4.ensures.0 t
