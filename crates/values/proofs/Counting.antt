@@ -13,8 +13,7 @@ use Rattle.model.specs.Entry.{Value, key_of, entry_size_in}
 use Rattle.model.specs.Name.{Key, keyed}
 use Rattle.model.specs.Sides.{modem_name, owns, view, side_sizes}
 use Rattle.model.specs.Walk as walk
-use Rattle.model.specs.Region.{entries, entries_in, record_bit, values}
-use Rattle.model.specs.Request.{time_based_def}
+use Rattle.model.specs.Region.{entries, entries_in, values}
 use Rattle.model.specs.Change.{entry_sizes_in, is_error_record_def, record_sizes, other_sizes}
 use Rattle.layout.specs.declared.Entry as numbers
 use Rattle.layout.proofs.Owners.{modem-elsewhere}
@@ -96,8 +95,9 @@ pub record Counted (y : Layout) (guid : List ℕ) (m : Bool) (t : Tally) (all re
   pub others : side_sizes_in y guid (not m) all ≡ t.others + side_sizes_in y guid (not m) rest
   pub stamped : any is_stamped_def all ≡ (t.stamped || any is_stamped_def rest)
 
-pub counted_none : (y : Layout) (guid : List ℕ) (m : Bool) (vs : List Value) → Counted y guid m (record { number = 0; records = 0; own = 0; others = 0; stamped = false }) vs vs
-counted_none y guid m vs = record { number = omega arith; records = omega arith; own = omega arith; others = omega arith; stamped = refl }
+pub counted_none : (y : Layout) (guid : List ℕ) (m : Bool) (vs : List Value) {t : Tally}
+    → (t.number ≡ 0) × (t.records ≡ 0) × (t.own ≡ 0) × (t.others ≡ 0) × (t.stamped ≡ false) → Counted y guid m t vs vs
+counted_none y guid m vs h = record { number = omega arith; records = omega arith; own = omega arith; others = omega arith; stamped = rw h.4 }
 
 pub counted_next : {y : Layout} {guid : List ℕ} {m : Bool} {t : Tally} {all rest : List Value} (v : Value) → Counted y guid m t all (v ∷ rest)
     → Counted y guid m (counted t v.attributes (owns guid m (key_of v)) (entry_size_in y v)) all rest
@@ -133,59 +133,6 @@ counted-all {y} {guid} {m} {t} {all} {rest} c e =
     or-false : (a : Bool) → (a || false) ≡ a
     or-false true = refl
     or-false false = refl
-
--- a test told by the first of two, or by the second where the first says no
-pub by_first : {b s : Bool} (d : Bool) → b ≡ true → s ≡ b → s ≡ (b || d)
-by_first d e h = h ∙ rw e
-
-pub by-second : {b s : Bool} (d : Bool) → b ≡ false → s ≡ d → s ≡ (b || d)
-by-second d e h = h ∙ rw e
-
--- a value adds its size to one sum
-module _ (t : Tally) (a : ℕ) (own : Bool) (size : ℕ) {s : Bool} (stamp : s ≡ (t.stamped || time_based_def a)) where
-  abbrev summed : ℕ → ℕ → ℕ → Bool → Tally
-  summed records mine theirs stamped = record { number = t.number + 1; records = records; own = mine; others = theirs; stamped = stamped }
-
-  grows : (n : ℕ) (c : Bool) → c ≡ true → n + size ≡ n + cond c size 0
-  grows n c h = rw h
-
-  stays : (n : ℕ) (c : Bool) → c ≡ false → n ≡ n + cond c size 0
-  stays n c h = rw h (omega arith)
-
-  and-false : (b : Bool) → (b && false) ≡ false
-  and-false true = refl
-  and-false false = refl
-
-  each : {r o h : ℕ} → r ≡ t.records + cond (record_bit a) size 0 → o ≡ t.own + cond (own && not (record_bit a)) size 0
-      → h ≡ t.others + cond (not own && not (record_bit a)) size 0 → summed r o h s ≡ counted t a own size
-  unfolding counted
-  each {r} {o} {h} p q u =
-      ap (λ (x : ℕ). summed x o h s) p
-      ∙ ap (λ (x : ℕ). summed (t.records + cond (record_bit a) size 0) x h s) q
-      ∙ ap (λ (x : ℕ). summed (t.records + cond (record_bit a) size 0) (t.own + cond (own && not (record_bit a)) size 0) x s) u
-      ∙ ap (λ (x : Bool). summed (t.records + cond (record_bit a) size 0) (t.own + cond (own && not (record_bit a)) size 0)
-      (t.others + cond (not own && not (record_bit a)) size 0) x) stamp
-
-  pub counted-record : record_bit a ≡ true → summed (t.records + size) t.own t.others s ≡ counted t a own size
-  counted-record e =
-      each
-      (grows t.records (record_bit a) e)
-      (stays t.own (own && not (record_bit a)) (rw e (and-false own)))
-      (stays t.others (not own && not (record_bit a)) (rw e (and-false (not own))))
-
-  pub counted-own : record_bit a ≡ false → own ≡ true → summed t.records (t.own + size) t.others s ≡ counted t a own size
-  counted-own e o =
-      each
-      (stays t.records (record_bit a) e)
-      (grows t.own (own && not (record_bit a)) (rw (o, e)))
-      (stays t.others (not own && not (record_bit a)) (rw o))
-
-  pub counted-other : record_bit a ≡ false → own ≡ false → summed t.records t.own (t.others + size) s ≡ counted t a own size
-  counted-other e o =
-      each
-      (stays t.records (record_bit a) e)
-      (stays t.own (own && not (record_bit a)) (rw o))
-      (grows t.others (not own && not (record_bit a)) (rw (o, e)))
 
 -- the sums of the two classes are no more than the region has
 pub sums-within : (y : Layout) (r : List ℕ)

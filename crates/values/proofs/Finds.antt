@@ -5,7 +5,8 @@ use mathlib.Core.Path.{◌≡◌, refl, sym, ap, ◌∙◌}
 use mathlib.Core.Logic.{◌≢◌}
 use mathlib.Core.Bool.{Bool, true, false, and-false}
 use mathlib.Core.List.{List}
-use mathlib.Core.Option.{Option, none, some}
+use mathlib.Core.Option.{Option as Maybe, none, some}
+use Rattle.std.specs.Prelude.{Option, Some, None}
 use lib.ListN.{length, take, drop}
 use lib.Dec.{eqb}
 use borrow.Author.Tests.{ne_eqb, eqb-true}
@@ -21,44 +22,42 @@ use Rattle.layout.specs.Head.{numbers_of, name_in, Unlike}
 use Rattle.layout.specs.declared.Entry as numbers
 use Rattle.region.specs.Walk.{entry_as, entry_at}
 use Rattle.region.proofs.Turns.{rest, Turned, Ended}
-use Rattle.values.specs.Found.{found_of, next_of, else_found}
-use Rattle.values.specs.declared.Found.{Found}
-use Rattle.values.specs.declared.Found.TheVariants.{At, Nothing}
-use Rattle.values.specs.declared.NextValue.TheVariants as next
+use Rattle.values.specs.Found.{placed_at, found_of, next_placed, next_of, else_found}
+use Rattle.region.specs.declared.Placed.{Placed}
 
-pub found-else : (a b : Option walk.Entry) → found_of (or_else a b) ≡ else_found (found_of a) (found_of b)
+pub found-else : (a b : Maybe walk.Entry) → found_of (or_else a b) ≡ else_found (found_of a) (found_of b)
 found-else (some e) b = refl
 found-else none b = refl
 
 -- an entry of some numbers at an offset is found as these
-found_at : (y : Layout) (r : List ℕ) (at : ℕ) (e : numbers.Entry) → At (entry_as y r at e).at (numbers_of (entry_as y r at e).header) ≡ At at e
+found_at : (y : Layout) (r : List ℕ) (at : ℕ) (e : numbers.Entry) → placed_at (entry_as y r at e).at (numbers_of (entry_as y r at e).header) ≡ placed_at at e
 unfolding entry_as walk.placed
 found_at y r at e = refl
 
 -- and as the next value with the offset after it
-pub next-at : {y : Layout} {r : List ℕ} {at : ℕ} {e : numbers.Entry} {k : ℕ} → Turned y r at e k → next_of (some (entry_as y r at e)) ≡ next.At at e k
+pub next-at : {y : Layout} {r : List ℕ} {at : ℕ} {e : numbers.Entry} {k : ℕ} → Turned y r at e k → next_of (some (entry_as y r at e)) ≡ next_placed at e k
 unfolding entry_as walk.placed
-next-at {at = at} {e} w = ap (next.At at e) w.next
+next-at {at = at} {e} w = ap (next_placed at e) w.next
 
 -- what is found first stays
-pub else-found : {g : Found} {at : ℕ} {e : numbers.Entry} → g ≡ At at e → (h : Found) → else_found g h ≡ At at e
-else-found p h = ap (λ (g : Found). else_found g h) p
+pub else-found : {g : Option Placed} {at : ℕ} {e : numbers.Entry} → g ≡ placed_at at e → (h : Option Placed) → else_found g h ≡ placed_at at e
+else-found p h = ap (λ (g : Option Placed). else_found g h) p
 
 -- the same from a later offset on
-pub found-later : {x : Found} {o o' : Option walk.Entry} (g : Found) → x ≡ else_found g (found_of o) → o ≡ o' → x ≡ else_found g (found_of o')
-found-later g p q = p ∙ ap (λ (o : Option walk.Entry). else_found g (found_of o)) q
+pub found-later : {x : Option Placed} {o o' : Maybe walk.Entry} (g : Option Placed) → x ≡ else_found g (found_of o) → o ≡ o' → x ≡ else_found g (found_of o')
+found-later g p q = p ∙ ap (λ (o : Maybe walk.Entry). else_found g (found_of o)) q
 
 module _ {y : Layout} {r : List ℕ} {at : ℕ} (z : Ended y r at) (f : walk.Entry → Bool) where
   pub first-none : first f (from_in y r at) ≡ none
   first-none = ap (first f) z.walk
 
-  pub found_none : found_of (first f (from_in y r at)) ≡ Nothing
+  pub found_none : found_of (first f (from_in y r at)) ≡ None
   found_none = ap found_of first-none
 
   -- where nothing more is found, what was found before stays
-  pub else-none : (g : Found) → else_found g (found_of (first f (from_in y r at))) ≡ g
-  else-none (At a n) = refl
-  else-none Nothing = found_none
+  pub else-none : (g : Option Placed) → else_found g (found_of (first f (from_in y r at))) ≡ g
+  else-none (Some p) = refl
+  else-none None = found_none
 
 module _ {y : Layout} {r : List ℕ} {at : ℕ} {e : numbers.Entry} {k : ℕ} (w : Turned y r at e k) where
   -- an entry is in one state
@@ -85,18 +84,18 @@ module _ {y : Layout} {r : List ℕ} {at : ℕ} {e : numbers.Entry} {k : ℕ} (w
     pub first_next : f (entry_as y r at e) ≡ false → first f (from_in y r at) ≡ first f (from_in y r k)
     first_next h = ap (first f) w.walk ∙ rw h
 
-    pub found_here : f (entry_as y r at e) ≡ true → found_of (first f (from_in y r at)) ≡ At at e
+    pub found_here : f (entry_as y r at e) ≡ true → found_of (first f (from_in y r at)) ≡ placed_at at e
     found_here h = ap found_of (first-here h) ∙ found_at y r at e
 
     pub found-next : f (entry_as y r at e) ≡ false → found_of (first f (from_in y r at)) ≡ found_of (first f (from_in y r k))
     found-next h = ap found_of (first_next h)
 
     -- with what was found before
-    pub found-hit : (g : Found) {new : Found} → new ≡ else_found g (At at e) → f (entry_as y r at e) ≡ true
+    pub found-hit : (g : Option Placed) {new : Option Placed} → new ≡ else_found g (placed_at at e) → f (entry_as y r at e) ≡ true
         → else_found g (found_of (first f (from_in y r at))) ≡ else_found new (found_of (first f (from_in y r k)))
-    found-hit (At a n) p h = rw p
-    found-hit Nothing p h = rw p (found_here h)
+    found-hit (Some q) p h = rw p
+    found-hit None p h = rw p (found_here h)
 
-    pub found-miss : (g : Found) → f (entry_as y r at e) ≡ false
+    pub found-miss : (g : Option Placed) → f (entry_as y r at e) ≡ false
         → else_found g (found_of (first f (from_in y r at))) ≡ else_found g (found_of (first f (from_in y r k)))
     found-miss g h = ap (else_found g) (found-next h)

@@ -7,6 +7,7 @@ use mathlib.Core.Logic.{◌≢◌}
 use mathlib.Core.Bool.{Bool, true, false, not, cond, ◌||◌}
 use mathlib.Core.List.{List, [], ◌∷◌, map}
 use mathlib.Core.Option.{some}
+use Rattle.std.specs.Prelude.{is_some}
 use borrow.Author.Tests.{eq-eqb, ne_eqb}
 use Rattle.model.specs.declared.Layout.{Layout}
 use Rattle.model.specs.Layout.{authenticated}
@@ -21,18 +22,12 @@ use Rattle.layout.specs.declared.Entry as numbers
 use Rattle.region.specs.Walk.{entry_as, vendor_as}
 use Rattle.region.proofs.Turns.{Turned, Ended}
 use Rattle.values.specs.Found.{found_of}
-use Rattle.values.specs.declared.Found.{Found}
-use Rattle.values.specs.declared.Found.TheVariants.{At, Nothing}
 
-abbrev pub is_found : Found → Bool
-is_found (At at e) = true
-is_found Nothing = false
-
-any_found : (f : walk.Entry → Bool) (es : List walk.Entry) → any f es ≡ is_found (found_of (first f es))
+any_found : (f : walk.Entry → Bool) (es : List walk.Entry) → any f es ≡ is_some (found_of (first f es))
 any_found f [] = refl
 any_found f (e ∷ es) = go (f e) (any_found f es)
   where
-    go : (t : Bool) → any f es ≡ is_found (found_of (first f es)) → (t || any f es) ≡ is_found (found_of (cond t (some e) (first f es)))
+    go : (t : Bool) → any f es ≡ is_some (found_of (first f es)) → (t || any f es) ≡ is_some (found_of (cond t (some e) (first f es)))
     go true i = refl
     go false i = i
 
@@ -57,7 +52,7 @@ module _ (y : Layout) where
     value-other h k = rw (ne_eqb e.state 0x3F h, ne_eqb e.state 0x3E k)
 
     pub value-replacing : e.state ≢ 0x3F → e.state ≡ 0x3E
-        → is_value (entries_in y r) (entry_as y r at e) ≡ not (is_found (found_of (first (is_entry_def 0x3F (keyed (entry_as y r at e).name (vendor_as y r at)))
+        → is_value (entries_in y r) (entry_as y r at e) ≡ not (is_some (found_of (first (is_entry_def 0x3F (keyed (entry_as y r at e).name (vendor_as y r at)))
         (from_in y r 28))))
     unfolding is_value entry_as walk.placed vendor_as
     value-replacing h k =

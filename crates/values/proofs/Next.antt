@@ -5,7 +5,10 @@ use native.Mathlib.Omega.{arith}
 use mathlib.Core.Path.{◌≡◌, refl, sym, ap, ◌∙◌}
 use mathlib.Core.Bool.{Bool, true, false}
 use mathlib.Core.List.{List, ◌∷◌, map}
-use mathlib.Core.Option.{Option, none, some}
+use mathlib.Core.Option.{Option as Maybe, none, some}
+use Rattle.std.specs.Prelude.{Option, Some, None}
+use Rattle.std.specs.Option.{option_map}
+use Rattle.std.proofs.lemmas.Option.{same_Some}
 use lib.ListN.{length}
 use Rattle.model.specs.declared.Layout.{Layout}
 use Rattle.model.specs.Layout.{header_length}
@@ -16,13 +19,9 @@ use Rattle.model.specs.Region.{entries_in, is_value, values}
 use Rattle.model.specs.Beside.{from_in}
 use Rattle.layout.specs.declared.Entry as numbers
 use Rattle.region.specs.Walk.{entry_as, turn_in}
-use Rattle.region.specs.declared.Turn.{Turn}
-use Rattle.region.specs.declared.Turn.TheVariants.{Entry, Stop}
 use Rattle.region.proofs.Turns.{Turned, at_entry, at-end, at-past}
-use Rattle.values.specs.Found.{found_of, next_of}
-use Rattle.values.specs.declared.Found.TheVariants.{At}
-use Rattle.values.specs.declared.NextValue.{NextValue}
-use Rattle.values.specs.declared.NextValue.TheVariants as next
+use Rattle.region.specs.declared.Placed.{Placed}
+use Rattle.values.specs.Found.{placed_at, found_of, next_placed, next_of}
 use Rattle.values.proofs.Finds.{next-at}
 use Rattle.values.proofs.Listed.{value_entries, listed_in, listed-all, listed-none, listed-value, listed_next}
 use Rattle.values.proofs.Stands.{found-kept}
@@ -37,18 +36,18 @@ pub record Next (y : Layout) (r : List ℕ) (at a : ℕ) (e : numbers.Entry) (k 
   pub size : a + entry_size_in y (walk.entry_value_def (entry_as y r a e)) ≤ k
   pub less : length r - k < length r - at
 
-as-found : (o : Option walk.Entry) {a : ℕ} {e : numbers.Entry} {k : ℕ} → next_of o ≡ next.At a e k → found_of o ≡ At a e
-as-found (some x) p = cc
-as-found none p = let z : ◌≡◌ {A = ℕ} 0 1 = cc in absurd (omega arith)
+as-found : (o : Maybe walk.Entry) {a : ℕ} {e : numbers.Entry} {k : ℕ} → next_of o ≡ next_placed a e k → found_of o ≡ placed_at a e
+as-found (some x) p = ap (option_map (λ (q : Placed × ℕ). q.0)) p
+as-found none p = ap (option_map (λ (q : Placed × ℕ). q.0)) p
 
-pub next-value : {y : Layout} {r : List ℕ} {at a : ℕ} {e : numbers.Entry} {k : ℕ} {f : NextValue}
-    → f ≡ next_of (first (is_value (entries_in y r)) (from_in y r at)) → f ≡ next.At a e k → Next y r at a e k
+pub next-value : {y : Layout} {r : List ℕ} {at a : ℕ} {e : numbers.Entry} {k : ℕ} {f : Option (Placed × ℕ)}
+    → f ≡ next_of (first (is_value (entries_in y r)) (from_in y r at)) → f ≡ next_placed a e k → Next y r at a e k
 unfolding listed_in
 next-value {y} {r} {at} {a} {e} {k} answer told =
     let m = found-kept y r (is_value (entries_in y r)) a e at (as-found (first (is_value (entries_in y r)) (from_in y r at)) (sym answer ∙ told)) in
     let w = at_entry refl m.turn in
-    let n : next.At a e m.next ≡ next.At a e k = sym (ap next_of m.entry ∙ next-at w) ∙ sym answer ∙ told in
-    let i : m.next ≡ k = cc in
+    let n : next_placed a e m.next ≡ next_placed a e k = sym (ap next_of m.entry ∙ next-at w) ∙ sym answer ∙ told in
+    let i = ap (λ (q : Placed × ℕ). q.1) (same_Some _ _ n) in
     let rest : value_entries y r at ≡ entry_as y r a e ∷ value_entries y r k = m.rest ∙ ap (λ (j : ℕ). entry_as y r a e ∷ value_entries y r j) i in
     record {
       entry = rest;
@@ -69,9 +68,9 @@ module _ (y : Layout) (r : List ℕ) where
       test w true q more = let e = ap length (listed-value w q) in omega arith
       test w false q more = let e = ap length (listed_next w q) in omega arith
 
-      go : (t : Turn) → turn_in y r at ≡ t → ((k : ℕ) → length r ≤ k + fuel → length (listed_in y r k) ≤ fuel) → length (listed_in y r at) ≤ suc fuel
-      go Stop q more = let e = ap length (listed-none (at-end refl q)) in omega arith
-      go (Entry n k) q more =
+      go : (t : Option (numbers.Entry × ℕ)) → turn_in y r at ≡ t → ((k : ℕ) → length r ≤ k + fuel → length (listed_in y r k) ≤ fuel) → length (listed_in y r at) ≤ suc fuel
+      go None q more = let e = ap length (listed-none (at-end refl q)) in omega arith
+      go (Some (n, k)) q more =
           let w = at_entry refl q in
           test w (is_value (entries_in y r) (entry_as y r at n)) refl (more k (omega (arith, w.more)))
 

@@ -9,6 +9,7 @@ use mathlib.Core.Path.{◌≡◌, refl, ap, ◌∙◌}
 use mathlib.Core.Logic.{◌≢◌}
 use mathlib.Core.Bool.{Bool, true, false}
 use mathlib.Core.List.{List, []}
+use Rattle.std.specs.Prelude.{Option, Some, None}
 use lib.ListN.{length, take, drop, length-take, length-drop}
 use lib.Seq.{drop-drop}
 use lib.Dec.{eqb}
@@ -25,8 +26,6 @@ use Rattle.model.proofs.Walking.{entries_from}
 use Rattle.model.proofs.Space.{sizes-split}
 use Rattle.layout.specs.declared.Entry as numbers
 use Rattle.region.specs.Walk.{entry_as, vendor_as, stride_in, turn_in}
-use Rattle.region.specs.declared.Turn.{Turn}
-use Rattle.region.specs.declared.Turn.TheVariants.{Entry, Stop}
 use Rattle.region.proofs.Turns.{Turned, Ended, at_entry, at-end}
 use Rattle.region.proofs.Entries.{unnamed, named, vendor as vendor-part}
 use Rattle.values.proofs.Listed.{listed_in, listed-all, listed-none, listed-value, listed_next}
@@ -126,9 +125,9 @@ takes-more {y} {r} {at} {e} {k} w h = go (is_value (entries_in y r) (entry_as y 
     go false v =
         record { way = rw (w.walk, w.next, listed_next w v) (omega (arith, size-next w, h.way)); left = rw (listed_next w v) (omega (arith, size-next w, h.left)) }
 
-takes-by : (y : Layout) (r : List ℕ) (at : ℕ) → ((k : ℕ) → length r - k < length r - at → Takes y r k) → (t : Turn) → turn_in y r at ≡ t → Takes y r at
-takes-by y r at on (Entry e k) p = let w = at_entry refl p in takes-more w (on k w.less)
-takes-by y r at on Stop p = takes_none (at-end refl p)
+takes-by : (y : Layout) (r : List ℕ) (at : ℕ) → ((k : ℕ) → length r - k < length r - at → Takes y r k) → (t : Option (numbers.Entry × ℕ)) → turn_in y r at ≡ t → Takes y r at
+takes-by y r at on (Some (e, k)) p = let w = at_entry refl p in takes-more w (on k w.less)
+takes-by y r at on None p = takes_none (at-end refl p)
 
 pub takes : (y : Layout) (left : ℕ) (r : List ℕ) (at : ℕ) → length r - at ≤ left → Takes y r at
 takes y zero r at h = takes-by y r at (λ k l. absurd (omega arith)) (turn_in y r at) refl

@@ -11,10 +11,10 @@ ghost use Rattle.values.specs.Allotted.{allotted_by};
 ghost use Rattle.values.specs.Found.{next_of};
 ghost use Rattle.values.specs.Sums.{Tallied, counted};
 
-use crate::{Found, NextValue, Tally, lookup};
+use crate::{Tally, lookup};
 use layout::{Entry, fixed};
 use model::Layout;
-use region::{Turn, walk};
+use region::{Placed, walk};
 
 // Whether an entry is its name's value: a 3F entry, or a 3E entry beside no 3F entry.
 pub fn is_value(y: Layout, region: &[u8], at: usize, e: Entry) -> bool
@@ -28,28 +28,21 @@ pub fn is_value(y: Layout, region: &[u8], at: usize, e: Entry) -> bool
     }
     let name = walk::name_of(y, region, at, e);
     let vendor = walk::vendor_of(y, region, at);
-    let f = lookup::find_from(y, region, layout::REGION_HEADER, 0x3F, name, vendor);
-    match f {
-        Found::At(_, _) => false,
-        Found::Nothing => true,
-    }
+    lookup::find_from(y, region, layout::REGION_HEADER, 0x3F, name, vendor).is_none()
 }
 
-// The first value at or after an offset.
-pub fn next_value(y: Layout, region: &[u8], at: usize) -> NextValue
+// The first value at or after an offset, and the offset of the entry after it.
+pub fn next_value(y: Layout, region: &[u8], at: usize) -> Option<(Placed, usize)>
     ensures { result ≡ next_of (first (is_value (entries_in y region.now)) (from_in y region.now at)) }
 {
     let mut here = at;
-    loop {
-        let t = walk::turn(y, region, here);
-        let Turn::Entry(e, next) = t else {
-            return NextValue::End;
-        };
-        if is_value(y, region, here, e) {
-            return NextValue::At(here, e, next);
+    while let Some((entry, next)) = walk::turn(y, region, here) {
+        if is_value(y, region, here, entry) {
+            return Some((Placed { at: here, entry }, next));
         }
         here = next;
     }
+    None
 }
 
 // The rounded size of the entry that a value is written as: of a name and data that the region cuts off, what it holds of them.
@@ -78,20 +71,27 @@ fn counted(t: Tally, attributes: u32, own: bool, size: usize) -> Tally
     requires { (t.number + 1 < 2 ^ 64) × (t.records + size < 2 ^ 64) × (t.own + size < 2 ^ 64) × (t.others + size < 2 ^ 64) }
     ensures { result ≡ counted t attributes own size }
 {
-    let error = layout::is_error_record(attributes);
-    let mut told = t;
-    told.number = t.number + 1;
-    told.stamped = t.stamped || policy::time_based(attributes);
-    if error {
-        told.records = t.records + size;
-        return told;
+    let told = Tally {
+        number: t.number + 1,
+        stamped: t.stamped | policy::time_based(attributes),
+        ..t
+    };
+    if layout::is_error_record(attributes) {
+        Tally {
+            records: t.records + size,
+            ..told
+        }
+    } else if own {
+        Tally {
+            own: t.own + size,
+            ..told
+        }
+    } else {
+        Tally {
+            others: t.others + size,
+            ..told
+        }
     }
-    if own {
-        told.own = t.own + size;
-        return told;
-    }
-    told.others = t.others + size;
-    told
 }
 
 // The values in one pass: their number, the rounded entry sizes of each class, by the modem's GUID and a side, and whether one has 0x20.
@@ -99,23 +99,15 @@ pub fn tally(y: Layout, region: &[u8], guid: &[u8; 16], modem: bool) -> Tally
     ensures { Tallied y guid.now modem (values (entries_in y region.now)) result
         × (result.records + result.own + result.others ≤ length region.now + 3) }
 {
-    let mut t = Tally {
-        number: 0,
-        records: 0,
-        own: 0,
-        others: 0,
-        stamped: false,
-    };
+    let mut t = Tally::default();
     let mut here: usize = layout::REGION_HEADER;
-    loop {
-        let v = next_value(y, region, here);
-        let NextValue::At(at, e, after) = v else {
-            return t;
-        };
-        let own = is_own(y, region, at, e, guid, modem);
-        t = counted(t, e.attributes, own, size_of(y, region, at, e));
+    while let Some((Placed { at, entry }, after)) = next_value(y, region, here) {
+        let own = is_own(y, region, at, entry, guid, modem);
+        let size = size_of(y, region, at, entry);
+        t = counted(t, entry.attributes, own, size);
         here = after;
     }
+    t
 }
 
 // Whether shares and H fit in a region beside its header, and its values keep to them: what a start-up asks of what it finds, rule 22.
@@ -123,14 +115,9 @@ pub fn is_allotted(region: &[u8], guid: &[u8; 16], share: u32, theirs: u32, reco
     ensures { result ≡ allotted_by guid.now share theirs records (length region.now) (values (entries region.now)) }
 {
     let sums = tally(Layout::AUTHENTICATED, region, guid, false);
-    if region.len() < layout::REGION_HEADER + share as usize + theirs as usize + records as usize {
-        return false;
-    }
-    if (share as usize) < sums.own {
-        return false;
-    }
-    if (theirs as usize) < sums.others {
-        return false;
-    }
-    sums.records <= records as usize
+    let fit = layout::REGION_HEADER + share as usize + theirs as usize + records as usize;
+    fit <= region.len()
+        && sums.own <= share as usize
+        && sums.others <= theirs as usize
+        && sums.records <= records as usize
 }

@@ -1,45 +1,33 @@
 -- `values::list::is_allotted` meets its contract: one sum after the other is held to its share. Assumes nothing.
-use native.Mathlib.Omega.{arith}
-use mathlib.Core.Path.{sym, ap, ◌∙◌}
-use mathlib.Core.Bool.{false}
+use Prim.Native.Nat.{◌+◌}
+use mathlib.Core.Path.{◌≡◌, ◌∙◌}
+use mathlib.Core.Bool.{false, ◌&&◌}
 use lib.ListN.{length}
 use lib.Dec.{leb}
-use Rattle.model.specs.Region.{entries, values}
+use borrow.Author.Tests.{le-leb, lt-leb}
+use Rattle.values.specs.Allotted.{allotted_by}
 use Rattle.values.proofs.Counting.{told-sums}
-use Rattle.values.proofs.Allotted.{unfit, ours-above, theirs-above, by-records}
 use Rattle.values.proofs.list.is_allotted.Goals as goal
+use Rattle.values.proofs.list.is_allotted.Goals.{then-fit-region, else-fit-region, then-sums-share, else-sums-share}
 
-pub returns-then-region-share : goal.returns-then-region-share
-returns-then-region-share c =
-    let a = c.args in
-    let r = a.region.now in
-    sym (unfit a.guid.now a.share a.theirs a.records (length r) (values (entries r)) (omega arith))
+pub returns-then-sums-theirs : goal.returns-then-sums-theirs
+unfolding allotted_by
+returns-then-sums-theirs c =
+    let s = told-sums c.args.guid.now false c.args.region.now c.tally-sums.ensures.0 in
+    let sums = c.tally-sums.result in
+    let fits : c.if-fit-region.value ≡ (leb (28 + c.args.share + c.args.theirs + c.args.records) (length c.args.region.now) && leb sums.own c.args.share) =
+    elim c.if-fit-region.branch [ then-fit-region w ↦ w.value-is ∙ rw (le-leb _ _ w.if-fit-region.true) | else-fit-region w ↦ w.value-is ∙ rw (lt-leb _ _ w.if-fit-region.false) ] in
+    let share : c.if-sums-share.value ≡ (c.if-fit-region.value && leb sums.others c.args.theirs) =
+    elim c.if-sums-share.branch [ then-sums-share w ↦ w.value-is ∙ rw w.if-sums-share.true | else-sums-share w ↦ w.value-is ∙ rw w.if-sums-share.false ] in
+    rw (← s.own, ← s.others, ← s.records, ← fits, ← share, c.if-sums-theirs.true)
 
-pub returns-then-share-sums : goal.returns-then-share-sums
-returns-then-share-sums c =
-    let t = c in
-    let a = t.args in
-    let r = a.region.now in
-    let g = a.guid.now in
-    let s = told-sums g false r t.tally-sums.ensures.0 in
-    let left = c.if-region-share.false in
-    sym (ours-above g a.share a.theirs a.records (length r) (values (entries r)) (omega arith) (omega (arith, s.own)))
-
-pub returns-then-theirs-sums : goal.returns-then-theirs-sums
-returns-then-theirs-sums c =
-    let t = c in
-    let a = t.args in
-    let r = a.region.now in
-    let g = a.guid.now in
-    let s = told-sums g false r t.tally-sums.ensures.0 in
-    sym (theirs-above g a.share a.theirs a.records (length r) (values (entries r)) (omega arith) (omega (arith, s.own)) (omega (arith, s.others)))
-
-pub returns : goal.returns
-returns c =
-    let t = c in
-    let a = t.args in
-    let r = a.region.now in
-    let g = a.guid.now in
-    let s = told-sums g false r t.tally-sums.ensures.0 in
-    ap (λ n. leb n a.records) s.records
-    ∙ sym (by-records g a.share a.theirs a.records (length r) (values (entries r)) (omega arith) (omega (arith, s.own)) (omega (arith, s.others)))
+pub returns-else-sums-theirs : goal.returns-else-sums-theirs
+unfolding allotted_by
+returns-else-sums-theirs c =
+    let s = told-sums c.args.guid.now false c.args.region.now c.tally-sums.ensures.0 in
+    let sums = c.tally-sums.result in
+    let fits : c.if-fit-region.value ≡ (leb (28 + c.args.share + c.args.theirs + c.args.records) (length c.args.region.now) && leb sums.own c.args.share) =
+    elim c.if-fit-region.branch [ then-fit-region w ↦ w.value-is ∙ rw (le-leb _ _ w.if-fit-region.true) | else-fit-region w ↦ w.value-is ∙ rw (lt-leb _ _ w.if-fit-region.false) ] in
+    let share : c.if-sums-share.value ≡ (c.if-fit-region.value && leb sums.others c.args.theirs) =
+    elim c.if-sums-share.branch [ then-sums-share w ↦ w.value-is ∙ rw w.if-sums-share.true | else-sums-share w ↦ w.value-is ∙ rw w.if-sums-share.false ] in
+    rw (← s.own, ← s.others, ← s.records, ← fits, ← share, c.if-sums-theirs.false)

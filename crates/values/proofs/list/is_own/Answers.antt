@@ -21,8 +21,7 @@ returns-then-not-equal c =
 
 pub returns : goal.returns
 returns c =
-    let v = c in
-    let a = v.args in
+    let a = c.args in
     c.is_own.ensures
-    ∙ ap₂ (λ n g. owns a.guid.now a.modem (keyed n g)) c.name_of-name.ensures v.vendor_of-vendor.ensures
+    ∙ ap₂ (λ n g. owns a.guid.now a.modem (keyed n g)) c.name_of-name.ensures c.vendor_of-vendor.ensures
     ∙ key-of a.y a.guid.now a.modem a.region.now a.at a.e

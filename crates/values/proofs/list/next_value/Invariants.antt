@@ -9,8 +9,8 @@ use Rattle.model.specs.Region.{entries_in, is_value}
 use Rattle.model.specs.Beside.{from_in}
 use Rattle.values.proofs.list.next_value.Given as goal
 
-abbrev pub invariant-loop-e : goal.invariant-loop-e
-invariant-loop-e l = first (is_value (entries_in l.y l.region)) (from_in l.y l.region l.at) ≡ first (is_value (entries_in l.y l.region)) (from_in l.y l.region l.here)
+abbrev pub invariant-loop-entry : goal.invariant-loop-entry
+invariant-loop-entry l = first (is_value (entries_in l.y l.region)) (from_in l.y l.region l.at) ≡ first (is_value (entries_in l.y l.region)) (from_in l.y l.region l.here)
 
-abbrev pub decreases-loop-e : goal.decreases-loop-e
-decreases-loop-e l = length l.region - l.here
+abbrev pub decreases-loop-entry : goal.decreases-loop-entry
+decreases-loop-entry l = length l.region - l.here

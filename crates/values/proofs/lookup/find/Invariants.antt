@@ -11,11 +11,11 @@ use Rattle.model.specs.Beside.{from}
 use Rattle.values.specs.Found.{found_of, else_found}
 use Rattle.values.proofs.lookup.find.Given as goal
 
-abbrev pub invariant-loop-e : goal.invariant-loop-e
-invariant-loop-e l =
+abbrev pub invariant-loop-entry : goal.invariant-loop-entry
+invariant-loop-entry l =
     found_of (standing (keyed l.name l.vendor) (entries l.region))
     ≡ else_found (found_of (first (is_entry_def 0x3F (keyed l.name l.vendor)) (from l.region l.at)))
     (else_found l.replacing (found_of (first (is_entry_def 0x3E (keyed l.name l.vendor)) (from l.region l.at))))
 
-abbrev pub decreases-loop-e : goal.decreases-loop-e
-decreases-loop-e l = length l.region - l.at
+abbrev pub decreases-loop-entry : goal.decreases-loop-entry
+decreases-loop-entry l = length l.region - l.at

@@ -11,9 +11,9 @@ use Rattle.model.specs.Beside.{from_in}
 use Rattle.values.specs.Found.{found_of}
 use Rattle.values.proofs.lookup.find_from.Given as goal
 
-abbrev pub invariant-loop-e : goal.invariant-loop-e
-invariant-loop-e l =
+abbrev pub invariant-loop-entry : goal.invariant-loop-entry
+invariant-loop-entry l =
     found_of (first (is_entry_def l.state (keyed l.name l.vendor)) (from_in l.y l.region l.at)) ≡ found_of (first (is_entry_def l.state (keyed l.name l.vendor)) (from_in l.y l.region l.here))
 
-abbrev pub decreases-loop-e : goal.decreases-loop-e
-decreases-loop-e l = length l.region - l.here
+abbrev pub decreases-loop-entry : goal.decreases-loop-entry
+decreases-loop-entry l = length l.region - l.here

@@ -1,6 +1,3 @@
--- `values::lookup::like_from` meets its contract. The loop's invariant is the contract's, of the offset reached: an entry that two words of it tell from the name is
--- not the first of that name. What is left of the region falls.
--- Assumes nothing.
 use native.Mathlib.Omega.{arith}
 use mathlib.Core.Path.{refl, ◌∙◌}
 use Rattle.model.specs.Name.{keyed}
@@ -12,29 +9,27 @@ use Rattle.values.proofs.lookup.like_from.Goals as goal
 pub loop-next-init : goal.loop-next-init
 loop-next-init c = (λ s v. refl, omega arith)
 
-pub returns-in_default : goal.returns-in_default
-returns-in_default c = c.loop-next.invariant
+pub returns : goal.returns
+returns c = c.loop-next.invariant
 
 pub slice_bounds-may_be-count : goal.slice_bounds-may_be-count
-slice_bounds-may_be-count c = let b = c in (at_entry b.turn-t.ensures b.in-Entry.is).inside
+slice_bounds-may_be-count c = (at_entry c.turn.ensures c.in-Some.is).inside
 
 pub slice_bounds-may_be-start : goal.slice_bounds-may_be-start
-slice_bounds-may_be-start c = let b = c in let w = at_entry b.turn-t.ensures b.in-Entry.is in omega arith
+slice_bounds-may_be-start c = let w = at_entry c.turn.ensures c.in-Some.is in omega arith
 
 pub slice_bounds-may_be-end : goal.slice_bounds-may_be-end
-slice_bounds-may_be-end c = let b = c in let w = at_entry b.turn-t.ensures b.in-Entry.is in omega arith
+slice_bounds-may_be-end c = let w = at_entry c.turn.ensures c.in-Some.is in omega arith
 
 pub returns-then-may_be : goal.returns-then-may_be
 returns-then-may_be c = c.loop-next.invariant
 
 pub loop-next-smaller : goal.loop-next-smaller
-loop-next-smaller c = let b = c in (at_entry b.turn-t.ensures b.in-Entry.is).less
+loop-next-smaller c = (at_entry c.turn.ensures c.in-Some.is).less
 
 pub loop-next-preserved : goal.loop-next-preserved
 loop-next-preserved c =
-    let b = c in
-    let l = b in
-    let w = at_entry b.turn-t.ensures b.in-Entry.is in (
-      λ s v. l.loop-next.invariant.0 s v ∙ first_next w (is_entry_def s (keyed _ v)) (entry-unlike w _ (c.may_be.ensures.1 c.if-may_be.false) s v),
-      omega (arith, l.loop-next.invariant.1, w.less),
+    let w = at_entry c.turn.ensures c.in-Some.is in (
+      λ s v. c.loop-next.invariant.0 s v ∙ first_next w (is_entry_def s (keyed _ v)) (entry-unlike w _ (c.may_be.ensures.1 c.if-may_be.false) s v),
+      omega (arith, c.loop-next.invariant.1, w.less),
     )
