@@ -8,6 +8,7 @@ use mathlib.Core.Path.{◌≡◌, refl, sym, ap, ◌∙◌}
 use mathlib.Core.Bool.{Bool, true, false}
 use mathlib.Core.List.{List, [], ◌∷◌, ◌++◌, map, map-append, append_assoc, append-nil}
 use mathlib.Core.Option.{Option, none, some}
+use Rattle.std.specs.Prelude.{Some, None}
 use lib.ListN.{length, take, drop, set, get_or, length-drop}
 use lib.Seq.{drop-length, take-suc-set, get_or-set_same, get_or-set_other}
 use lib.Dec.{eqb}
@@ -16,10 +17,7 @@ use Rattle.model.specs.Lists.{is_empty, on_some}
 use Rattle.model.specs.Request.{Request}
 use Rattle.model.specs.Profile.{Item, item_at, items_at}
 use Rattle.profile.specs.declared.Setting.{Setting}
-use Rattle.profile.specs.declared.Found.{Found}
-use Rattle.profile.specs.declared.Found.TheVariants.{Here, Missing}
-use Rattle.profile.specs.declared.Settings.{Settings}
-use Rattle.profile.specs.Reader.{request_in, item_of, Within, Ends, no_setting, ReadsAs}
+use Rattle.profile.specs.Reader.{request_in, item_of, Within, no_setting}
 
 -- some items before those that follow, if they do
 abbrev pub before : List Request → Option (List Request) → Option (List Request)
@@ -45,45 +43,32 @@ none_read s count (t ∷ l) at = rw sub-zero (before-none (items_at count (drop 
 abbrev pub AllWithin : ℕ → List Setting → ℕ → Type 0
 AllWithin size list i = (j : ℕ) → j < i → Within size (get_or list j no_setting)
 
-module _ (s : List ℕ) (at : ℕ) (x : Found) (e : item_of s x ≡ item_at (drop at s)) where
-  abbrev rest : ℕ → Option Item → Option (List Request)
-  rest n o = on_some o (λ i. on_some (items_at n i.rest) (λ rs. some (i.asked ∷ rs)) none) none
+module _ (s : List ℕ) (at count i : ℕ) (list : List Setting) (l : i < count) where
+  abbrev rest : Option Item → Option (List Request)
+  rest o = on_some o (λ t. on_some (items_at (count - (i + 1)) t.rest) (λ rs. some (t.asked ∷ rs)) none) none
 
-  its-rest : (n : ℕ) → items_at (suc n) (drop at s) ≡ rest n (item_of s x)
+  its-rest : items_at (count - i) (drop at s) ≡ rest (item_at (drop at s))
   unfolding items_at
-  its-rest n = ap (rest n) (sym e)
-
-  no_more : (n : ℕ) → x ≡ Missing → items_at (suc n) (drop at s) ≡ none
-  unfolding item_of
-  no_more n h = its-rest n ∙ ap (λ (y : Found). rest n (item_of s y)) h
+  its-rest =
+      let n : count - i ≡ suc (count - (i + 1)) = omega arith in
+      rw n
 
   -- no item is there
-  pub item-missing : (count i : ℕ) (list : List Setting) → x ≡ Missing → i < count → read_up_to s count list i at ≡ none
-  item-missing count i list h l =
-      let n : count - i ≡ suc (count - (i + 1)) = omega arith in
-      ap (λ (k : ℕ). before (map (request_in s) (take i list)) (items_at k (drop at s))) n
-      ∙ ap (before (map (request_in s) (take i list))) (no_more (count - (i + 1)) h)
+  pub item-missing : item_of s None ≡ item_at (drop at s) → read_up_to s count list i at ≡ none
+  unfolding item_of
+  item-missing e = ap (before (map (request_in s) (take i list))) (its-rest ∙ ap rest (sym e))
 
-  module _ (t : Setting) (next : ℕ) (h : x ≡ Here t next) where
-    one_more : (n : ℕ) → items_at (suc n) (drop at s) ≡ on_some (items_at n (drop next s)) (λ rs. some (request_in s t ∷ rs)) none
-    unfolding item_of
-    one_more n = its-rest n ∙ ap (λ (y : Found). rest n (item_of s y)) h
-
-    -- one more item
-    pub item-more : (count i : ℕ) (list : List Setting) → i < count → i < length list
-        → read_up_to s count list i at ≡ read_up_to s count (set list i t) (i + 1) next
-    item-more count i list l k =
-        let n : count - i ≡ suc (count - (i + 1)) = omega arith in
-        let xs = map (request_in s) (take i list) in
-        let more : map (request_in s) (take (i + 1) (set list i t)) ≡ xs ++ (request_in s t ∷ []) =
-        rw (add-one i, take-suc-set list i t k) (map-append (request_in s) (take i list) (t ∷ [])) in
-        ap (λ (k : ℕ). before xs (items_at k (drop at s))) n
-        ∙ ap (before xs) (one_more (count - (i + 1)))
-        ∙ before_more xs (request_in s t) (items_at (count - (i + 1)) (drop next s))
-        ∙ ap (λ (l : List Request). before l (items_at (count - (i + 1)) (drop next s))) (sym more)
-
-    pub item-ends : Ends (length s) x → (next ≤ length s) × Within (length s) t
-    item-ends l = rw h at l
+  -- one more item
+  pub item-more : (t : Setting) (next : ℕ) → item_of s (Some (t, next)) ≡ item_at (drop at s) → i < length list
+      → read_up_to s count list i at ≡ read_up_to s count (set list i t) (i + 1) next
+  unfolding item_of
+  item-more t next e k =
+      let xs = map (request_in s) (take i list) in
+      let more : map (request_in s) (take (i + 1) (set list i t)) ≡ xs ++ (request_in s t ∷ []) =
+      rw (add-one i, take-suc-set list i t k) (map-append (request_in s) (take i list) (t ∷ [])) in
+      ap (before xs) (its-rest ∙ ap rest (sym e))
+      ∙ before_more xs (request_in s t) (items_at (count - (i + 1)) (drop next s))
+      ∙ ap (λ (l : List Request). before l (items_at (count - (i + 1)) (drop next s))) (sym more)
 
 -- the items that are read end within the file, and so does one more
 pub more_within : (size i : ℕ) (list : List Setting) (t : Setting) → i < length list → AllWithin size list i → Within size t → AllWithin size (set list i t) (i + 1)
@@ -112,11 +97,3 @@ read-over s count at list h e =
     some_left : (l : List ℕ) → length l ≡ length s - at → is_empty l ≡ false
     some_left [] k = absurd (e (omega arith))
     some_left (x ∷ l) k = refl
-
--- a file that is no profile
-pub read_none : (o : Option (List Request)) (s : List ℕ) (p : Settings) → p.good ≡ false → p.count ≡ 0 → o ≡ none → ReadsAs o s p
-read_none o s p f z e = record {
-  same = rw (f, e);
-  few = omega arith;
-  within = λ i l. absurd (omega arith);
-}

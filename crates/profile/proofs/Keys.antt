@@ -1,9 +1,12 @@
 -- Items that are compared one after another: an item, and those after it.
 -- Assumes nothing.
-use Prim.Native.Nat.{ℕ, ◌+◌, ◌≤◌, ◌<◌}
+use Prim.Native.Nat.{ℕ, ◌+◌, ◌-◌, ◌≤◌, ◌<◌}
+use native.Mathlib.Omega.{arith}
 use mathlib.Core.Path.{◌≡◌, refl, ◌∙◌}
 use mathlib.Core.Bool.{Bool, true, false, ◌||◌}
-use mathlib.Core.List.{List, map}
+use mathlib.Core.List.{List, [], ◌∷◌, map}
+use Rattle.std.specs.List.{list_any, slice_range}
+use Rattle.std.proofs.lemmas.List.{drop-take}
 use lib.ListN.{length, take, drop, get_or}
 use Rattle.model.specs.Lists.{any}
 use Rattle.model.specs.Name.{same_key_def}
@@ -17,39 +20,35 @@ use Rattle.profile.proofs.Listed.{from-item, none_left}
 abbrev pub alike : List ℕ → Setting → Request → Bool
 alike file t q = same_key_def (request_key q) (request_key (request_in file t))
 
--- one of the items from the j-th on is; two of those from the i-th on share theirs
-abbrev pub recurs_from : List ℕ → List Setting → ℕ → Setting → ℕ → Bool
-recurs_from file list count t j = any (alike file t) (map (request_in file) (drop j (take count list)))
+-- one of those after the i-th is
+abbrev pub recurs_in : List ℕ → List Setting → ℕ → ℕ → Bool
+recurs_in file list count i = list_any (λ t. alike file (get_or list i no_setting) (request_in file t)) (slice_range list (i + 1) count)
 
+-- two of those from the i-th on share theirs
 abbrev pub shares_from : List ℕ → List Setting → ℕ → ℕ → Bool
 shares_from file list count i = shares_name_def (map (request_in file) (drop i (take count list)))
 
 pub from_first : (file : List ℕ) (list : List Setting) (count : ℕ) → shares_name_def (map (request_in file) (take count list)) ≡ shares_from file list count 0
 from_first file list count = refl
 
-module _ (file : List ℕ) (list : List Setting) (count : ℕ) (eight : length list ≡ 8) (few : count ≤ 8) where
-  module _ (t : Setting) (j : ℕ) where
-    pub recurs-here : j < count → alike file t (request_in file (get_or list j no_setting)) ≡ true → recurs_from file list count t j ≡ true
-    recurs-here h e = rw (from-item list count eight few j h, e)
+any-of : (f : Request → Bool) (file : List ℕ) (l : List Setting) → list_any (λ t. f (request_in file t)) l ≡ any f (map (request_in file) l)
+any-of f file [] = refl
+any-of f file (t ∷ l) = rw (any-of f file l)
 
-    pub recurs-after : j < count → alike file t (request_in file (get_or list j no_setting)) ≡ false
-        → recurs_from file list count t j ≡ recurs_from file list count t (j + 1)
-    recurs-after h e = rw (from-item list count eight few j h, e)
+module _ (file : List ℕ) (list : List Setting) (count : ℕ) (eight : length list ≡ 8) (few : count ≤ 8) (i : ℕ) where
+  shares-split : i < count → shares_from file list count i ≡ recurs_in file list count i || shares_from file list count (i + 1)
+  unfolding shares_name_def
+  shares-split h =
+      let n : (i + 1) + (count - (i + 1)) ≡ count = omega arith in
+      let after : drop (i + 1) (take count list) ≡ slice_range list (i + 1) count = rw n at (drop-take (i + 1) (count - (i + 1)) list) in
+      rw (any-of (alike file (get_or list i no_setting)) file (slice_range list (i + 1) count), ← after, from-item list count eight few i h)
 
-    pub recurs-nowhere : count ≤ j → recurs_from file list count t j ≡ false
-    recurs-nowhere h = rw (none_left list count eight few j h)
+  pub shares-here : i < count → recurs_in file list count i ≡ true → shares_from file list count i ≡ true
+  shares-here h e = shares-split h ∙ rw e
 
-  module _ (i : ℕ) where
-    shares-split : i < count → shares_from file list count i ≡ recurs_from file list count (get_or list i no_setting) (i + 1) || shares_from file list count (i + 1)
-    unfolding shares_name_def
-    shares-split h = rw (from-item list count eight few i h)
+  pub shares-after : i < count → recurs_in file list count i ≡ false → shares_from file list count i ≡ shares_from file list count (i + 1)
+  shares-after h e = shares-split h ∙ rw e
 
-    pub shares-here : i < count → recurs_from file list count (get_or list i no_setting) (i + 1) ≡ true → shares_from file list count i ≡ true
-    shares-here h e = shares-split h ∙ rw e
-
-    pub shares-after : i < count → recurs_from file list count (get_or list i no_setting) (i + 1) ≡ false → shares_from file list count i ≡ shares_from file list count (i + 1)
-    shares-after h e = shares-split h ∙ rw e
-
-    pub shares-nowhere : count ≤ i → shares_from file list count i ≡ false
-    unfolding shares_name_def
-    shares-nowhere h = rw (none_left list count eight few i h)
+  pub shares-nowhere : count ≤ i → shares_from file list count i ≡ false
+  unfolding shares_name_def
+  shares-nowhere h = rw (none_left list count eight few i h)

@@ -3,23 +3,12 @@
 use Prim.Native.Nat.{ℕ, suc, ◌+◌, ◌≤◌, ◌<◌}
 use native.Mathlib.Omega.{arith}
 use native.Mathlib.Numerals.{add-one}
-use mathlib.Core.Path.{◌≡◌, refl, sym, ap, ◌∙◌}
-use mathlib.Core.List.{List, [], ◌∷◌, map}
+use mathlib.Core.Path.{◌≡◌, ap, ◌∙◌}
+use mathlib.Core.List.{List, [], ◌∷◌}
 use lib.ListN.{length, take, drop, get_or, drop_of_length-le}
 use lib.Seq.{drop-cons, get_or-take, length-take-le}
 use Rattle.profile.specs.declared.Setting.{Setting}
 use Rattle.profile.specs.Reader.{no_setting}
-
--- what owning an array of items tells of its length
-abbrev fields_of : Setting → ℕ × (ℕ × (ℕ × (ℕ × Unit {0})))
-fields_of t = (t.attributes, (t.at, (t.name, (t.size, tt))))
-
-pub settings-long : (l : List Setting) (n : ℕ) → length (map fields_of l) ≡ n → length l ≡ n
-settings-long l n e = sym (go l) ∙ e
-  where
-    go : (l : List Setting) → length (map fields_of l) ≡ length l
-    go [] = refl
-    go (t ∷ l) = ap suc (go l)
 
 module _ (list : List Setting) (count : ℕ) (eight : length list ≡ 8) (few : count ≤ 8) where
   long : length (take count list) ≡ count

