@@ -8,8 +8,9 @@ use mathlib.Core.Path.{◌≡◌, refl, sym, ap, subst, ◌∙◌}
 use mathlib.Core.Bool.{Bool, true, false}
 use mathlib.Core.List.{List, [], ◌∷◌, ◌++◌, append_assoc, append-nil}
 use lib.ListN.{length, take, drop, get_or, set, length-append, take-append-drop}
-use lib.Seq.{sets, sets-eq, take_at, take-suc, take_all, length-take-le, length-sets, set_out}
+use lib.Seq.{sets, sets-eq, take_at, take-suc, take_all, length-take-le, length-sets, set_out, drop-drop}
 use lib.Dec.{leb}
+use borrow.Rule.Slice.PartMut.{put_mid}
 use borrow.Author.Tests.{leb-true, leb-false}
 use Rattle.output.specs.Text.{Wrote, hex_of}
 
@@ -56,12 +57,27 @@ sets-room l at s n e = go (leb (length s) (length l - at)) refl
         sym (ap (sets l at) (sym (take-append-drop n s)) ∙ sets-append l at (take n s) (drop n s)
         ∙ sets-out (drop n s) (sets l at (take n s)) (at + length (take n s)) past)
 
--- so a text is written with the bytes that have a place
-pub wrote-room : (src : List ℕ) (n : ℕ) {at next : ℕ} {l l' : List ℕ} → n ≡ min (length src) (length l - at)
-    → Wrote (take n src) at l l' next → Wrote src at l l' (at + length src)
-wrote-room src n {at} {next} {l} e w = record { place = refl; buffer = w.buffer ∙ sets-room l at src n e }
+-- so a text is written by a write to the places that it has
+pub wrote-places : (src put : List ℕ) (n : ℕ) {at : ℕ} {l l' : List ℕ} → at ≤ length l → n ≡ min (length src) (length l - at) → put ≡ take n src
+    → l' ≡ put_mid at (at + n - at) l put → Wrote src at l l' (at + length src)
+wrote-places src put n {at} {l} {l'} h e p q = record { place = refl; buffer = go }
+  where
+    long : length (take n src) ≡ n
+    long = length-take-le n src (omega arith)
 
--- and of one that writes their hexadecimal digits
+    stored : sets l at src ≡ take at l ++ take n src ++ drop (at + n) l
+    stored = sym (sets-room l at src n e) ∙ sets-eq (take n src) l at (omega (arith, long)) ∙ rw long refl
+
+    go : l' ≡ sets l at src
+    go =
+        let k : at + n - at ≡ n = omega arith in
+        q ∙ rw (k, p, drop-drop n at l) (sym (append_assoc (take at l) (take n src) (drop (at + n) l))) ∙ sym stored
+
+-- nothing of a text is written whose place lies past the end
+pub wrote-past : (src : List ℕ) {at : ℕ} {l l' : List ℕ} → length l ≤ at → l' ≡ l → Wrote src at l l' (at + length src)
+wrote-past src {at} {l} h e = record { place = refl; buffer = e ∙ sym (sets-out src l at h) }
+
+-- one turn of a loop that writes their hexadecimal digits
 hex-append : (xs ys : List ℕ) → hex_of (xs ++ ys) ≡ hex_of xs ++ hex_of ys
 unfolding hex_of
 hex-append [] ys = refl

@@ -17,29 +17,14 @@ pub fn put_byte(out: &mut [u8], at: usize, b: u8) -> usize
     next
 }
 
-// How many of len bytes have a place in a buffer of so many bytes, from a place on.
-fn room(size: usize, at: usize, len: usize) -> usize
-    ensures { result ≡ min len (size - at) }
-{
-    if size <= at {
-        return 0;
-    }
-    if len <= size - at {
-        return len;
-    }
-    size - at
-}
-
-// Bytes as they are. How many have a place is found first, so that the loop copies and tests nothing.
+// Bytes as they are. How many have a place is found first, and those are copied at once.
 pub fn put_bytes(out: &mut [u8], at: usize, src: &[u8]) -> usize
     requires { at + length src.now < 2 ^ 64 }
     ensures { Wrote src.now at out.old out.new result }
 {
-    let n = room(out.len(), at, src.len());
-    let mut i = 0;
-    while i < n {
-        out[at + i] = src[i];
-        i += 1;
+    if at < out.len() {
+        let n = src.len().min(out.len() - at);
+        out[at..at + n].copy_from_slice(&src[..n]);
     }
     at + src.len()
 }
@@ -49,11 +34,9 @@ pub fn put_fill(out: &mut [u8], at: usize, b: u8, count: usize) -> usize
     requires { at + count < 2 ^ 64 }
     ensures { Wrote (replicate count b) at out.old out.new result }
 {
-    let n = room(out.len(), at, count);
-    let mut i = 0;
-    while i < n {
-        out[at + i] = b;
-        i += 1;
+    if at < out.len() {
+        let n = count.min(out.len() - at);
+        out[at..at + n].fill(b);
     }
     at + count
 }
@@ -72,7 +55,7 @@ pub fn put_hex_byte(out: &mut [u8], at: usize, b: u8) -> usize
     requires { at < 2 ^ 62 }
     ensures { Wrote (hex_of (b ∷ [])) at out.old out.new result × (result ≡ at + 2) }
 {
-    let n = b as u32;
+    let n = u32::from(b);
     let next = put_byte(out, at, digit(n / 16));
     put_byte(out, next, digit(n % 16))
 }
@@ -83,10 +66,8 @@ pub fn put_hex(out: &mut [u8], at: usize, src: &[u8]) -> usize
     ensures { Wrote (hex_of src.now) at out.old out.new result × (result ≡ at + 2 * length src.now) }
 {
     let mut next = at;
-    let mut i = 0;
-    while i < src.len() {
-        next = put_hex_byte(out, next, src[i]);
-        i += 1;
+    for &b in src {
+        next = put_hex_byte(out, next, b);
     }
     next
 }

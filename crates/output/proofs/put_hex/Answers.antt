@@ -8,21 +8,19 @@ use Rattle.output.proofs.Writing.{wrote_none, wrote_as, wrote-hex}
 use borrow.Author.Rules.{rules}
 use Rattle.output.proofs.put_hex.Goals as goal
 
-pub loop-i-init : goal.loop-i-init
+pub loop-b-init : goal.loop-b-init
 unfolding hex_of
-loop-i-init c = (search rules, omega arith, refl, wrote_none _ _)
+loop-b-init c = (omega arith, refl, wrote_none _ _)
 
-pub loop-i-preserved : goal.loop-i-preserved
+pub loop-b-preserved : goal.loop-b-preserved
 unfolding hex_of
-loop-i-preserved c =
-    let l = c in
+loop-b-preserved c =
     let f = c.put_hex_byte-next in
-    let s = l.args.src.now in (
+    let s = c.args.src.now in (
       omega arith,
-      omega arith,
-      f.auto.out ∙ l.loop-i.invariant.2,
-      wrote-hex s l.loop-i.i (search rules) l.loop-i.invariant.3 f.ensures.0,
+      f.auto.out ∙ c.loop-b.invariant.1,
+      wrote-hex s c.loop-b.b-index (search rules) c.loop-b.invariant.2 f.ensures.0,
     )
 
 pub returns : goal.returns
-returns c = (wrote_as (ap hex_of (take_all _ _ c.loop-i-test.false)) c.loop-i.invariant.3, omega arith)
+returns c = (wrote_as (ap hex_of (take_all _ _ c.loop-b-test.false)) c.loop-b.invariant.2, omega arith)

@@ -1,14 +1,8 @@
--- `output::put_hex` meets its contract: after i turns the text of the first i bytes is written.
--- Assumes nothing.
-use Prim.Native.Nat.{◌+◌, ◌*◌, ◌-◌, ◌≤◌}
-use mathlib.Core.Path.{◌≡◌}
-use lib.ListN.{length, take}
+-- After so many turns the digits of the first bytes are written.
+use Rattle.std.proofs.Common.{◌≡◌, ◌+◌, ◌*◌, length, take}
 use Rattle.output.specs.Text.{Wrote, hex_of}
 use Rattle.output.proofs.put_hex.Given as goal
 
-abbrev pub invariant-loop-i : goal.invariant-loop-i
-invariant-loop-i l =
-    (l.i ≤ length l.src) × (l.next ≡ l.at + 2 * l.i) × (length l.out ≡ length l.initial.out) × Wrote (hex_of (take l.i l.src)) l.at l.initial.out l.out l.next
-
-abbrev pub decreases-loop-i : goal.decreases-loop-i
-decreases-loop-i l = length l.src - l.i
+abbrev pub invariant-loop-b : goal.invariant-loop-b
+invariant-loop-b l =
+    (l.next ≡ l.at + 2 * l.b-index) × (length l.out ≡ length l.initial.out) × Wrote (hex_of (take l.b-index l.src)) l.at l.initial.out l.out l.next
