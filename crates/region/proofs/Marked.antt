@@ -1,7 +1,7 @@
 -- An entry whose mark none passed has is doubled by none of them, since a mark is a function of state, name and GUID. If it is not the mark of a sought name either, the
 -- entry is not of that name.
 -- Assumes nothing.
-use Rattle.std.proofs.Common.{◌≡◌, ℕ, ◌-◌, ◌<◌, Bool, true, false, not, ◌&&◌, eqb, ◌≢◌, List, [], ◌∷◌, ◌++◌, length, get_or, take, drop, set, sym, refl, ap, ◌∙◌, subst, ap₂, true≢false, arith, length-set, take-append-drop, get_or-set_other, get_or-set_same, eq-eqb, ne_eqb, eqb-true}
+use Rattle.std.proofs.Common.{◌≡◌, ℕ, ◌-◌, ◌<◌, Bool, true, false, ◌&&◌, eqb, ◌≢◌, List, [], ◌∷◌, ◌++◌, length, get_or, take, drop, set, sym, refl, ap, ◌∙◌, subst, ap₂, true≢false, arith, length-set, take-append-drop, get_or-set_other, get_or-set_same, eq-eqb, ne_eqb, eqb-true}
 use mathlib.Core.Bool.{or-true}
 use borrow.Author.Tests.{eqb-false}
 use Rattle.model.specs.declared.Layout.{Layout}
@@ -18,6 +18,7 @@ use Rattle.region.specs.Walk.{entry_as}
 use Rattle.region.specs.Judge.{live_state_def, doubled_in}
 use Rattle.region.specs.Marks.{key_mark, dead_mark, mark_of, mark_at, mark_in, no_marks_def, is_noted_def, note, up_to}
 use Rattle.region.specs.Met.{key_from, is_sought_def, nowhere, met_by, met_at_def}
+use Rattle.std.specs.Option.{is_some}
 use Rattle.region.specs.declared.Mark.{Mark}
 use Rattle.region.specs.declared.Met.{Met}
 use Rattle.region.proofs.Turns.{rest, Turned}
@@ -200,7 +201,7 @@ module _ {form : Layout} {r key noted : List ℕ} {met : Met} {at : ℕ} (c : Pa
 
   -- an entry of the sought name, which was not met in its state
   pub next-sought : (m : Mark) → m ≡ mark_at (entry_as form r at e) → is_noted_def (get_or noted m.place 0) m.sign ≡ true
-      → is_sought_def (key_from key) (entry_as form r at e) ≡ true → not (eqb (met_by e.state met) 0) ≡ false
+      → is_sought_def (key_from key) (entry_as form r at e) ≡ true → is_some (met_by e.state met) ≡ false
       → Passed form r key noted (met_at_def e.state at met) k
   next-sought m q n s z =
       record {

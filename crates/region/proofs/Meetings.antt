@@ -1,6 +1,6 @@
 -- Where a sought name is met among the entries passed: with one more it is met where it was, or there. By that it is known whether an entry of the sought name is doubled.
 -- Assumes nothing.
-use Rattle.std.proofs.Common.{◌≡◌, ℕ, ◌+◌, ◌<◌, ◌≤◌, Bool, true, false, cond, not, ◌&&◌, ◌||◌, eqb, List, [], ◌∷◌, ◌++◌, length, take, drop, sym, refl, ap, ◌∙◌, ap₂, true≢false, arith, length-drop, take-append-drop, take_at, drop_at, eq-eqb, ne_eqb, eqb-true}
+use Rattle.std.proofs.Common.{◌≡◌, ℕ, ◌+◌, ◌≤◌, Bool, true, false, cond, ◌&&◌, ◌||◌, eqb, List, [], ◌∷◌, ◌++◌, length, take, drop, sym, refl, ap, ◌∙◌, ap₂, true≢false, arith, length-drop, take-append-drop, take_at, drop_at, eq-eqb, ne_eqb, eqb-true}
 use mathlib.Core.Option.{some}
 use Rattle.model.specs.declared.Layout.{Layout}
 use Rattle.model.specs.Layout.{header_length, vendor_at}
@@ -19,25 +19,26 @@ use Rattle.layout.specs.declared.Entry as numbers
 use Rattle.region.specs.Walk.{entry_as}
 use Rattle.region.specs.Judge.{live_state_def, doubled_in, scan_of}
 use Rattle.region.specs.Marks.{up_to}
-use Rattle.region.specs.Met.{offset_of, Meeting, key_from, is_sought_def, nowhere, met_of, met_by, met_at_def, Surveys}
+use Rattle.region.specs.Met.{offset_of, first_at, key_from, is_sought_def, nowhere, met_of, met_by, met_at_def, surveyed}
 use Rattle.region.specs.declared.Met.{Met}
-use Rattle.region.specs.declared.Scan.{Scan}
+use Rattle.std.specs.Prelude.{Option, Some, None}
+use Rattle.std.specs.Option.{is_some}
 use Rattle.region.specs.declared.Survey.{Survey}
 use Rattle.region.proofs.Turns.{Turned, Ended}
-use Rattle.region.proofs.Passing.{Passing, at_place, any_last, up-past, up_more, up-end, up-all}
+use Rattle.region.proofs.Passing.{Passing, at_place, up-past, up_more, up-end, up-all}
 
 -- ---- one entry before a list
 
 module _ (f : walk.Entry → Bool) {l : List walk.Entry} where
-  pub meeting-none : l ≡ [] → Meeting f 0 l
-  meeting-none p = rw p (refl, refl)
+  pub meeting-none : l ≡ [] → None ≡ first_at f l
+  meeting-none p = rw p
 
-  pub meeting-behind : {x : walk.Entry} {es : List walk.Entry} → l ≡ x ∷ es → f x ≡ false → {n : ℕ} → Meeting f n es → Meeting f n l
+  pub meeting-behind : {x : walk.Entry} {es : List walk.Entry} → l ≡ x ∷ es → f x ≡ false → {o : Option ℕ} → o ≡ first_at f es → o ≡ first_at f l
   meeting-behind p h m = rw (p, h) m
 
 pub meeting-here : (form : Layout) (r : List ℕ) (at : ℕ) (e : numbers.Entry) (f : walk.Entry → Bool) {l es : List walk.Entry} → l ≡ entry_as form r at e ∷ es
-    → f (entry_as form r at e) ≡ true → 0 < at → Meeting f at l
-meeting-here form r at e f p h b = rw (p, h, at_place form r at e) (refl, sym (rw (ne_eqb at 0 (λ z. omega arith))))
+    → f (entry_as form r at e) ≡ true → Some at ≡ first_at f l
+meeting-here form r at e f p h = rw (p, h, at_place form r at e)
 
 -- ---- one entry more in a list
 
@@ -54,14 +55,21 @@ module _ (f : walk.Entry → Bool) where
       go true n later = absurd (true≢false n)
       go false n later = later n
 
-  pub meeting-other : {n : ℕ} (p : List walk.Entry) (x : walk.Entry) → f x ≡ false → Meeting f n p → Meeting f n (p ++ (x ∷ []))
-  meeting-other p x h m = (m.0 ∙ ap offset_of (sym (first-other p x h)), any_last f p x ∙ rw h m.1)
+  -- one is met just if one passes the test
+  pub any_met : (p : List walk.Entry) → any f p ≡ is_some (first_at f p)
+  any_met [] = refl
+  any_met (y ∷ p) = go (f y) (any_met p)
+    where
+      go : (t : Bool) → any f p ≡ is_some (first_at f p) → (t || any f p) ≡ is_some (offset_of (cond t (some y) (first f p)))
+      go true h = refl
+      go false h = h
 
-  pub meeting-own : {n : ℕ} (p : List walk.Entry) (x : walk.Entry) (at : ℕ) → x.at ≡ at → 0 < at → f x ≡ true → not (eqb n 0) ≡ false → Meeting f n p
-      → Meeting f at (p ++ (x ∷ []))
-  meeting-own p x at a b h z m =
-      let here : not (eqb at 0) ≡ true = rw (ne_eqb at 0 (λ e. omega arith)) in
-      (sym a ∙ sym (ap offset_of (first-own p x (m.1 ∙ z) h)), any_last f p x ∙ rw h (sym here))
+  pub meeting-other : {o : Option ℕ} (p : List walk.Entry) (x : walk.Entry) → f x ≡ false → o ≡ first_at f p → o ≡ first_at f (p ++ (x ∷ []))
+  meeting-other p x h m = m ∙ ap offset_of (sym (first-other p x h))
+
+  pub meeting-own : {o : Option ℕ} (p : List walk.Entry) (x : walk.Entry) (at : ℕ) → x.at ≡ at → f x ≡ true → is_some o ≡ false → o ≡ first_at f p
+      → Some at ≡ first_at f (p ++ (x ∷ []))
+  meeting-own p x at a h z m = ap Some (sym a) ∙ sym (ap offset_of (first-own p x (any_met p ∙ ap is_some (sym m) ∙ z) h))
 
 -- ---- an entry of a name
 
@@ -89,23 +97,22 @@ module _ (k : Key) (x : walk.Entry) where
 
 -- where a name is met among those before an offset
 pub record Meets (form : Layout) (r : List ℕ) (k : Key) (m : Met) (at : ℕ) : Type 0 where
-  pub begun : 0 < at
-  pub added : Meeting (is_entry_def 0x3F k) m.added (up_to at (entries_in form r))
-  pub replacing : Meeting (is_entry_def 0x3E k) m.replacing (up_to at (entries_in form r))
+  pub added : m.added ≡ first_at (is_entry_def 0x3F k) (up_to at (entries_in form r))
+  pub replacing : m.replacing ≡ first_at (is_entry_def 0x3E k) (up_to at (entries_in form r))
 
 pub meets-begin : (form : Layout) (r : List ℕ) (k : Key) → Meets form r k nowhere region_header_size
 meets-begin form r k =
     let none : up_to region_header_size (entries_in form r) ≡ [] = ap (up_to region_header_size) (entries_from form r) ∙ up-past form r region_header_size region_header_size (omega arith) in
-    record { begun = omega arith; added = rw none (refl, refl); replacing = rw none (refl, refl) }
+    record { added = rw none; replacing = rw none }
 
 module _ {form : Layout} {r : List ℕ} {q : walk.Entry → Type 0} {at : ℕ} (c : Passing form r q at) {k : Key} {m : Met} (h : Meets form r k m at) where
   -- at the end
   pub meets-end : Ended form r at → m ≡ met_of k (entries_in form r)
   unfolding met_of added replacing
   meets-end z =
-      ap₂ (λ (i j : ℕ). record { added = i; replacing = j })
-      (h.added.0 ∙ ap (λ l. offset_of (first (is_entry_def 0x3F k) l)) (up-end c z))
-      (h.replacing.0 ∙ ap (λ l. offset_of (first (is_entry_def 0x3E k) l)) (up-end c z))
+      ap₂ (λ (i j : Option ℕ). record { added = i; replacing = j })
+      (h.added ∙ ap (first_at (is_entry_def 0x3F k)) (up-end c z))
+      (h.replacing ∙ ap (first_at (is_entry_def 0x3E k)) (up-end c z))
 
   module _ {e : numbers.Entry} {n : ℕ} (w : Turned form r at e n) where
     -- an entry of another name, or that is not live
@@ -114,13 +121,12 @@ module _ {form : Layout} {r : List ℕ} {q : walk.Entry → Type 0} {at : ℕ} (
         let x = entry_as form r at e in
         let p = up_to at (entries_in form r) in
         record {
-          begun = omega (arith, w.more);
           added = rw (up_more c w) (meeting-other (is_entry_def 0x3F k) p x (not_entry k x 0x3F refl s) h.added);
           replacing = rw (up_more c w) (meeting-other (is_entry_def 0x3E k) p x (not_entry k x 0x3E refl s) h.replacing);
         }
 
     -- an entry of the name, in a state in which it was not met
-    pub meets-own : is_sought_def k (entry_as form r at e) ≡ true → not (eqb (met_by e.state m) 0) ≡ false → Meets form r k (met_at_def e.state at m) n
+    pub meets-own : is_sought_def k (entry_as form r at e) ≡ true → is_some (met_by e.state m) ≡ false → Meets form r k (met_at_def e.state at m) n
     unfolding entry_as walk.placed
     meets-own s z = go (eqb e.state 0x3F) refl
       where
@@ -131,10 +137,9 @@ module _ {form : Layout} {r : List ℕ} {q : walk.Entry → Type 0} {at : ℕ} (
             let state : e.state ≡ 0x3F = eqb-true e.state 0x3F q in
             let own : is_entry_def 0x3F k x ≡ true = true-and q (sought-parts k x s).same in
             let other : is_entry_def 0x3E k x ≡ false = rw (ne_eqb e.state 0x3E (λ z. omega arith)) in
-            let unmet : not (eqb m.added 0) ≡ false = rw q at z in
+            let unmet : is_some m.added ≡ false = rw q at z in
             rw q (record {
-              begun = omega (arith, w.more);
-              added = rw (up_more c w) (meeting-own (is_entry_def 0x3F k) p x at (at_place form r at e) h.begun own unmet h.added);
+              added = rw (up_more c w) (meeting-own (is_entry_def 0x3F k) p x at (at_place form r at e) own unmet h.added);
               replacing = rw (up_more c w) (meeting-other (is_entry_def 0x3E k) p x other h.replacing);
             })
         go false q =
@@ -143,16 +148,15 @@ module _ {form : Layout} {r : List ℕ} {q : walk.Entry → Type 0} {at : ℕ} (
             let state : e.state ≡ 0x3E = (sought-parts k x s).state q in
             let own : is_entry_def 0x3E k x ≡ true = true-and (eq-eqb e.state 0x3E state) (sought-parts k x s).same in
             let other : is_entry_def 0x3F k x ≡ false = rw q in
-            let unmet : not (eqb m.replacing 0) ≡ false = rw q at z in
+            let unmet : is_some m.replacing ≡ false = rw q at z in
             rw q (record {
-              begun = omega (arith, w.more);
               added = rw (up_more c w) (meeting-other (is_entry_def 0x3F k) p x other h.added);
-              replacing = rw (up_more c w) (meeting-own (is_entry_def 0x3E k) p x at (at_place form r at e) h.begun own unmet h.replacing);
+              replacing = rw (up_more c w) (meeting-own (is_entry_def 0x3E k) p x at (at_place form r at e) own unmet h.replacing);
             })
 
 -- an entry of the name is doubled just if it was met in its state
 pub met-doubled : {form : Layout} {r : List ℕ} {at : ℕ} {k : Key} {m : Met} → Meets form r k m at → (e : numbers.Entry) → is_sought_def k (entry_as form r at e) ≡ true
-    → doubled_in (entry_as form r at e) (up_to at (entries_in form r)) ≡ not (eqb (met_by e.state m) 0)
+    → doubled_in (entry_as form r at e) (up_to at (entries_in form r)) ≡ is_some (met_by e.state m)
 unfolding doubled_in entry_as walk.placed
 met-doubled {form} {r} {at} {k} {m} h e s =
     let x = entry_as form r at e in
@@ -160,31 +164,34 @@ met-doubled {form} {r} {at} {k} {m} h e s =
     let p = and_split (live x) (same_key_def (entry_key x) k) s in
     rw p.0 (ap (λ (j : Key). any (is_entry_def e.state j) l) (key-eq (entry_key x) k p.1) ∙ go (eqb e.state 0x3F) refl)
   where
-    go : (t : Bool) → eqb e.state 0x3F ≡ t → any (is_entry_def e.state k) (up_to at (entries_in form r)) ≡ not (eqb (met_by e.state m) 0)
-    go true q = rw (eqb-true e.state 0x3F q) h.added.1
-    go false q = rw ((sought-parts k (entry_as form r at e) s).state q) h.replacing.1
+    go : (t : Bool) → eqb e.state 0x3F ≡ t → any (is_entry_def e.state k) (up_to at (entries_in form r)) ≡ is_some (met_by e.state m)
+    go true q = rw (eqb-true e.state 0x3F q) (any_met (is_entry_def 0x3F k) (up_to at (entries_in form r)) ∙ ap is_some (sym h.added))
+    go false q =
+        rw ((sought-parts k (entry_as form r at e) s).state q) (any_met (is_entry_def 0x3E k) (up_to at (entries_in form r)) ∙ ap is_some (sym h.replacing))
 
 -- ---- what a pass answers
 
 -- all is sound, and where the name is met
-pub surveys-right : (y : Layout) (r key : List ℕ) {s : Survey} → s.scan ≡ scan_of y r → s.met ≡ met_of (key_from key) (entries_in y r) → Surveys y r key s
-surveys-right y r key p m = (p, λ z. m)
+pub surveys-right : (y : Layout) (r key : List ℕ) {tail : ℕ} {m : Met} → Some tail ≡ scan_of y r → m ≡ met_of (key_from key) (entries_in y r)
+    → ◌≡◌ {A = Option Survey} (Some (record { tail = tail; met = m })) (surveyed y r key)
+unfolding surveyed
+surveys-right y r key {tail} p m = rw (← p) (ap (λ (m : Met). Some (record { tail = tail; met = m })) m)
 
-pub surveys-wrong : (y : Layout) (r key : List ℕ) {s : Survey} → s.scan ≡ record { sound = false; tail = 0 } → scan_of y r ≡ record { sound = false; tail = 0 }
-    → Surveys y r key s
-surveys-wrong y r key w z = (w ∙ sym z, λ t. absurd (true≢false (sym t ∙ ap (λ (x : Scan). x.sound) w)))
+pub surveys-wrong : (y : Layout) (r key : List ℕ) → None ≡ scan_of y r → None ≡ surveyed y r key
+unfolding surveyed
+surveys-wrong y r key p = rw (← p)
 
 -- by a walk over all entries
-pub met-walked : (y : Layout) (r key : List ℕ) {name vendor : List ℕ} → name ≡ drop 16 key → vendor ≡ part 0 16 key → {i j : ℕ}
-    → Meeting (is_entry_def 0x3F (keyed name vendor)) i (up_to (length r) (entries_in y r))
-    → Meeting (is_entry_def 0x3E (keyed name vendor)) j (up_to (length r) (entries_in y r))
+pub met-walked : (y : Layout) (r key : List ℕ) {name vendor : List ℕ} → name ≡ drop 16 key → vendor ≡ part 0 16 key → {i j : Option ℕ}
+    → i ≡ first_at (is_entry_def 0x3F (keyed name vendor)) (up_to (length r) (entries_in y r))
+    → j ≡ first_at (is_entry_def 0x3E (keyed name vendor)) (up_to (length r) (entries_in y r))
     → ◌≡◌ {A = Met} (record { added = i; replacing = j }) (met_of (key_from key) (entries_in y r))
 unfolding met_of added replacing
 met-walked y r key {name} {vendor} n v a b =
     let k : keyed name vendor ≡ key_from key = ap₂ keyed n v in
-    ap₂ (λ (i j : ℕ). record { added = i; replacing = j })
-    (a.0 ∙ ap₂ (λ (k : Key) (l : List walk.Entry). offset_of (first (is_entry_def 0x3F k) l)) k (up-all y r))
-    (b.0 ∙ ap₂ (λ (k : Key) (l : List walk.Entry). offset_of (first (is_entry_def 0x3E k) l)) k (up-all y r))
+    ap₂ (λ (i j : Option ℕ). record { added = i; replacing = j })
+    (a ∙ ap₂ (λ (k : Key) (l : List walk.Entry). first_at (is_entry_def 0x3F k) l) k (up-all y r))
+    (b ∙ ap₂ (λ (k : Key) (l : List walk.Entry). first_at (is_entry_def 0x3E k) l) k (up-all y r))
 
 -- ---- GUID and name one behind the other
 

@@ -2,6 +2,7 @@
 -- stand in the bytes, so the entry that they make up is the one that the walk places.
 -- Assumes nothing.
 use Rattle.std.proofs.Common.{◌≡◌, ℕ, ◌+◌, ◌-◌, ◌<◌, ◌≤◌, List, [], ◌∷◌, length, take, drop, sym, refl, ap, ◌∙◌, ap₂, le_of_eq, arith, length-drop, drop_of_length-le, take_all}
+use Rattle.std.proofs.lemmas.Option.{some_pair_parts}
 use mathlib.Core.Option as maybe
 use mathlib.Core.Option.{none, some}
 use Rattle.model.specs.declared.Layout.{Layout}
@@ -87,9 +88,9 @@ module _ {y : Layout} {r : List ℕ} {at : ℕ} {t : Option (numbers.Entry × �
       go : (x : Option numbers.Entry) → head_in y (drop at r) ≡ x → option_map {U = numbers.Entry × ℕ} (λ (n : numbers.Entry). (n, at + stride_in y n)) x ≡ Some (e, k) → Turned y r at e k
       go None h p = let z : ◌≡◌ {A = ℕ} 0 1 = cc in absurd (omega arith)
       go (Some n) h p =
-          let both : ◌≡◌ {A = numbers.Entry × ℕ} (n, at + stride_in y n) (e, k) = cc in
-          let same : n ≡ e = ap (λ (b : numbers.Entry × ℕ). b.0) both in
-          let last : at + stride_in y e ≡ k = ap (λ (m : numbers.Entry). at + stride_in y m) (sym same) ∙ ap (λ (b : numbers.Entry × ℕ). b.1) both in
+          let both = some_pair_parts n e (at + stride_in y n) k p in
+          let same : n ≡ e = both.0 in
+          let last : at + stride_in y e ≡ k = ap (λ (m : numbers.Entry). at + stride_in y m) (sym same) ∙ both.1 in
           let q = present y (drop at r) e (h ∙ ap Some same) in
           let room = from-fits y r at q.header q.read in
           let least = stride-least y (header_as y e (drop at r)) in

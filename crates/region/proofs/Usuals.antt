@@ -1,7 +1,7 @@
 -- What the tests of a usual entry ask is what a turn of the walk finds and what *sound* asks of an entry: they read the same fields. Its mark is made of the part
 -- of the region from its GUID to the end of its name, since these follow each other.
 -- Assumes nothing.
-use Rattle.std.proofs.Common.{◌≡◌, ℕ, ◌+◌, ◌-◌, ◌/◌, ◌%◌, ◌<◌, ◌≤◌, true, ◌≢◌, List, length, get_or, take, drop, sym, refl, ap, ◌∙◌, arith, length-drop, drop-drop, eq-eqb, ne_eqb, le-leb}
+use Rattle.std.proofs.Common.{◌≡◌, ℕ, ◌+◌, ◌-◌, ◌/◌, ◌%◌, ◌≤◌, true, ◌≢◌, List, length, get_or, take, drop, sym, refl, ap, ◌∙◌, arith, length-drop, drop-drop, eq-eqb, ne_eqb, le-leb}
 use Rattle.model.specs.declared.Layout.{Layout}
 use Rattle.model.specs.Layout.{header_length, vendor_at}
 use Rattle.model.specs.Lists.{among, part, u16_at_def, u32_at}
@@ -45,13 +45,13 @@ part-is s h n k e = let m : h + n - h ≡ n = omega arith in rw (m, e)
 abbrev pub numbers_at : Layout → List ℕ → numbers.Entry
 numbers_at y s = numbers_of (header_fields_in y s)
 
--- an entry that was found to be usual, its name not being of 0 bytes
-module _ (y : Layout) (r : List ℕ) (at name end : ℕ) (found : 0 < name → (at ≤ length r) × UsualOf y (drop at r) name end) (some : name ≢ 0) where
+-- an entry that was found to be usual
+module _ {y : Layout} (r : List ℕ) (at : ℕ) {name end : ℕ} (found : (at ≤ length r) × UsualOf y (drop at r) name end) where
   inside : at ≤ length r
-  inside = (found (omega (arith, some))).0
+  inside = found.0
 
   u : UsualOf y (drop at r) name end
-  u = (found (omega (arith, some))).1
+  u = found.1
 
   added : (numbers_at y (drop at r)).state ≡ 0x3F
   unfolding header_fields_in

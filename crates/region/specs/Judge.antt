@@ -1,5 +1,5 @@
 -- What is judged of a region, and of its entries one by one.
-use Rattle.std.specs.Prelude.{◌≡◌, ℕ, ◌+◌, ◌%◌, ◌≤◌, Bool, true, cond, ◌&&◌, ◌||◌, List, [], ◌∷◌, length, ◌==◌, slice_index_or}
+use Rattle.std.specs.Prelude.{◌≡◌, ℕ, ◌+◌, ◌%◌, ◌≤◌, Bool, true, cond, ◌&&◌, ◌||◌, List, [], ◌∷◌, length, ◌==◌, slice_index_or, Option, Some, None}
 use Rattle.model.specs.Lists.{all, any, among, part, u16_at_def, u32_at}
 use Rattle.model.specs.Name.{Key, well_named, record_name}
 use Rattle.model.specs.Walk.{Entry, state_of, entry_key}
@@ -7,8 +7,7 @@ use Rattle.model.specs.declared.Layout.{Layout}
 use Rattle.model.specs.Layout.{header_length, state_at, attributes_at, name_size_at, data_size_at}
 use Rattle.model.specs.Entry.{start_id}
 use Rattle.model.specs.Region.{entries_in, tail_at_in, known_state_def, within, live, max_data, right_live_def, is_entry_def, undoubled, sound_in, clean_in}
-use Rattle.region.specs.declared.Scan.{Scan}
-use Rattle.region.specs.declared.Judged.{Judged}
+use Rattle.region.specs.declared.Sound.{Sound}
 
 -- a state is 3F or 3E
 abbrev pub live_state_def : ℕ → Bool
@@ -38,13 +37,17 @@ doubled_in e es = live e && any (is_entry_def (state_of e) (entry_key e)) es
 unfoldable pub all_sound : Layout → List ℕ → Bool
 all_sound y r = entries_sound y r && undoubled (entries_in y r)
 
--- whether that holds; if so the offset of the tail, else 0
-unfoldable pub scan_of : Layout → List ℕ → Scan
-scan_of y r = record { sound = all_sound y r; tail = cond (all_sound y r) (tail_at_in y r) 0 }
+-- if that holds, the offset of the tail
+unfoldable pub scan_of : Layout → List ℕ → Option ℕ
+scan_of y r = cond (all_sound y r) (Some (tail_at_in y r)) None
 
--- *sound*, *clean*; if sound the offset of the tail, else 0
-unfoldable pub judged_in : Layout → List ℕ → Judged
-judged_in y r = record { sound = sound_in y r; clean = clean_in y r; tail = cond (sound_in y r) (tail_at_in y r) 0 }
+-- the offset of the tail, and *clean*
+abbrev pub sound_of : Layout → List ℕ → Sound
+sound_of y r = record { tail = tail_at_in y r; clean = clean_in y r }
+
+-- these, if the region is *sound*
+unfoldable pub judged_in : Layout → List ℕ → Option Sound
+judged_in y r = cond (sound_in y r) (Some (sound_of y r)) None
 
 -- ---- *usual* entries: in state 3F, no error record, sound by themselves
 

@@ -1,5 +1,7 @@
 // When a region is sound and clean, in every stored form.
-ghost use Rattle.std.specs.Prelude.{◌≡◌, ◌+◌, ◌*◌, ◌<◌, ◌≤◌, true, false, not, ◌&&◌, length, drop, ◌==◌};
+ghost use Rattle.std.specs.Prelude.{◌≡◌, ◌-◌, ◌*◌, ◌+◌, ◌≤◌, true, ◌&&◌, length, drop};
+ghost use Rattle.std.specs.Option.{is_some, IfSome};
+ghost use Rattle.std.specs.Result.{IfOk};
 ghost use Rattle.model.specs.Lists.{among, all_ff, part};
 ghost use Rattle.model.specs.Name.{keyed};
 ghost use Rattle.model.specs.Layout.{header_length};
@@ -9,9 +11,9 @@ ghost use Rattle.model.specs.Region.{entries_in, right_live_def, is_entry_def};
 ghost use Rattle.region.specs.Walk.{entry_as};
 ghost use Rattle.region.specs.Judge.{plain_attributes_def, live_state_def, right_record_def, entry_sound_def, doubled_in, judged_in, UsualFront, RightSizes, UsualOf};
 ghost use Rattle.region.specs.Marks.{up_to};
-ghost use Rattle.region.specs.Met.{Meeting, key_from, is_sought_def, nowhere, met_of, met_by, met_at_def, Surveys, searched_in};
+ghost use Rattle.region.specs.Met.{first_at, key_from, is_sought_def, nowhere, met_of, met_by, met_at_def, surveyed, searched_in};
 
-use crate::{Judged, Met, Pass, Scan, Searched, Survey, Usual, marks, sorted, walk};
+use crate::{GivenUp, Met, Searched, Sound, Survey, Usual, marks, sorted, walk};
 use layout::Entry;
 use model::Layout;
 
@@ -105,7 +107,7 @@ pub(crate) fn entry_sound(y: Layout, s: &[u8], e: Entry) -> bool
     }
 }
 
-// The offset of the first entry before an offset that has this state, name and GUID; 0 where none has.
+// The offset of the first entry before an offset that has this state, name and GUID.
 fn first_before(
     y: Layout,
     region: &[u8],
@@ -113,21 +115,20 @@ fn first_before(
     state: u8,
     name: &[u8],
     vendor: &[u8],
-) -> usize
-    ensures { Meeting (is_entry_def state (keyed name.now vendor.now)) result (up_to end (entries_in y region.now)) }
+) -> Option<usize>
+    ensures { result ≡ first_at (is_entry_def state (keyed name.now vendor.now)) (up_to end (entries_in y region.now)) }
 {
-    let mut at: usize = layout::REGION_HEADER;
-    while at < end {
-        let t = walk::turn(y, region, at);
-        let Some((e, next)) = t else {
-            return 0;
-        };
+    let mut at = layout::REGION_HEADER;
+    while let Some((e, next)) = walk::turn(y, region, at) {
+        if end <= at {
+            return None;
+        }
         if walk::is_entry(y, region, at, e, state, name, vendor) {
-            return at;
+            return Some(at);
         }
         at = next;
     }
-    0
+    None
 }
 
 // Whether an entry is live and its state, name and GUID came before. They are looked for only where that may be.
@@ -138,20 +139,13 @@ pub(crate) fn is_doubled(y: Layout, region: &[u8], at: usize, e: Entry, suspect:
         if is_live(e.state) {
             let name = walk::name_of(y, region, at, e);
             let vendor = walk::vendor_of(y, region, at);
-            first_before(y, region, at, e.state, name, vendor) != 0
+            first_before(y, region, at, e.state, name, vendor).is_some()
         } else {
             false
         }
     } else {
         false
     }
-}
-
-// The answer where an entry is not known to be usual.
-fn not_usual() -> Usual
-    ensures { result.name ≡ 0 }
-{
-    Usual { name: 0, end: 0 }
 }
 
 // Whether a header begins as that of a usual entry: start id, state 3F, a zero byte, and attributes that are stored, an error record's apart. All are in one number,
@@ -196,57 +190,47 @@ fn right_sizes(name: u32, size: u32) -> bool
 
 // The entry at the front of `s`, if it is *usual*: in state 3F, no error record, sound by itself. Only the yes is proved, here and in the tests above: an entry that is not
 // known to be usual is judged as any other.
-fn usual_of(y: Layout, s: &[u8]) -> Usual
+fn usual_of(y: Layout, s: &[u8]) -> Option<Usual>
     requires { header_length y ≤ length s.now }
-    ensures { 0 < result.name → UsualOf y s.now result.name result.end }
+    ensures { IfSome result (λ u. UsualOf y s.now u.name u.end) }
 {
-    if usual_front(s) {
-        let name = slices::word(s, y.name_size()) as u32;
-        let size = slices::word(s, y.data_size()) as u32;
-        if right_sizes(name, size) {
-            let h = y.header();
-            let n = name as usize;
-            let end = h + n + size as usize;
-            if end <= s.len() {
-                if slices::is_zero_ended(&s[h..h + n]) {
-                    return Usual { name: n, end };
-                }
-            }
-        }
+    if !usual_front(s) {
+        return None;
     }
-    not_usual()
+    let name = slices::word(s, y.name_size()) as u32;
+    let size = slices::word(s, y.data_size()) as u32;
+    if !right_sizes(name, size) {
+        return None;
+    }
+    let h = y.header();
+    let n = name as usize;
+    let end = h + n + size as usize;
+    if s.len() < end {
+        return None;
+    }
+    if slices::is_zero_ended(&s[h..h + n]) {
+        Some(Usual { name: n, end })
+    } else {
+        None
+    }
 }
 
 // The offset at which a header that ends with the region begins; 0 where none fits.
 fn last_header(y: Layout, region: &[u8]) -> usize
-    ensures { 0 < result → result + header_length y ≡ length region.now }
+    ensures { result ≡ length region.now - header_length y }
 {
-    let h = y.header();
-    if region.len() < h {
-        return 0;
-    }
-    region.len() - h
+    region.len().saturating_sub(y.header())
 }
 
 // The usual entry at an offset. What begins with the last header has no room for a name.
-fn usual_at(y: Layout, region: &[u8], last: usize, at: usize) -> Usual
-    requires { 0 < last → last + header_length y ≡ length region.now }
-    ensures { 0 < result.name → (at ≤ length region.now) × UsualOf y (drop at region.now) result.name result.end }
+fn usual_at(y: Layout, region: &[u8], last: usize, at: usize) -> Option<Usual>
+    requires { last ≡ length region.now - header_length y }
+    ensures { IfSome result (λ u. (at ≤ length region.now) × UsualOf y (drop at region.now) u.name u.end) }
 {
     if last <= at {
-        return not_usual();
+        return None;
     }
     usual_of(y, &region[at..])
-}
-
-// The answer where an entry is not sound, or its name is doubled.
-pub(crate) fn unsound() -> Scan
-    ensures { result ≡ record { sound = false; tail = 0 } }
-{
-    Scan {
-        sound: false,
-        tail: 0,
-    }
 }
 
 // What is left of WALKED once an entry that may be doubled, and is live, is looked for among those before it.
@@ -267,8 +251,8 @@ fn nowhere() -> Met
     ensures { result ≡ nowhere }
 {
     Met {
-        added: 0,
-        replacing: 0,
+        added: None,
+        replacing: None,
     }
 }
 
@@ -287,12 +271,12 @@ fn is_sought(y: Layout, region: &[u8], at: usize, e: Entry, key: &[u8], suspect:
 
 // Whether the sought name was met in a live state.
 fn is_met(met: Met, state: u8) -> bool
-    ensures { result ≡ not (met_by state met == 0) }
+    ensures { result ≡ is_some (met_by state met) }
 {
     if state == 0x3F {
-        return met.added != 0;
+        return met.added.is_some();
     }
-    met.replacing != 0
+    met.replacing.is_some()
 }
 
 // Where it is met once it is met in such a state at an offset.
@@ -301,38 +285,13 @@ fn met_at(met: Met, state: u8, at: usize) -> Met
 {
     if state == 0x3F {
         return Met {
-            added: at,
-            replacing: met.replacing,
+            added: Some(at),
+            ..met
         };
     }
     Met {
-        added: met.added,
-        replacing: at,
-    }
-}
-
-// The answers of the pass by marks where the region is not sound, and where it gives up.
-fn wrong() -> Pass
-    ensures { result.survey.scan ≡ record { sound = false; tail = 0 } }
-{
-    Pass {
-        known: true,
-        survey: Survey {
-            scan: unsound(),
-            met: nowhere(),
-        },
-    }
-}
-
-fn given_up() -> Pass
-    ensures { result.known ≡ false }
-{
-    Pass {
-        known: false,
-        survey: Survey {
-            scan: unsound(),
-            met: nowhere(),
-        },
+        replacing: Some(at),
+        ..met
     }
 }
 
@@ -340,8 +299,8 @@ fn given_up() -> Pass
 // name. The inner loop passes usual entries whose marks are not noted, as nearly all are; at any other it stops, and the code after it judges that one. The mark of the
 // sought name is noted from the beginning, so none of its entries is passed by the inner loop. Where too many bytes would have to be passed in looking back, it
 // gives up.
-fn scan_by_marks(y: Layout, region: &[u8], key: &[u8]) -> Pass
-    ensures { result.known ≡ true → Surveys y region.now key.now result.survey }
+fn scan_by_marks(y: Layout, region: &[u8], key: &[u8]) -> Result<Option<Survey>, GivenUp>
+    ensures { IfOk result (λ found. found ≡ surveyed y region.now key.now) }
 {
     let last = last_header(y, region);
     let mut noted = marks::no_marks();
@@ -352,14 +311,9 @@ fn scan_by_marks(y: Layout, region: &[u8], key: &[u8]) -> Pass
     let mut left = WALKED;
     let mut at: usize = layout::REGION_HEADER;
     loop {
-        loop {
-            let u = usual_at(y, region, last, at);
-            let n = u.name;
-            if n == 0 {
-                break;
-            }
+        while let Some(u) = usual_at(y, region, last, at) {
             let v = at + y.vendor();
-            let k = 16 + n;
+            let k = 16 + u.name;
             let m = marks::mark_of_key(&region[v..v + k]);
             let i = m.place;
             let old = noted[i];
@@ -374,21 +328,11 @@ fn scan_by_marks(y: Layout, region: &[u8], key: &[u8]) -> Pass
             noted[i] = marks::note(old, m.sign);
             at += layout::rounded(u.end);
         }
-        let t = walk::turn(y, region, at);
-        let Some((e, next)) = t else {
-            return Pass {
-                known: true,
-                survey: Survey {
-                    scan: Scan {
-                        sound: true,
-                        tail: at,
-                    },
-                    met,
-                },
-            };
+        let Some((e, next)) = walk::turn(y, region, at) else {
+            return Ok(Some(Survey { tail: at, met }));
         };
         if !entry_sound(y, &region[at..], e) {
-            return wrong();
+            return Ok(None);
         }
         let m = marks::mark_of(y, &region[at..], e);
         let i = m.place;
@@ -396,7 +340,7 @@ fn scan_by_marks(y: Layout, region: &[u8], key: &[u8]) -> Pass
         let suspect = marks::is_noted(old, m.sign);
         if is_sought(y, region, at, e, key, suspect) {
             if is_met(met, e.state) {
-                return wrong();
+                return Ok(None);
             }
             met = met_at(met, e.state, at);
             at = next;
@@ -404,10 +348,10 @@ fn scan_by_marks(y: Layout, region: &[u8], key: &[u8]) -> Pass
         }
         left = left_after(left, at, e, suspect);
         if left == 0 {
-            return given_up();
+            return Err(GivenUp);
         }
         if is_doubled(y, region, at, e, suspect) {
-            return wrong();
+            return Ok(None);
         }
         noted[i] = marks::note(old, m.sign);
         at = next;
@@ -426,73 +370,45 @@ fn met_in(y: Layout, region: &[u8], key: &[u8]) -> Met
     }
 }
 
-// What one pass over the entries finds.
-fn scan(y: Layout, region: &[u8], key: &[u8]) -> Survey
-    ensures { Surveys y region.now key.now result }
+// What one pass over the entries finds, if they are sound and no name is doubled.
+fn scan(y: Layout, region: &[u8], key: &[u8]) -> Option<Survey>
+    ensures { result ≡ surveyed y region.now key.now }
 {
-    let p = scan_by_marks(y, region, key);
-    if p.known {
-        return p.survey;
+    if let Ok(found) = scan_by_marks(y, region, key) {
+        return found;
     }
-    let s = sorted::scan_sorted(y, region);
-    if s.sound {
-        return Survey {
-            scan: s,
-            met: met_in(y, region, key),
-        };
-    }
-    Survey {
-        scan: s,
-        met: Met {
-            added: 0,
-            replacing: 0,
-        },
-    }
+    let tail = sorted::scan_sorted(y, region)?;
+    let met = met_in(y, region, key);
+    Some(Survey { tail, met })
 }
 
 // What is told of a sound region, by where its tail begins.
-fn with_tail(region: &[u8], tail: usize) -> Judged
-    ensures { result ≡ record { sound = true; clean = all_ff (part tail (length region.now) region.now); tail = tail } }
+fn with_tail(region: &[u8], tail: usize) -> Sound
+    ensures { result ≡ record { tail = tail; clean = all_ff (part tail (length region.now) region.now) } }
 {
-    Judged {
-        sound: true,
-        clean: slices::is_blank(slices::cut(region, tail, region.len())),
+    Sound {
         tail,
+        clean: slices::is_blank(slices::cut(region, tail, region.len())),
     }
 }
 
-// Whether the region is sound and clean, where its tail begins, and where it has a name. It is sought as a GUID with the name behind it; by no bytes, nothing is.
-pub fn judge_for(y: Layout, region: &[u8], key: &[u8]) -> Searched
+// What is told of a region, if it is sound: where its tail begins, whether it is clean, and where it has a name. It is sought as a GUID with the name behind it; by no
+// bytes, nothing is.
+pub fn judge_for(y: Layout, region: &[u8], key: &[u8]) -> Option<Searched>
     ensures { result ≡ searched_in y region.now key.now }
 {
-    if layout::fixed::right_header(y, region) {
-        let found = scan(y, region, key);
-        let s = found.scan;
-        if s.sound {
-            let met = found.met;
-            return Searched {
-                judged: with_tail(region, s.tail),
-                met,
-            };
-        }
+    if !layout::fixed::right_header(y, region) {
+        return None;
     }
-    Searched {
-        judged: Judged {
-            sound: false,
-            clean: false,
-            tail: 0,
-        },
-        met: Met {
-            added: 0,
-            replacing: 0,
-        },
-    }
+    let Survey { tail, met } = scan(y, region, key)?;
+    let sound = with_tail(region, tail);
+    Some(Searched { sound, met })
 }
 
 // The same with no name sought.
-pub fn judge(y: Layout, region: &[u8]) -> Judged
+pub fn judge(y: Layout, region: &[u8]) -> Option<Sound>
     ensures { result ≡ judged_in y region.now }
 {
-    let s = judge_for(y, region, b"");
-    s.judged
+    let found = judge_for(y, region, b"")?;
+    Some(found.sound)
 }

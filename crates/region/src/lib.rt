@@ -15,50 +15,39 @@ pub struct Placed {
     pub entry: Entry,
 }
 
-// What one pass over the entries finds: whether each is sound by itself and no name is doubled, and then where the tail begins (else 0).
-#[derive(Clone, Copy)]
-pub struct Scan {
-    pub sound: bool,
-    pub tail: usize,
-}
-
-// Where a name's 3F entry begins, and where its 3E entry; 0 where there is none.
+// Where a name's 3F entry begins, and where its 3E entry.
 #[derive(Clone, Copy)]
 pub struct Met {
-    pub added: usize,
-    pub replacing: usize,
+    pub added: Option<usize>,
+    pub replacing: Option<usize>,
 }
 
-// What one pass finds, and where it met a sought name.
+// What one pass over entries finds that are all sound, with no name doubled: where the tail begins, and where it met a sought name.
 #[derive(Clone, Copy)]
 pub struct Survey {
-    pub scan: Scan,
+    pub tail: usize,
     pub met: Met,
 }
 
-// What a pass by marks finds, if it does not give up.
+// A pass by marks would have to pass too many bytes in looking back.
 #[derive(Clone, Copy)]
-pub struct Pass {
-    pub known: bool,
-    pub survey: Survey,
-}
+pub struct GivenUp;
 
-// Whether a region is sound, whether it is clean, and where the tail of a sound one begins (else 0).
+// What is told of a sound region: where its tail begins, and whether it is clean.
 #[derive(Clone, Copy)]
-pub struct Judged {
-    pub sound: bool,
-    pub clean: bool,
+pub struct Sound {
     pub tail: usize,
+    pub clean: bool,
 }
 
-// The same, and where a sound region has a sought name.
+// The same, and where the region has a sought name.
 #[derive(Clone, Copy)]
 pub struct Searched {
-    pub judged: Judged,
+    pub sound: Sound,
     pub met: Met,
 }
 
-// The sizes of a usual entry: of its name, and of header, name and data. A name of 0 bytes: it is not known to be usual.
+// The sizes of a usual entry: of its name, and of header, name and data.
 #[derive(Clone, Copy)]
 pub struct Usual {
     pub name: usize,

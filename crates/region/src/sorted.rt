@@ -6,7 +6,7 @@ ghost use Rattle.region.specs.Judge.{scan_of};
 ghost use Rattle.region.specs.Walk.{entry_as};
 ghost use Rattle.region.specs.Sorted.{key_before_def, is_before_def, place_of_def, owns_place_def};
 
-use crate::{Scan, judge, walk};
+use crate::{judge, walk};
 use layout::Entry;
 use model::Layout;
 
@@ -176,33 +176,27 @@ fn owns_place(y: Layout, region: &[u8], table: &[u16], at: usize, e: Entry) -> b
     true
 }
 
-// One pass over the entries by a table.
-fn scan_by_table(y: Layout, region: &[u8], table: &[u16]) -> Scan
+// One pass over the entries by a table: where the tail begins, if they are sound and no name is doubled.
+fn scan_by_table(y: Layout, region: &[u8], table: &[u16]) -> Option<usize>
     ensures { result ≡ scan_of y region.now }
 {
     let mut settled = true;
-    let mut at: usize = layout::REGION_HEADER;
-    loop {
-        let t = walk::turn(y, region, at);
-        let Some((e, next)) = t else {
-            return Scan {
-                sound: true,
-                tail: at,
-            };
-        };
+    let mut at = layout::REGION_HEADER;
+    while let Some((e, next)) = walk::turn(y, region, at) {
         if !judge::entry_sound(y, &region[at..], e) {
-            return judge::unsound();
+            return None;
         }
         settled = settled & owns_place(y, region, table, at, e);
         if judge::is_doubled(y, region, at, e, !settled) {
-            return judge::unsound();
+            return None;
         }
         at = next;
     }
+    Some(at)
 }
 
 // The pass by a table that is sorted first.
-fn scan_with(y: Layout, region: &[u8], table: &mut [u16; 720]) -> Scan
+fn scan_with(y: Layout, region: &[u8], table: &mut [u16; 720]) -> Option<usize>
     ensures { result ≡ scan_of y region.now }
 {
     sort(y, region, table);
@@ -210,7 +204,7 @@ fn scan_with(y: Layout, region: &[u8], table: &mut [u16; 720]) -> Scan
 }
 
 // The same with a table of its own.
-pub(crate) fn scan_sorted(y: Layout, region: &[u8]) -> Scan
+pub(crate) fn scan_sorted(y: Layout, region: &[u8]) -> Option<usize>
     ensures { result ≡ scan_of y region.now }
 {
     let mut table = no_offsets();

@@ -1,10 +1,12 @@
 -- `region::judge::is_doubled` meets its contract: a live entry that may be doubled is looked for under its own name and GUID among those before it.
 -- Assumes nothing.
-use Rattle.std.proofs.Common.{ℕ, List, sym, ◌∙◌, ap₂}
+use Rattle.std.proofs.Common.{ℕ, List, sym, ap, ◌∙◌, ap₂}
 use Rattle.model.specs.Lists.{any}
 use Rattle.model.specs.Name.{keyed}
 use Rattle.model.specs.Region.{is_entry_def, entries_in}
 use Rattle.region.specs.Marks.{up_to}
+use Rattle.std.specs.Option.{is_some}
+use Rattle.region.proofs.Meetings.{any_met}
 use Rattle.region.proofs.Scanning.{doubled-live, doubled-dead}
 use Rattle.region.proofs.judge.is_doubled.Goals as goal
 
@@ -15,7 +17,9 @@ returns-then-is_live c =
     let r = a.region.now in
     let old = up_to a.at (entries_in a.y r) in
     rw b.if-suspect.true
-    (sym c.first_before.ensures.1
+    (c.is_some.ensures
+    ∙ ap is_some c.first_before.ensures
+    ∙ sym (any_met (is_entry_def a.e.state (keyed c.name_of-name.result.now c.vendor_of-vendor.result.now)) old)
     ∙ ap₂ (λ (name vendor : List ℕ). any (is_entry_def a.e.state (keyed name vendor)) old) c.name_of-name.ensures
     c.vendor_of-vendor.ensures
     ∙ sym (doubled-live a.y r a.at a.e old (sym c.is_live.ensures ∙ c.if-is_live.true)))

@@ -2,7 +2,7 @@
 -- entry passed the mark is noted, and no name is doubled in the whole walk just if none from here on is, neither among themselves nor with those passed; the sought
 -- name is met among them where that is told. What is left of the region falls; in the inner loop it is no more than where that began.
 -- Assumes nothing.
-use Rattle.std.proofs.Common.{ℕ, ◌+◌, true, sym, ap, ◌∙◌, true≢false, arith}
+use Rattle.std.proofs.Common.{ℕ, ◌+◌, true, sym, ap, ◌∙◌, arith}
 use Rattle.model.specs.Walk.{walk_end_def}
 use Rattle.model.proofs.Tests.{and_split}
 use Rattle.region.specs.Walk.{entry_as}
@@ -27,237 +27,177 @@ loop-u-2-init c = (c.loop-u.invariant.0, c.loop-u.invariant.1, omega arith)
 
 pub overflow_add-v : goal.overflow_add-v
 overflow_add-v c =
-    let l = c in
-    let a = l.args in
-    let r = a.region.now in
-    let t = c.usual_at-u in
-    let m = room-usual a.y r l.loop-u-2.at t.result.name t.result.end t.ensures c.if-n-eq0.false in
-    omega (arith, m.0, c.vendor.ensures.0, l.well_formed.1.0)
+    let a = c.args in
+    let m = room-usual a.region.now c.loop-u-2.at c.in-Some.ensures in
+    omega (arith, m.0, c.vendor.ensures.0, c.well_formed.1.0)
 
 pub overflow_add-k : goal.overflow_add-k
 overflow_add-k c =
-    let l = c in
-    let a = l.args in
-    let r = a.region.now in
-    let t = c.usual_at-u in
-    let m = room-usual a.y r l.loop-u-2.at t.result.name t.result.end t.ensures c.if-n-eq0.false in
-    omega (arith, m.0, c.vendor.ensures.0, l.well_formed.1.0)
+    let a = c.args in
+    let m = room-usual a.region.now c.loop-u-2.at c.in-Some.ensures in
+    omega (arith, m.0, c.vendor.ensures.0, c.well_formed.1.0)
 
-pub overflow_add-v-in-loop-u-2 : goal.overflow_add-v-in-loop-u-2
-overflow_add-v-in-loop-u-2 c =
-    let l = c in
-    let a = l.args in
-    let r = a.region.now in
-    let t = c.usual_at-u in
-    let m = room-usual a.y r l.loop-u-2.at t.result.name t.result.end t.ensures c.if-n-eq0.false in
-    omega (arith, m.0, c.vendor.ensures.0, l.well_formed.1.0)
+pub overflow_add-v-in-Some : goal.overflow_add-v-in-Some
+overflow_add-v-in-Some c =
+    let a = c.args in
+    let m = room-usual a.region.now c.loop-u-2.at c.in-Some.ensures in
+    omega (arith, m.0, c.vendor.ensures.0, c.well_formed.1.0)
 
 pub slice_bounds-mark_of_key-start : goal.slice_bounds-mark_of_key-start
 slice_bounds-mark_of_key-start c =
-    let l = c in
-    let a = l.args in
-    let r = a.region.now in
-    let t = c.usual_at-u in
-    let m = room-usual a.y r l.loop-u-2.at t.result.name t.result.end t.ensures c.if-n-eq0.false in
-    omega (arith, m.0, c.vendor.ensures.0, l.well_formed.1.0)
+    let a = c.args in
+    let m = room-usual a.region.now c.loop-u-2.at c.in-Some.ensures in
+    omega (arith, m.0, c.vendor.ensures.0, c.well_formed.1.0)
 
 pub slice_bounds-mark_of_key-end : goal.slice_bounds-mark_of_key-end
 slice_bounds-mark_of_key-end c =
-    let l = c in
-    let a = l.args in
-    let r = a.region.now in
-    let t = c.usual_at-u in
-    let m = room-usual a.y r l.loop-u-2.at t.result.name t.result.end t.ensures c.if-n-eq0.false in
-    omega (arith, m.0, c.vendor.ensures.0, l.well_formed.1.0)
+    let a = c.args in
+    let m = room-usual a.region.now c.loop-u-2.at c.in-Some.ensures in
+    omega (arith, m.0, c.vendor.ensures.0, c.well_formed.1.0)
 
 pub rounded-at-requires : goal.rounded-at-requires
 rounded-at-requires c =
-    let l = c in
-    let a = l.args in
-    let r = a.region.now in
-    let t = c.usual_at-u in
-    let m = room-usual a.y r l.loop-u-2.at t.result.name t.result.end t.ensures c.if-n-eq0.false in
-    omega (arith, m.1, l.well_formed.1.0)
+    let a = c.args in
+    let m = room-usual a.region.now c.loop-u-2.at c.in-Some.ensures in
+    omega (arith, m.1, c.well_formed.1.0)
 
 pub overflow_add-at : goal.overflow_add-at
 overflow_add-at c =
-    let l = c in
-    let a = l.args in
-    let r = a.region.now in
-    let t = c.usual_at-u in
-    let m = room-usual a.y r l.loop-u-2.at t.result.name t.result.end t.ensures c.if-n-eq0.false in
-    omega (arith, m.1, c.rounded-at.ensures, l.well_formed.1.0)
+    let a = c.args in
+    let m = room-usual a.region.now c.loop-u-2.at c.in-Some.ensures in
+    omega (arith, m.1, c.rounded-at.ensures, c.well_formed.1.0)
 
 pub loop-u-2-smaller-then-old-eq0 : goal.loop-u-2-smaller-then-old-eq0
 loop-u-2-smaller-then-old-eq0 c =
-    let l = c in
-    let a = l.args in
-    let r = a.region.now in
-    let t = c.usual_at-u in
-    let w = turned-usual a.y r l.loop-u-2.at t.result.name t.result.end t.ensures c.if-n-eq0.false in
+    let a = c.args in
+    let w = turned-usual a.region.now c.loop-u-2.at c.in-Some.ensures in
     rw c.rounded-at.ensures w.less
 
 pub loop-u-2-preserved-then-old-eq0 : goal.loop-u-2-preserved-then-old-eq0
 loop-u-2-preserved-then-old-eq0 c =
-    let l = c in
-    let a = l.args in
-    let r = a.region.now in
-    let t = c.usual_at-u in
-    let w = turned-usual a.y r l.loop-u-2.at t.result.name t.result.end t.ensures c.if-n-eq0.false in
+    let a = c.args in
+    let w = turned-usual a.region.now c.loop-u-2.at c.in-Some.ensures in
     let e = c.mark_of_key-m.ensures in
-    let q = e.0 ∙ mark-usual a.y r l.loop-u-2.at t.result.name t.result.end t.ensures c.if-n-eq0.false _ (ap (λ (v : ℕ). l.loop-u-2.at + v) c.vendor.ensures.0) in
-    let own = sound-usual a.y r l.loop-u-2.at t.result.name t.result.end t.ensures c.if-n-eq0.false in
+    let q = e.0 ∙ mark-usual a.region.now c.loop-u-2.at c.in-Some.ensures _ (ap (λ (v : ℕ). c.loop-u-2.at + v) c.vendor.ensures.0) in
+    let own = sound-usual a.region.now c.loop-u-2.at c.in-Some.ensures in
     let less = w.less in
-    let here = l.loop-u-2.invariant.2 in
-    rw c.rounded-at.ensures (l.loop-u-2.invariant.0 ∙ scan-next w.walk _ _ _ own w.next, next-first l.loop-u-2.invariant.1 w _ q e.1 c.if-old-eq0.true, omega arith)
+    let here = c.loop-u-2.invariant.2 in
+    rw c.rounded-at.ensures (c.loop-u-2.invariant.0 ∙ scan-next w.walk _ _ _ own w.next, next-first c.loop-u-2.invariant.1 w _ q e.1 c.if-old-eq0.true, omega arith)
 
-pub rounded-at-requires-in-loop-u-2 : goal.rounded-at-requires-in-loop-u-2
-rounded-at-requires-in-loop-u-2 c =
-    let l = c in
-    let a = l.args in
-    let r = a.region.now in
-    let t = c.usual_at-u in
-    let m = room-usual a.y r l.loop-u-2.at t.result.name t.result.end t.ensures c.if-n-eq0.false in
-    omega (arith, m.1, l.well_formed.1.0)
+pub rounded-at-requires-in-Some : goal.rounded-at-requires-in-Some
+rounded-at-requires-in-Some c =
+    let a = c.args in
+    let m = room-usual a.region.now c.loop-u-2.at c.in-Some.ensures in
+    omega (arith, m.1, c.well_formed.1.0)
 
-pub overflow_add-at-in-loop-u-2 : goal.overflow_add-at-in-loop-u-2
-overflow_add-at-in-loop-u-2 c =
-    let l = c in
-    let a = l.args in
-    let r = a.region.now in
-    let t = c.usual_at-u in
-    let m = room-usual a.y r l.loop-u-2.at t.result.name t.result.end t.ensures c.if-n-eq0.false in
-    omega (arith, m.1, c.rounded-at-in-loop-u-2.ensures, l.well_formed.1.0)
+pub overflow_add-at-in-Some : goal.overflow_add-at-in-Some
+overflow_add-at-in-Some c =
+    let a = c.args in
+    let m = room-usual a.region.now c.loop-u-2.at c.in-Some.ensures in
+    omega (arith, m.1, c.rounded-at-in-Some.ensures, c.well_formed.1.0)
 
 pub loop-u-2-smaller : goal.loop-u-2-smaller
 loop-u-2-smaller c =
-    let l = c in
-    let a = l.args in
-    let r = a.region.now in
-    let t = c.usual_at-u in
-    let w = turned-usual a.y r l.loop-u-2.at t.result.name t.result.end t.ensures c.if-n-eq0.false in
-    rw c.rounded-at-in-loop-u-2.ensures w.less
+    let a = c.args in
+    let w = turned-usual a.region.now c.loop-u-2.at c.in-Some.ensures in
+    rw c.rounded-at-in-Some.ensures w.less
 
 pub loop-u-2-preserved : goal.loop-u-2-preserved
 loop-u-2-preserved c =
-    let l = c in
-    let a = l.args in
-    let r = a.region.now in
-    let t = c.usual_at-u in
-    let w = turned-usual a.y r l.loop-u-2.at t.result.name t.result.end t.ensures c.if-n-eq0.false in
+    let a = c.args in
+    let w = turned-usual a.region.now c.loop-u-2.at c.in-Some.ensures in
     let e = c.mark_of_key-m.ensures in
-    let q = e.0 ∙ mark-usual a.y r l.loop-u-2.at t.result.name t.result.end t.ensures c.if-n-eq0.false _ (ap (λ (v : ℕ). l.loop-u-2.at + v) c.vendor.ensures.0) in
-    let own = sound-usual a.y r l.loop-u-2.at t.result.name t.result.end t.ensures c.if-n-eq0.false in
+    let q = e.0 ∙ mark-usual a.region.now c.loop-u-2.at c.in-Some.ensures _ (ap (λ (v : ℕ). c.loop-u-2.at + v) c.vendor.ensures.0) in
+    let own = sound-usual a.region.now c.loop-u-2.at c.in-Some.ensures in
     let less = w.less in
-    let here = l.loop-u-2.invariant.2 in
+    let here = c.loop-u-2.invariant.2 in
     let new = sym c.is_noted.ensures ∙ c.if-is_noted.false in
-    rw (c.rounded-at-in-loop-u-2.ensures, c.note.ensures) (l.loop-u-2.invariant.0 ∙ scan-next w.walk _ _ _ own w.next, next l.loop-u-2.invariant.1 w _ q e.1 (rw new) (rw new), omega arith)
+    rw (c.rounded-at-in-Some.ensures, c.note.ensures) (c.loop-u-2.invariant.0 ∙ scan-next w.walk _ _ _ own w.next, next c.loop-u-2.invariant.1 w _ q e.1 (rw new) (rw new), omega arith)
 
-pub returns-in_default : goal.returns-in_default
+pub returns-in_default-turn : goal.returns-in_default-turn
 unfolding walk_end_def
-returns-in_default c =
-    let b = c in
-    let l = b in
-    let a = l.args in
-    let z = at-end b.turn-t.ensures c.in_default.is in
-    let i = l.loop-u-2.invariant in
-    λ _. surveys-right a.y a.region.now a.key.now (sym (scan-right a.y a.region.now _ (i.0 ∙ ap (scanned _ _) z.walk) (ended i.1.passing z))) (meets-end i.1.passing i.1.meets z)
+returns-in_default-turn c =
+    let a = c.args in
+    let z = at-end c.turn.ensures c.in_default-turn.is in
+    let i = c.loop-u-2.invariant in
+    surveys-right a.y a.region.now a.key.now (sym (scan-right a.y a.region.now _ (i.0 ∙ ap (scanned _ _) z.walk) (ended i.1.passing z))) (meets-end i.1.passing i.1.meets z)
 
 pub slice_bounds-entry_sound-count : goal.slice_bounds-entry_sound-count
-slice_bounds-entry_sound-count c = (at_entry c.turn-t.ensures c.in-Some.is).inside
+slice_bounds-entry_sound-count c = (at_entry c.turn.ensures c.in-Some-turn.is).inside
 
 pub slice_bounds-entry_sound-start : goal.slice_bounds-entry_sound-start
-slice_bounds-entry_sound-start c = let w = at_entry c.turn-t.ensures c.in-Some.is in omega arith
+slice_bounds-entry_sound-start c = let w = at_entry c.turn.ensures c.in-Some-turn.is in omega arith
 
 pub slice_bounds-entry_sound-end : goal.slice_bounds-entry_sound-end
-slice_bounds-entry_sound-end c = let w = at_entry c.turn-t.ensures c.in-Some.is in omega arith
+slice_bounds-entry_sound-end c = let w = at_entry c.turn.ensures c.in-Some-turn.is in omega arith
 
 pub returns-then-not-entry_sound : goal.returns-then-not-entry_sound
 returns-then-not-entry_sound c =
-    let d = c in
-    let l = d in
-    let a = l.args in
-    let w = at_entry d.turn-t.ensures d.in-Some.is in
-    let own = sym (front-sound w) ∙ sym d.entry_sound.ensures in
-    λ _. surveys-wrong a.y a.region.now a.key.now c.wrong.ensures (scan-wrong a.y a.region.now (l.loop-u-2.invariant.0 ∙ scan-stop w.walk _ _ (own ∙ d.if-not-entry_sound.true)))
+    let a = c.args in
+    let w = at_entry c.turn.ensures c.in-Some-turn.is in
+    let own = sym (front-sound w) ∙ sym c.entry_sound.ensures in
+    surveys-wrong a.y a.region.now a.key.now (sym (scan-wrong a.y a.region.now (c.loop-u-2.invariant.0 ∙ scan-stop w.walk _ _ (own ∙ c.if-not-entry_sound.true))))
 
 pub slice_bounds-mark_of-count : goal.slice_bounds-mark_of-count
-slice_bounds-mark_of-count c = (at_entry c.turn-t.ensures c.in-Some.is).inside
+slice_bounds-mark_of-count c = (at_entry c.turn.ensures c.in-Some-turn.is).inside
 
 pub slice_bounds-mark_of-start : goal.slice_bounds-mark_of-start
-slice_bounds-mark_of-start c = let w = at_entry c.turn-t.ensures c.in-Some.is in omega arith
+slice_bounds-mark_of-start c = let w = at_entry c.turn.ensures c.in-Some-turn.is in omega arith
 
 pub slice_bounds-mark_of-end : goal.slice_bounds-mark_of-end
-slice_bounds-mark_of-end c = let w = at_entry c.turn-t.ensures c.in-Some.is in omega arith
+slice_bounds-mark_of-end c = let w = at_entry c.turn.ensures c.in-Some-turn.is in omega arith
 
 pub is_sought-requires : goal.is_sought-requires
-is_sought-requires c = (at_entry c.turn-t.ensures c.in-Some.is).fits
+is_sought-requires c = (at_entry c.turn.ensures c.in-Some-turn.is).fits
 
 pub returns-then-is_met : goal.returns-then-is_met
 returns-then-is_met c =
-    let m = c in
-    let t = m in
-    let l = t in
-    let a = l.args in
-    let w = at_entry t.turn-t.ensures t.in-Some.is in
-    let x = entry_as a.y a.region.now l.loop-u-2.at t.in-Some.e in
-    let sought = and_split m.is_noted-suspect.result (is_sought_def (key_from a.key.now) x) (sym m.is_sought.ensures ∙ c.if-is_sought.true) in
-    let twice = met-doubled l.loop-u-2.invariant.1.meets t.in-Some.e sought.1 ∙ sym c.is_met.ensures ∙ c.if-is_met.true in
-    λ _. surveys-wrong a.y a.region.now a.key.now c.wrong-then-is_met.ensures (scan-doubled a.y a.region.now (doubled l.loop-u-2.invariant.1.passing w true twice))
+    let a = c.args in
+    let w = at_entry c.turn.ensures c.in-Some-turn.is in
+    let x = entry_as a.y a.region.now c.loop-u-2.at c.in-Some-turn.e in
+    let sought = and_split c.is_noted-suspect.result (is_sought_def (key_from a.key.now) x) (sym c.is_sought.ensures ∙ c.if-is_sought.true) in
+    let twice = met-doubled c.loop-u-2.invariant.1.meets c.in-Some-turn.e sought.1 ∙ sym c.is_met.ensures ∙ c.if-is_met.true in
+    surveys-wrong a.y a.region.now a.key.now (sym (scan-doubled a.y a.region.now (doubled c.loop-u-2.invariant.1.passing w true twice)))
 
 pub loop-u-smaller-then-is_sought : goal.loop-u-smaller-then-is_sought
 loop-u-smaller-then-is_sought c =
-    let t = c in
-    let less = (at_entry t.turn-t.ensures t.in-Some.is).less in
-    let here = t.loop-u-2.invariant.2 in
+    let less = (at_entry c.turn.ensures c.in-Some-turn.is).less in
+    let here = c.loop-u-2.invariant.2 in
     omega arith
 
 pub loop-u-preserved-then-is_sought : goal.loop-u-preserved-then-is_sought
 loop-u-preserved-then-is_sought c =
-    let m = c in
-    let t = m in
-    let l = t in
-    let a = l.args in
-    let w = at_entry t.turn-t.ensures t.in-Some.is in
-    let own = sym (front-sound w) ∙ sym m.entry_sound.ensures in
-    let q = m.mark_of-m.ensures.0 ∙ here-mark a.y a.region.now l.loop-u-2.at t.in-Some.e in
-    let x = entry_as a.y a.region.now l.loop-u-2.at t.in-Some.e in
+    let a = c.args in
+    let w = at_entry c.turn.ensures c.in-Some-turn.is in
+    let own = sym (front-sound w) ∙ sym c.entry_sound.ensures in
+    let q = c.mark_of-m.ensures.0 ∙ here-mark a.y a.region.now c.loop-u-2.at c.in-Some-turn.e in
+    let x = entry_as a.y a.region.now c.loop-u-2.at c.in-Some-turn.e in
     let noted = c.is_noted-suspect in
     let sought = and_split noted.result (is_sought_def (key_from a.key.now) x) (sym c.is_sought.ensures ∙ c.if-is_sought.true) in (
-      l.loop-u-2.invariant.0 ∙ scan-next w.walk _ _ _ (own ∙ m.if-not-entry_sound.false) w.next,
-      rw c.met_at-met.ensures (next-sought l.loop-u-2.invariant.1 w _ q (sym noted.ensures ∙ sought.0) sought.1 (sym c.is_met.ensures ∙ c.if-is_met.false)),
+      c.loop-u-2.invariant.0 ∙ scan-next w.walk _ _ _ (own ∙ c.if-not-entry_sound.false) w.next,
+      rw c.met_at-met.ensures (next-sought c.loop-u-2.invariant.1 w _ q (sym noted.ensures ∙ sought.0) sought.1 (sym c.is_met.ensures ∙ c.if-is_met.false)),
     )
-
-pub returns-then-left-eq0 : goal.returns-then-left-eq0
-returns-then-left-eq0 c = λ e. absurd (true≢false (sym e ∙ c.given_up.ensures))
 
 pub returns-then-is_doubled : goal.returns-then-is_doubled
 returns-then-is_doubled c =
-    let m = c in
-    let t = m in
-    let l = t in
-    let a = l.args in
-    let w = at_entry t.turn-t.ensures t.in-Some.is in
-    λ _. surveys-wrong a.y a.region.now a.key.now c.wrong-then-is_doubled.ensures (scan-doubled a.y a.region.now (doubled l.loop-u-2.invariant.1.passing w c.is_noted-suspect.result (sym c.is_doubled.ensures ∙ c.if-is_doubled.true)))
+    let a = c.args in
+    let w = at_entry c.turn.ensures c.in-Some-turn.is in
+    surveys-wrong a.y a.region.now a.key.now (sym (scan-doubled a.y a.region.now (doubled c.loop-u-2.invariant.1.passing w c.is_noted-suspect.result (sym c.is_doubled.ensures ∙ c.if-is_doubled.true))))
 
 pub loop-u-smaller : goal.loop-u-smaller
 loop-u-smaller c =
-    let t = c in
-    let less = (at_entry t.turn-t.ensures t.in-Some.is).less in
-    let here = t.loop-u-2.invariant.2 in
+    let less = (at_entry c.turn.ensures c.in-Some-turn.is).less in
+    let here = c.loop-u-2.invariant.2 in
     omega arith
 
 pub loop-u-preserved : goal.loop-u-preserved
 loop-u-preserved c =
-    let m = c in
-    let t = m in
-    let l = t in
-    let a = l.args in
-    let w = at_entry t.turn-t.ensures t.in-Some.is in
-    let own = sym (front-sound w) ∙ sym m.entry_sound.ensures in
-    let e = m.mark_of-m.ensures in
-    let q = e.0 ∙ here-mark a.y a.region.now l.loop-u-2.at t.in-Some.e in
+    let a = c.args in
+    let w = at_entry c.turn.ensures c.in-Some-turn.is in
+    let own = sym (front-sound w) ∙ sym c.entry_sound.ensures in
+    let e = c.mark_of-m.ensures in
+    let q = e.0 ∙ here-mark a.y a.region.now c.loop-u-2.at c.in-Some-turn.e in
     let noted = c.is_noted-suspect in (
-      l.loop-u-2.invariant.0 ∙ scan-next w.walk _ _ _ (own ∙ m.if-not-entry_sound.false) w.next,
-      rw c.note-in-loop-u.ensures (next l.loop-u-2.invariant.1 w _ q e.1 (rw (← noted.ensures) (sym c.is_doubled.ensures ∙ c.if-is_doubled.false)) (rw (← noted.ensures) (sym c.is_sought.ensures ∙ c.if-is_sought.false))),
+      c.loop-u-2.invariant.0 ∙ scan-next w.walk _ _ _ (own ∙ c.if-not-entry_sound.false) w.next,
+      rw c.note-in-loop-u.ensures (next c.loop-u-2.invariant.1 w _ q e.1 (rw (← noted.ensures) (sym c.is_doubled.ensures ∙ c.if-is_doubled.false)) (rw (← noted.ensures) (sym c.is_sought.ensures ∙ c.if-is_sought.false))),
     )

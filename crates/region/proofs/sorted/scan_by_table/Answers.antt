@@ -14,52 +14,51 @@ use Rattle.region.proofs.sorted.scan_by_table.Goals as goal
 pub loop-e-init : goal.loop-e-init
 loop-e-init c = let a = c.args in (scan-begin a.y a.region.now, start a.y a.region.now _)
 
-pub returns-in_default : goal.returns-in_default
+pub returns : goal.returns
 unfolding walk_end_def
-returns-in_default c =
+returns c =
     let l = c in
     let a = l.args in
-    let z = at-end c.turn-t.ensures c.in_default.is in
+    let z = at-end c.turn.ensures c.in_default.is in
     sym (scan-right a.y a.region.now _ (l.loop-e.invariant.0 ∙ ap (scanned _ _) z.walk) (ended l.loop-e.invariant.1 z))
 
 pub slice_bounds-entry_sound-count : goal.slice_bounds-entry_sound-count
-slice_bounds-entry_sound-count c = (at_entry c.turn-t.ensures c.in-Some.is).inside
+slice_bounds-entry_sound-count c = (at_entry c.turn.ensures c.in-Some.is).inside
 
 pub slice_bounds-entry_sound-start : goal.slice_bounds-entry_sound-start
-slice_bounds-entry_sound-start c = let w = at_entry c.turn-t.ensures c.in-Some.is in omega arith
+slice_bounds-entry_sound-start c = let w = at_entry c.turn.ensures c.in-Some.is in omega arith
 
 pub slice_bounds-entry_sound-end : goal.slice_bounds-entry_sound-end
-slice_bounds-entry_sound-end c = let w = at_entry c.turn-t.ensures c.in-Some.is in omega arith
+slice_bounds-entry_sound-end c = let w = at_entry c.turn.ensures c.in-Some.is in omega arith
 
 pub returns-then-not-entry_sound : goal.returns-then-not-entry_sound
 returns-then-not-entry_sound c =
     let t = c in
     let l = t in
     let a = l.args in
-    let w = at_entry t.turn-t.ensures t.in-Some.is in
+    let w = at_entry t.turn.ensures t.in-Some.is in
     let own = sym (front-sound w) ∙ sym c.entry_sound.ensures in
-    c.unsound.ensures ∙ sym (scan-wrong a.y a.region.now (l.loop-e.invariant.0 ∙ scan-stop w.walk _ _ (own ∙ c.if-not-entry_sound.true)))
+    sym (scan-wrong a.y a.region.now (l.loop-e.invariant.0 ∙ scan-stop w.walk _ _ (own ∙ c.if-not-entry_sound.true)))
 
 pub returns-then-is_doubled : goal.returns-then-is_doubled
 returns-then-is_doubled c =
     let t = c in
     let l = t in
     let a = l.args in
-    let w = at_entry t.turn-t.ensures t.in-Some.is in
+    let w = at_entry t.turn.ensures t.in-Some.is in
     let d = c in
-    c.unsound-then-is_doubled.ensures
-    ∙ sym (scan-doubled a.y a.region.now
+    sym (scan-doubled a.y a.region.now
     (doubled l.loop-e.invariant.1 w (not (l.loop-e.settled && d.owns_place-settled.result)) (sym d.is_doubled.ensures ∙ c.if-is_doubled.true)))
 
 pub loop-e-smaller : goal.loop-e-smaller
-loop-e-smaller c = let t = c in (at_entry t.turn-t.ensures t.in-Some.is).less
+loop-e-smaller c = let t = c in (at_entry t.turn.ensures t.in-Some.is).less
 
 pub loop-e-preserved : goal.loop-e-preserved
 loop-e-preserved c =
     let t = c in
     let l = t in
     let a = l.args in
-    let w = at_entry t.turn-t.ensures t.in-Some.is in
+    let w = at_entry t.turn.ensures t.in-Some.is in
     let own = sym (front-sound w) ∙ sym c.entry_sound.ensures in (
       l.loop-e.invariant.0 ∙ scan-next w.walk _ _ _ (own ∙ c.if-not-entry_sound.false) w.next,
       next a.table.now l.loop-e.settled l.loop-e.invariant.1 w _ (ap (λ (b : Bool). l.loop-e.settled && b) c.owns_place-settled.ensures)
