@@ -8,13 +8,15 @@ use mathlib.Core.Path.{◌≡◌, refl, sym, ap, ap₂, ◌∙◌, subst}
 use mathlib.Core.Logic.{◌≢◌}
 use mathlib.Core.Bool.{Bool, true, false, cond, not, ◌&&◌, ◌||◌, true≢false}
 use mathlib.Core.List.{List, [], ◌∷◌, ◌++◌, append_assoc, append-nil}
-use lib.ListN.{length, get_or, set, take, drop, drop_of_length-le}
+use lib.ListN.{length, get_or, set, take, drop}
 use lib.Seq.{take-suc, drop-cons, get_or-take, get_or-drop, get_or-set_other}
 use lib.Bits.{bit_and}
 use lib.Dec.{eqb, leb, ltb}
+use mir.Val.{bool_byte}
+use Rattle.std.specs.List.{list_any}
 use borrow.Author.Tests.{eqb-true, eqb-false, eq-eqb, ne_eqb, leb-true, leb-false, le-leb, lt-leb, ltb-true, lt-ltb, le-ltb}
 use Rattle.model.specs.Lists.{any, among, part}
-use Rattle.model.specs.Stores.{Store, page, byte, erase, apply, apply_all, pages, bytewise, falls, fails, reach, width_of}
+use Rattle.model.specs.Stores.{Store, page, byte, erase, apply, apply_all, pages, bytewise, falls, fails, reach}
 use Rattle.model.proofs.Stores.{apply_all-append, pages-sets, pages-one, pages-bytewise}
 use Rattle.model.proofs.Pages.{pages-few}
 use Rattle.model.proofs.Failing.{fails-byte, reach_few, reach-none}
@@ -115,17 +117,11 @@ reach-dead ds a at (b ∷ bs) img =
     go false e true f false g ih = rw (among-more ds a at, e, f, g) (kept (eqb-true at a f) g ih)
     go false e false f v g ih = rw (among-more ds a at, e, f) (other (eqb-false at a f) ih)
 
--- ---- an address sought in a list, place by place
+-- ---- a test of each address
 
-module _ (at : ℕ) (dead : List ℕ) (i : ℕ) where
-  pub dead-here : i < length dead → at ≡ get_or dead i 0 → among (drop i dead) at ≡ true
-  dead-here h e = ap (any (eqb at)) (drop-cons dead i 0 h) ∙ rw (eq-eqb at (get_or dead i 0) e)
-
-  pub dead-next : i < length dead → at ≢ get_or dead i 0 → among (drop (i + 1) dead) at ≡ among (drop i dead) at
-  dead-next h e = ap (λ (k : ℕ). any (eqb at) (drop k dead)) (add-one i) ∙ sym (ap (any (eqb at)) (drop-cons dead i 0 h) ∙ rw (ne_eqb at (get_or dead i 0) e))
-
-  pub dead_end : length dead ≤ i → among (drop i dead) at ≡ false
-  dead_end e = ap (any (eqb at)) (drop_of_length-le dead {i = i} e)
+pub any_same : (f g : ℕ → Bool) (l : List ℕ) → ((a : ℕ) → f a ≡ g a) → list_any f l ≡ any g l
+any_same f g [] h = refl
+any_same f g (a ∷ l) h = ap₂ (λ (x y : Bool). x || y) (h a) (any_same f g l h)
 
 -- ---- one byte store
 
@@ -421,31 +417,15 @@ module _ (at : ℕ) (c : List ℕ) (from n : ℕ) (img : List ℕ) (h : from + n
       go true e false f = refl
       go false e u f = refl
 
-  module _ (dead : List ℕ) (d : ℕ) where
-    first-hit : d < length dead → fails (drop d dead) (page at (part from n c)) img ≡ (touched (get_or dead d 0) || fails (drop (suc d) dead) (page at (part from n c)) img)
-    unfolding fails
-    first-hit l = ap (any hit) (drop-cons dead d 0 l) ∙ ap (λ (t : Bool). t || any hit (drop (suc d) dead)) (hit-touched (get_or dead d 0))
-
-    pub page-here : d < length dead → touched (get_or dead d 0) ≡ true → fails (drop d dead) (page at (part from n c)) img ≡ true
-    page-here l e = first-hit l ∙ rw e
-
-    pub page-next : d < length dead → touched (get_or dead d 0) ≡ false
-        → fails (drop (d + 1) dead) (page at (part from n c)) img ≡ fails (drop d dead) (page at (part from n c)) img
-    page-next l e = ap (λ (k : ℕ). fails (drop k dead) (page at (part from n c)) img) (add-one d) ∙ sym (first-hit l ∙ rw e)
-
-    pub page-end : length dead ≤ d → fails (drop d dead) (page at (part from n c)) img ≡ false
-    unfolding fails
-    page-end l = ap (any hit) (drop_of_length-le dead {i = d} l)
+  pub page-touched : (dead : List ℕ) → list_any touched dead ≡ fails dead (page at (part from n c)) img
+  unfolding fails
+  page-touched dead = any_same touched hit dead (λ a. sym (hit-touched a))
 
 -- ---- a mark
 
-pub mark_made : (f : Bool) {r : Bool} → r ≡ not f → r ≡ true → ◌≡◌ {A = ℕ} 1 (cond f 0 1)
-mark_made true h e = absurd (true≢false (sym e ∙ h))
-mark_made false h e = refl
-
-pub mark-failed : (f : Bool) {r : Bool} → r ≡ not f → r ≡ false → ◌≡◌ {A = ℕ} 0 (cond f 0 1)
-mark-failed true h e = refl
-mark-failed false h e = absurd (true≢false (sym h ∙ e))
+pub mark_made : (f : Bool) {r : Bool} → r ≡ not f → bool_byte r ≡ cond f 0 1
+mark_made true h = rw h
+mark_made false h = rw h
 
 -- ---- what an operation asks, and what was made of it, where it is known
 
@@ -457,28 +437,6 @@ asked-as e w held long i img l f b =
 pub turned_as : {s t : Step} → s ≡ t → (dead : List ℕ) (w : ℕ) (c : List ℕ) (i left : ℕ) (img : List ℕ) (r : ℕ) {img' : List ℕ}
     → Turned dead w c t i left img img' r → Turned dead w c s i left img img' r
 turned_as e dead w c i left img r t = rw e t
-
--- ---- by w
-
-pub width_two : {w : ℕ} → w ≡ 2 → ◌≡◌ {A = ℕ} 2 (width_of w)
-unfolding width_of
-width_two e = rw e
-
-pub width_four : {w : ℕ} → w ≡ 4 → ◌≡◌ {A = ℕ} 4 (width_of w)
-unfolding width_of
-width_four e = rw e
-
-pub width-eight : {w : ℕ} → w ≡ 8 → ◌≡◌ {A = ℕ} 8 (width_of w)
-unfolding width_of
-width-eight e = rw e
-
-pub width-sixteen : {w : ℕ} → w ≡ 16 → ◌≡◌ {A = ℕ} 16 (width_of w)
-unfolding width_of
-width-sixteen e = rw e
-
-pub width-other : {w : ℕ} → w ≢ 2 → w ≢ 4 → w ≢ 8 → w ≢ 16 → ◌≡◌ {A = ℕ} 1 (width_of w)
-unfolding width_of
-width-other {w} a b c d = rw (ne_eqb w 2 a, ne_eqb w 4 b, ne_eqb w 8 c, ne_eqb w 16 d)
 
 -- an address that is touched is not before the bytes
 pub touched-behind : (at a n : ℕ) (t : Bool) → (leb at a && ltb a (at + n) && t) ≡ true → at ≤ a

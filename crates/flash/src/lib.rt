@@ -2,7 +2,7 @@
 // are made or one fails.
 #![tactic(auto)]
 
-ghost use Rattle.std.specs.Prelude.{◌≡◌, true, not, cond, ◌&&◌, ◌+◌, ◌*◌, ◌-◌, ◌%◌, ◌≤◌, ◌<◌, min, ◌≢◌, length, get_or, eqb, leb, ltb};
+ghost use Rattle.std.specs.Prelude.{◌≡◌, IfOk, true, not, cond, ◌&&◌, ◌+◌, ◌*◌, ◌-◌, ◌%◌, ◌≤◌, ◌<◌, min, ◌≢◌, length, get_or, eqb, leb, ltb};
 ghost use Rattle.model.specs.Lists.{among, part};
 ghost use Rattle.model.specs.Image.{block};
 ghost use Rattle.model.specs.Entry.{header_size_def};
@@ -13,7 +13,7 @@ ghost use Rattle.plan.specs.Planned.{planned_as};
 ghost use Rattle.plan.specs.declared.Step.TheVariants.{Mark, Header};
 
 use model::{Answer, Context, Layout, Rule};
-use plan::{Judged, Plan, Planned, Step};
+use plan::{Plan, Planned, Step};
 
 // The stores of an entry's header: all its bytes but the state.
 const HEADER_STORES: usize = Layout::HEADER - 1;
@@ -21,25 +21,11 @@ const HEADER_STORES: usize = Layout::HEADER - 1;
 // The most dead addresses that count.
 const MOST_DEAD: u32 = 16;
 
-// An address as an offset in the image.
-fn address(a: u32) -> usize
-    ensures { result ≡ a }
-{
-    a as usize
-}
-
 // Whether an address is one of the dead ones.
 fn is_dead(dead: &[u32], at: usize) -> bool
     ensures { result ≡ among dead.now at }
 {
-    let mut d = 0;
-    while d < dead.len() {
-        if at == address(dead[d]) {
-            return true;
-        }
-        d += 1;
-    }
-    false
+    dead.iter().any(|&a| at == a as usize)
 }
 
 // Whether a byte store fails: at a dead address where a bit would have to fall.
@@ -48,10 +34,7 @@ fn is_worn(image: &[u8], at: usize, v: u8, dead: &[u32]) -> bool
     ensures { result ≡ fails dead.now (byte at v) image.now }
 {
     let old = image[at];
-    if old & v == old {
-        return false;
-    }
-    is_dead(dead, at)
+    old & v != old && is_dead(dead, at)
 }
 
 // One byte store: whether every wanted bit was cleared. Where it fails it changes nothing.
@@ -73,11 +56,7 @@ fn clear(image: &mut [u8], b: usize)
     ensures { image.new ≡ apply (erase b) image.old }
 {
     let at = layout::BLOCK * b;
-    let mut i = 0;
-    while i < layout::BLOCK {
-        image[at + i] = 0xFF;
-        i += 1;
-    }
+    image[at..at + layout::BLOCK].fill(0xFF);
 }
 
 // A mark: "Every change of state clears exactly one bit", so the ones in the difference of old and new are counted. One store, or none where it fails.
@@ -87,12 +66,7 @@ fn mark(image: &mut [u8], at: usize, new: u8, dead: &[u32]) -> usize
         × (image.new ≡ cond (fails dead.now (byte at new) image.old) image.old (apply (byte at new) image.old)) }
 {
     let old = image[at];
-    if u8::count_ones(old ^ new) == 1 {
-        if put(image, at, new, dead) {
-            return 1;
-        }
-    }
-    0
+    usize::from((old ^ new).count_ones() == 1 && put(image, at, new, dead))
 }
 
 // The places of a header.
@@ -100,9 +74,10 @@ fn header_size(w: usize) -> usize
     ensures { result ≡ cond (eqb w 1) (header_size_def - 1) header_size_def }
 {
     if w == 1 {
-        return HEADER_STORES;
+        HEADER_STORES
+    } else {
+        Layout::HEADER
     }
-    Layout::HEADER
 }
 
 // How many places an operation has: stores of a byte or a block; with longer pages the bytes of a header, its state among them.
@@ -123,10 +98,8 @@ fn put_run(image: &mut [u8], at: usize, from: usize, r: usize, content: &[u8])
     requires { (from + r ≤ length content.now) × (at + r ≤ length image.old) }
     ensures { image.new ≡ apply_all (run_of 1 content.now at from r) image.old }
 {
-    let mut j = 0;
-    while j < r {
+    for j in 0..r {
         image[at + j] = content[from + j];
-        j += 1;
     }
 }
 
@@ -135,15 +108,11 @@ fn touches(image: &[u8], at: usize, from: usize, n: usize, content: &[u8], a: us
     requires { (from + n ≤ length content.now) × (at + n ≤ length image.now) }
     ensures { result ≡ (leb at a && ltb a (at + n) && falls (get_or image.now a 0) (get_or content.now (from + (a - at)) 0)) }
 {
-    if a < at {
-        return false;
-    }
-    let j = a - at;
-    if n <= j {
+    if a < at || at + n <= a {
         return false;
     }
     let old = image[a];
-    let new = content[from + j];
+    let new = content[from + (a - at)];
     old & new != old
 }
 
@@ -153,9 +122,10 @@ fn before_dead(image: &[u8], at: usize, from: usize, k: usize, content: &[u8], a
     ensures { result ≡ cond (leb at a && ltb a (at + k) && falls (get_or image.now a 0) (get_or content.now (from + (a - at)) 0)) (a - at) k }
 {
     if touches(image, at, from, k, content, a) {
-        return a - at;
+        a - at
+    } else {
+        k
     }
-    k
 }
 
 // How many of r bytes can be stored before one fails: the least over the dead addresses.
@@ -164,22 +134,10 @@ fn spared(image: &[u8], at: usize, from: usize, r: usize, content: &[u8], dead: 
     ensures { result ≡ reach dead.now (run_of 1 content.now at from r) image.now }
 {
     let mut k = r;
-    let mut d = 0;
-    while d < dead.len() {
-        k = before_dead(image, at, from, k, content, address(dead[d]));
-        d += 1;
+    for &a in dead {
+        k = before_dead(image, at, from, k, content, a as usize);
     }
     k
-}
-
-// The smaller of two numbers.
-fn least(a: usize, b: u64) -> usize
-    ensures { (result ≤ a) × (result ≤ b) × (1 ≤ a → 1 ≤ b → 1 ≤ result) }
-{
-    if b < a as u64 {
-        return b as usize;
-    }
-    a
 }
 
 // Bytes of the content, each a store, no more than are left, up to the first that fails.
@@ -195,7 +153,7 @@ fn bytes(
     requires { (1 ≤ len) × (1 ≤ left) × (from + len ≤ length content.now) × (at + len ≤ length image.old) }
     ensures { Programmed dead.now 1 content.now at from len left image.old image.new result }
 {
-    let n = least(len, left);
+    let n = left.min(len as u64) as usize;
     let k = spared(image, at, from, n, content, dead);
     put_run(image, at, from, k, content);
     k
@@ -206,11 +164,7 @@ fn to_page_end(w: usize, at: usize, len: usize) -> usize
     requires { (1 ≤ w) × (1 ≤ len) }
     ensures { (1 ≤ result) × (result ≤ len) × (at % w + result ≤ w) × (result ≢ len → at % w + result ≡ w) }
 {
-    let n = w - at % w;
-    if len < n {
-        return len;
-    }
-    n
+    len.min(w - at % w)
 }
 
 // Whether a store of n bytes fails: "A dead byte with a bit to fall fails its whole store".
@@ -225,14 +179,8 @@ fn is_page_worn(
     requires { (from + n ≤ length content.now) × (at + n ≤ length image.now) }
     ensures { result ≡ fails dead.now (page at (part from n content.now)) image.now }
 {
-    let mut d = 0;
-    while d < dead.len() {
-        if touches(image, at, from, n, content, address(dead[d])) {
-            return true;
-        }
-        d += 1;
-    }
-    false
+    dead.iter()
+        .any(|&a| touches(image, at, from, n, content, a as usize))
 }
 
 // One page of bytes of the content, a store; none where it fails.
@@ -271,13 +219,9 @@ fn pages(
     requires { (1 ≤ len) × (1 ≤ left) × (from + len ≤ length content.now) × (at + len ≤ length image.old) × (1 ≤ w) }
     ensures { Programmed dead.now w content.now at from len left image.old image.new result }
 {
-    if dead.len() == 0 {
-        if at % w == 0 {
-            if len as u64 <= left {
-                put_run(image, at, from, len, content);
-                return len;
-            }
-        }
+    if dead.is_empty() && at % w == 0 && len as u64 <= left {
+        put_run(image, at, from, len, content);
+        return len;
     }
     one_page(image, at, from, len, content, left, dead, w)
 }
@@ -405,10 +349,7 @@ fn counted(w: usize, r: usize) -> u64
     requires { 1 ≤ w }
     ensures { result ≡ count_of w r }
 {
-    if r == 0 {
-        return 0;
-    }
-    ((r - 1) / w + 1) as u64
+    r.div_ceil(w) as u64
 }
 
 // The stores of a plan in their order, ended where n of them are made, or where one fails.
@@ -428,12 +369,9 @@ fn make_stores(
         (stores w (expand content.now plan)) image.old) }
 {
     let mut made: u64 = 0;
-    let mut op = 0;
-    let mut i = 0;
-    while op < plan::OPERATIONS {
-        let o = plan[op];
-        let step = o.step;
-        if i < size(step, w) {
+    for &step in &plan {
+        let mut i = 0;
+        while i < size(step, w) {
             if made == n {
                 return Answer::Stopped;
             }
@@ -443,58 +381,40 @@ fn make_stores(
             }
             made += counted(w, r);
             i += r;
-        } else {
-            op += 1;
-            i = 0;
         }
     }
     Answer::Done(made)
-}
-
-// How many dead addresses are given, of which sixteen count.
-fn dead_count(count: u32, dead: [u32; 16]) -> usize
-    ensures { (result ≡ min count 16) × (result ≤ length dead) }
-{
-    if MOST_DEAD < count {
-        return MOST_DEAD as usize;
-    }
-    count as usize
 }
 
 // How many bytes the part stores at a time: 1, 2, 4, 8 or 16; any other number counts as 1.
 fn width(w: u32) -> usize
     ensures { (result ≡ width_of w) × (1 ≤ result) }
 {
-    if w == 2 {
-        return 2;
+    match w {
+        2 | 4 | 8 | 16 => w as usize,
+        _ => 1,
     }
-    if w == 4 {
-        return 4;
-    }
-    if w == 8 {
-        return 8;
-    }
-    if w == 16 {
-        return 16;
-    }
-    1
 }
 
 // A call carried out as it was planned: "The answer is done with its number of stores, stopped, or refused holding its rule."
-pub fn carry_out(image: &mut [u8], planned: Planned, content: &[u8], context: Context) -> Answer
-    requires { Ready content.now planned.plan image.old }
+pub fn carry_out(
+    image: &mut [u8],
+    planned: Result<Planned, Rule>,
+    content: &[u8],
+    context: Context,
+) -> Answer
+    requires { IfOk planned (λ p. Ready content.now p.plan image.old) }
     ensures { (answer_of result ≡ outcome context (planned_as content.now planned) image.old)
         × (image.new ≡ image_after context (planned_as content.now planned) image.old) }
 {
-    let judged = planned.judged;
-    let plan = planned.plan;
-    match judged {
-        Judged::Accepted => {
+    match planned {
+        Ok(planned) => {
+            let plan = planned.plan;
             let dead = context.dead;
-            let count = dead_count(context.count, dead);
+            let count = MOST_DEAD.min(context.count) as usize;
             let w = width(context.width);
             make_stores(image, plan, content, context.limit, &dead[..count], w)
         }
-        Judged::Refused(rule) => Answer::Refused(rule),
+        Err(rule) => Answer::Refused(rule),
     }
 }

@@ -8,8 +8,7 @@ use Rattle.flash.proofs.header.Goals as goal
 
 pub header_bytes-requires : goal.header_bytes-requires
 header_bytes-requires c =
-    let s = c in
-    (header-short s.requires.0 c.if-w-eq1.true, s.requires.1, s.requires.2, s.requires.3)
+    (header-short c.requires.0 c.if-w-eq1.true, c.requires.1, c.requires.2, c.requires.3)
 
 pub returns-then-w-eq1 : goal.returns-then-w-eq1
 returns-then-w-eq1 c =
@@ -17,29 +16,24 @@ returns-then-w-eq1 c =
 
 pub overflow_add-at : goal.overflow_add-at
 overflow_add-at c =
-    let s = c in
-    let l = header-long s.requires.0 c.if-w-eq1.false in omega (arith, l, s.requires.3)
+    let l = header-long c.requires.0 c.if-w-eq1.false in omega (arith, l, c.requires.3)
 
 pub overflow_add-from : goal.overflow_add-from
 overflow_add-from c =
-    let s = c in
-    let l = header-long s.requires.0 c.if-w-eq1.false in omega (arith, l, s.requires.2)
+    let l = header-long c.requires.0 c.if-w-eq1.false in omega (arith, l, c.requires.2)
 
 pub overflow_sub-i : goal.overflow_sub-i
 overflow_sub-i c =
-    let s = c in
-    let l = header-long s.requires.0 c.if-w-eq1.false in omega (arith, l)
+    let l = header-long c.requires.0 c.if-w-eq1.false in omega (arith, l)
 
 pub pages-requires : goal.pages-requires
 pages-requires c =
-    let s = c in
-    let l = header-long s.requires.0 c.if-w-eq1.false in (omega (arith, l), s.requires.1, omega (arith, l, s.requires.2), omega (arith, l, s.requires.3), s.requires.4)
+    let l = header-long c.requires.0 c.if-w-eq1.false in (omega (arith, l), c.requires.1, omega (arith, l, c.requires.2), omega (arith, l, c.requires.3), c.requires.4)
 
 pub returns : goal.returns
 returns c =
-    let s = c in
-    let a = s.args in
+    let a = c.args in
     let t = c.if-w-eq1.false in
-    let l = header-long s.requires.0 t in
+    let l = header-long c.requires.0 t in
     piece-turned a.dead.now a.w a.content.now (Header a.at a.from) a.i (a.at + a.i) (a.from + a.i) (60 - a.i) a.left a.image.now _ c.pages.result
     (header-piece a.w a.content.now a.at a.from a.i t) (header-places a.w a.i t l) c.pages.ensures

@@ -8,16 +8,14 @@ use Rattle.flash.proofs.header_bytes.Goals as goal
 
 pub returns-then-i-lt-STATE : goal.returns-then-i-lt-STATE
 returns-then-i-lt-STATE c =
-    let s = c in
-    let a = s.args in
+    let a = c.args in
     let t = c.if-i-lt-STATE.true in
     piece-turned a.dead.now 1 a.content.now (Header a.at a.from) a.i (a.at + a.i) (a.from + a.i) (2 - a.i) a.left a.image.now _ c.bytes.result
     (front-piece a.content.now a.at a.from a.i t) (omega (arith, t)) c.bytes.ensures
 
 pub returns : goal.returns
 returns c =
-    let s = c in
-    let a = s.args in
+    let a = c.args in
     let t = c.if-i-lt-STATE.false in
     piece-turned a.dead.now 1 a.content.now (Header a.at a.from) a.i (a.at + a.i + 1) (a.from + a.i + 1) (59 - a.i) a.left a.image.now _ c.bytes-2.result
-    (back-piece a.content.now a.at a.from a.i t) (omega (arith, s.requires.0)) c.bytes-2.ensures
+    (back-piece a.content.now a.at a.from a.i t) (omega (arith, c.requires.0)) c.bytes-2.ensures

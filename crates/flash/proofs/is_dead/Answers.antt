@@ -1,26 +1,12 @@
--- `flash::is_dead` meets its contract: the addresses up to `d` are others. Assumes nothing.
-use native.Mathlib.Omega.{arith}
-use mathlib.Core.Path.{refl, sym, ◌∙◌}
-use Rattle.flash.proofs.Dead.{dead-here, dead-next, dead_end}
+-- `flash::is_dead` meets its contract: it is one of them. Assumes nothing.
+use Rattle.std.proofs.Common.{refl, ◌∙◌, eqb, rules, tests}
+use Rattle.std.proofs.lemmas.Iterator.{YieldsList-from_slice}
+use Rattle.std.proofs.lemmas.Iterator.Search.{any_from_yields_List}
+use Rattle.flash.proofs.Dead.{any_same}
 use Rattle.flash.proofs.is_dead.Goals as goal
-
-pub loop-d-init : goal.loop-d-init
-loop-d-init c = (omega arith, refl)
-
-pub returns-then-at-address : goal.returns-then-at-address
-returns-then-at-address c =
-    let l = c in
-    let a = l.args in
-    sym (sym l.loop-d.invariant.1 ∙ dead-here a.at a.dead.now l.loop-d.d (omega arith) (c.if-at-address.true ∙ c.address.ensures))
-
-pub loop-d-preserved : goal.loop-d-preserved
-loop-d-preserved c =
-    let l = c in
-    let a = l.args in
-    (omega arith, dead-next a.at a.dead.now l.loop-d.d (omega arith) (λ e. c.if-at-address.false (e ∙ sym c.address.ensures)) ∙ l.loop-d.invariant.1)
 
 pub returns : goal.returns
 returns c =
-    let l = c in
-    let a = l.args in
-    sym (sym l.loop-d.invariant.1 ∙ dead_end a.at a.dead.now l.loop-d.d (omega arith))
+    let a = c.args in
+    any_from_yields_List (eqb a.at) _ _ c.any.result c.any.ensures.ran (YieldsList-from_slice a.dead.now (cc)) (λ x b q k. search (rules, tests))
+    ∙ any_same (eqb a.at) (eqb a.at) a.dead.now (λ x. refl)

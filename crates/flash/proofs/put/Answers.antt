@@ -3,9 +3,6 @@ use mathlib.Core.Path.{refl, sym, ◌∙◌}
 use Rattle.model.specs.Stores.{apply}
 use Rattle.flash.proofs.put.Goals as goal
 
-pub returns-then-is_worn : goal.returns-then-is_worn
-returns-then-is_worn c = rw (sym c.is_worn.ensures ∙ c.if-is_worn.true) (refl, refl)
-
 pub returns : goal.returns
 unfolding apply
 returns c = rw (sym c.is_worn.ensures ∙ c.if-is_worn.false) (refl, refl)

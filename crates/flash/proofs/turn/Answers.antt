@@ -10,97 +10,84 @@ use Rattle.flash.proofs.turn.Goals as goal
 
 pub mark-requires : goal.mark-requires
 mark-requires c =
-    let s = c in
-    let a = s.args in
-    let p = asked-as c.in-Mark.is a.w (length a.content.now) (length a.image.now) a.i a.image.now s.requires.0 s.requires.2 s.requires.3 in
+    let a = c.args in
+    let p = asked-as c.in-Mark.is a.w (length a.content.now) (length a.image.now) a.i a.image.now c.requires.0 c.requires.2 c.requires.3 in
     (p.1, p.2 (omega (arith, p.0)))
 
 pub overflow_add-first : goal.overflow_add-first
 unfolding block
 overflow_add-first c =
-    let s = c in
-    let a = s.args in
-    let p = asked-as c.in-Erase.is a.w (length a.content.now) (length a.image.now) a.i a.image.now s.requires.0 s.requires.2 s.requires.3 in
+    let a = c.args in
+    let p = asked-as c.in-Erase.is a.w (length a.content.now) (length a.image.now) a.i a.image.now c.requires.0 c.requires.2 c.requires.3 in
     omega (arith, p.0, p.1)
 
 pub clear-requires : goal.clear-requires
 unfolding block
 clear-requires c =
-    let s = c in
-    let a = s.args in
-    let p = asked-as c.in-Erase.is a.w (length a.content.now) (length a.image.now) a.i a.image.now s.requires.0 s.requires.2 s.requires.3 in
+    let a = c.args in
+    let p = asked-as c.in-Erase.is a.w (length a.content.now) (length a.image.now) a.i a.image.now c.requires.0 c.requires.2 c.requires.3 in
     omega (arith, p.0, p.1)
 
 pub overflow_add-at : goal.overflow_add-at
 overflow_add-at c =
-    let s = c in
-    let a = s.args in
-    let p = asked-as c.in-Program.is a.w (length a.content.now) (length a.image.now) a.i a.image.now s.requires.0 s.requires.2 s.requires.3 in
+    let a = c.args in
+    let p = asked-as c.in-Program.is a.w (length a.content.now) (length a.image.now) a.i a.image.now c.requires.0 c.requires.2 c.requires.3 in
     omega (arith, p.0, p.1.1)
 
 pub overflow_add-from : goal.overflow_add-from
 overflow_add-from c =
-    let s = c in
-    let a = s.args in
-    let p = asked-as c.in-Program.is a.w (length a.content.now) (length a.image.now) a.i a.image.now s.requires.0 s.requires.2 s.requires.3 in
+    let a = c.args in
+    let p = asked-as c.in-Program.is a.w (length a.content.now) (length a.image.now) a.i a.image.now c.requires.0 c.requires.2 c.requires.3 in
     omega (arith, p.0, p.1.0)
 
 pub overflow_sub-len : goal.overflow_sub-len
 overflow_sub-len c =
-    let s = c in
-    let a = s.args in
-    let p = asked-as c.in-Program.is a.w (length a.content.now) (length a.image.now) a.i a.image.now s.requires.0 s.requires.2 s.requires.3 in
+    let a = c.args in
+    let p = asked-as c.in-Program.is a.w (length a.content.now) (length a.image.now) a.i a.image.now c.requires.0 c.requires.2 c.requires.3 in
     omega (arith, p.0)
 
 pub program-requires : goal.program-requires
 program-requires c =
-    let s = c in
-    let a = s.args in
-    let p = asked-as c.in-Program.is a.w (length a.content.now) (length a.image.now) a.i a.image.now s.requires.0 s.requires.2 s.requires.3 in
-    (omega (arith, p.0), s.requires.1, omega (arith, p.0, p.1.0), omega (arith, p.0, p.1.1), s.requires.4)
+    let a = c.args in
+    let p = asked-as c.in-Program.is a.w (length a.content.now) (length a.image.now) a.i a.image.now c.requires.0 c.requires.2 c.requires.3 in
+    (omega (arith, p.0), c.requires.1, omega (arith, p.0, p.1.0), omega (arith, p.0, p.1.1), c.requires.4)
 
 pub header-requires : goal.header-requires
 header-requires c =
-    let s = c in
-    let a = s.args in
-    let p = asked-as c.in-Header.is a.w (length a.content.now) (length a.image.now) a.i a.image.now s.requires.0 s.requires.2 s.requires.3 in
-    (p.0, s.requires.1, p.1.0, p.1.1, s.requires.4)
+    let a = c.args in
+    let p = asked-as c.in-Header.is a.w (length a.content.now) (length a.image.now) a.i a.image.now c.requires.0 c.requires.2 c.requires.3 in
+    (p.0, c.requires.1, p.1.0, p.1.1, c.requires.4)
 
 pub returns-in-Nothing : goal.returns-in-Nothing
 returns-in-Nothing c =
-    let s = c in
-    let a = s.args in
-    let p = asked-as c.in-Nothing.is a.w (length a.content.now) (length a.image.now) a.i a.image.now s.requires.0 s.requires.2 s.requires.3 in
+    let a = c.args in
+    let p = asked-as c.in-Nothing.is a.w (length a.content.now) (length a.image.now) a.i a.image.now c.requires.0 c.requires.2 c.requires.3 in
     absurd (omega (arith, p.0))
 
 pub returns-in-Mark : goal.returns-in-Mark
 returns-in-Mark c =
-    let s = c in
-    let a = s.args in
-    let p = asked-as c.in-Mark.is a.w (length a.content.now) (length a.image.now) a.i a.image.now s.requires.0 s.requires.2 s.requires.3 in
+    let a = c.args in
+    let p = asked-as c.in-Mark.is a.w (length a.content.now) (length a.image.now) a.i a.image.now c.requires.0 c.requires.2 c.requires.3 in
     turned_as c.in-Mark.is a.dead.now a.w a.content.now a.i a.left a.image.now c.mark.result
-    (mark-turned a.dead.now a.w a.content.now c.in-Mark.at c.in-Mark.v a.i a.left a.image.now _ c.mark.result s.requires.4 p.0 s.requires.1 c.mark.ensures.0 c.mark.ensures.1)
+    (mark-turned a.dead.now a.w a.content.now c.in-Mark.at c.in-Mark.v a.i a.left a.image.now _ c.mark.result c.requires.4 p.0 c.requires.1 c.mark.ensures.0 c.mark.ensures.1)
 
 pub returns-in-Erase : goal.returns-in-Erase
 returns-in-Erase c =
-    let s = c in
-    let a = s.args in
-    let p = asked-as c.in-Erase.is a.w (length a.content.now) (length a.image.now) a.i a.image.now s.requires.0 s.requires.2 s.requires.3 in
+    let a = c.args in
+    let p = asked-as c.in-Erase.is a.w (length a.content.now) (length a.image.now) a.i a.image.now c.requires.0 c.requires.2 c.requires.3 in
     turned_as c.in-Erase.is a.dead.now a.w a.content.now a.i a.left a.image.now 1
-    (erase-turned a.dead.now a.w a.content.now c.in-Erase.first c.in-Erase.field-1 a.i a.left a.image.now _ s.requires.4 p.0 s.requires.1 c.clear.ensures)
+    (erase-turned a.dead.now a.w a.content.now c.in-Erase.first c.in-Erase.field-1 a.i a.left a.image.now _ c.requires.4 p.0 c.requires.1 c.clear.ensures)
 
 pub returns-in-Program : goal.returns-in-Program
 returns-in-Program c =
-    let s = c in
-    let a = s.args in
-    let p = asked-as c.in-Program.is a.w (length a.content.now) (length a.image.now) a.i a.image.now s.requires.0 s.requires.2 s.requires.3 in
+    let a = c.args in
+    let p = asked-as c.in-Program.is a.w (length a.content.now) (length a.image.now) a.i a.image.now c.requires.0 c.requires.2 c.requires.3 in
     turned_as c.in-Program.is a.dead.now a.w a.content.now a.i a.left a.image.now c.program.result
     (piece-turned a.dead.now a.w a.content.now (Program c.in-Program.at c.in-Program.from c.in-Program.len) a.i (c.in-Program.at + a.i) (c.in-Program.from + a.i) (c.in-Program.len - a.i) a.left a.image.now _ c.program.result
     (program-piece a.w a.content.now c.in-Program.at c.in-Program.from c.in-Program.len a.i) (omega (arith, p.0)) c.program.ensures)
 
 pub returns-in-Header : goal.returns-in-Header
 returns-in-Header c =
-    let s = c in
-    let a = s.args in
+    let a = c.args in
     turned_as c.in-Header.is a.dead.now a.w a.content.now a.i a.left a.image.now c.header.result
     c.header.ensures
