@@ -1,7 +1,12 @@
--- `model::Setup::kept` meets its contract: each field is made by a function that gives it as the definition does. Assumes nothing.
+use Rattle.std.proofs.Common.{◌≡◌, Bool, true, false, cond, refl}
+use Rattle.std.specs.Int.{from_bool}
 use Rattle.model.specs.Session.{kept}
 use Rattle.model.proofs.Setup.kept.Goals as goal
 
+one : (b : Bool) → from_bool b ≡ cond b 1 0
+one true = refl
+one false = refl
+
 pub returns : goal.returns
 unfolding kept
-returns c = rw (c.capped.ensures, c.flag.ensures, c.capped-2.ensures)
+returns c = rw (c.min.ensures, c.min-2.ensures, c.from.ensures, one)

@@ -1,9 +1,0 @@
--- `model::flag` meets its contract: 0 is no, anything else yes. Assumes nothing.
-use borrow.Author.Tests.{eq-eqb, ne_eqb}
-use Rattle.model.proofs.flag.Goals as goal
-
-pub returns-then-n-eq0 : goal.returns-then-n-eq0
-returns-then-n-eq0 c = rw (eq-eqb c.args.n 0 c.if-n-eq0.true)
-
-pub returns : goal.returns
-returns c = rw (ne_eqb c.args.n 0 c.if-n-eq0.false)
