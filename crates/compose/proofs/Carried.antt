@@ -22,7 +22,7 @@ use Rattle.region.specs.Walk.{entry_at, stamp_at, vendor_at, entry_as, vendor_as
 use Rattle.region.proofs.Entries.{named, stamp as stamp-part, vendor as vendor-part}
 use Rattle.values.proofs.Listed.{value_entries}
 use Rattle.values.proofs.Sizes.{part-fits, short, data-part}
-use Rattle.values.proofs.Stands.{None}
+use Rattle.values.proofs.Stands.{NoneLeft}
 use Rattle.values.proofs.Next.{Next}
 use Rattle.output.specs.Text.{Wrote}
 use Rattle.output.proofs.Writing.{sets-append, wrote-append, wrote_as}
@@ -190,6 +190,6 @@ next-to-come {r} leave {a = a} {after} {e} x =
     ∙ ap joined (leaving-cons leave (entry_at r a e) rest)
     ∙ joined-append (leaving leave (entry_at r a e ∷ [])) (leaving leave rest)
 
-pub none-to-come : {r : List ℕ} (leave : List ℕ) {here : ℕ} → None authenticated r here → to_come r leave here ≡ []
+pub none-to-come : {r : List ℕ} (leave : List ℕ) {here : ℕ} → NoneLeft authenticated r here → to_come r leave here ≡ []
 unfolding joined_in leaving
 none-to-come leave x = ap (λ (es : List walk.Entry). joined (leaving leave es)) x.entries

@@ -1,12 +1,11 @@
 -- The bytes of a header by its fields are those of the definitions, which cut it in two around its state; only the grouping differs. With the name, the data
 -- and the padding behind it, it is a whole entry, and with stamp and GUID of no more than 16 bytes it is no longer than the entry's size says.
 -- Assumes nothing.
-use Prim.Native.Nat.{ℕ, zero, suc, ◌+◌, ◌-◌, ◌≤◌}
-use native.Mathlib.Nat.{suc-add}
+use Prim.Native.Nat.{ℕ, ◌+◌, ◌-◌, ◌≤◌}
 use native.Mathlib.Omega.{arith}
-use mathlib.Core.Path.{◌≡◌, refl, sym, ap, ◌∙◌}
+use mathlib.Core.Path.{◌≡◌, refl, sym, ap}
 use mathlib.Core.List.{List, [], ◌∷◌, ◌++◌, append_assoc}
-use lib.ListN.{length, take, set, replicate, length-append, length-replicate}
+use lib.ListN.{length, replicate, length-append, length-replicate}
 use Rattle.model.specs.Lists.{bytes32}
 use Rattle.model.specs.Entry.{header_front, header_rest, rounded, Value, plain_size, entry_size_def, entry_bytes, entry_bytes_in, extra_bytes, header_rest_in}
 use Rattle.output.specs.Text.{Wrote}
@@ -60,26 +59,10 @@ pub entry-wrote : (s : ℕ) (v : Value) {at n₁ n₂ n₃ n₄ : ℕ} {l l₁ l
     → Wrote (entry_bytes s v) at l l₄ n₄
 entry-wrote s v h n b p = wrote_as (entry-parts s v) (wrote-append (wrote-append (wrote-append h n) b) p)
 
--- up to three FF bytes
-pub padding : (n : ℕ) → n ≤ 3 → take {A = ℕ} n (0xFF ∷ 0xFF ∷ 0xFF ∷ []) ≡ replicate n 0xFF
-padding zero h = refl
-padding (suc zero) h = refl
-padding (suc (suc zero)) h = refl
-padding (suc (suc (suc zero))) h = refl
-padding (suc (suc (suc (suc n)))) h = absurd (omega arith)
-
 pub entry-short : (s : ℕ) (v : Value) → length v.stamp ≤ 16 → length v.vendor ≤ 16 → length (entry_bytes s v) ≤ entry_size_def v
 entry-short s v h k =
     let l = header-length s v.attributes v.stamp (length v.name) (length v.bytes) v.vendor in
     rw (← entry-parts s v) (simp (length-append, length-replicate, l) (omega arith))
-
--- one FF byte more
-replicate_more : (i : ℕ) → ◌++◌ {A = ℕ} (replicate i 0xFF) (0xFF ∷ []) ≡ replicate (i + 1) 0xFF
-replicate_more zero = refl
-replicate_more (suc i) = ap (λ (l : List ℕ). 0xFF ∷ l) (replicate_more i) ∙ ap (λ (k : ℕ). replicate k 0xFF) (sym (suc-add i 1))
-
-pub wrote_one : (i : ℕ) {at : ℕ} {l l' : List ℕ} → Wrote (replicate i 0xFF) at l l' (at + i) → Wrote (replicate (i + 1) 0xFF) at l (set l' (at + i) 0xFF) (at + (i + 1))
-wrote_one i {at} {l} {l'} w = wrote_as (replicate_more i) (wrote-append w (record { place = omega arith; buffer = refl }))
 
 -- with the data in two parts
 pub entry-joined : (s a : ℕ) (name vendor stamp old own : List ℕ) {at n₁ n₂ n₃ n₄ n₅ : ℕ} {l l₁ l₂ l₃ l₄ l₅ : List ℕ}
@@ -93,6 +76,3 @@ entry-joined s a name vendor stamp old own h n o w p =
     entry-wrote s (record { name = name; vendor = vendor; attributes = a; stamp = stamp; bytes = old ++ own })
     (wrote_as (ap (λ (k : ℕ). header_bytes_def s a stamp (length name) k vendor) e) h) n (wrote-append o w)
     (wrote_as (ap (λ (k : ℕ). replicate (rounded k - k) 0xFF) f) p)
-
-pub blank-all : {i len at : ℕ} {l l' : List ℕ} → i ≡ len → Wrote (replicate i 0xFF) at l l' (at + i) → Wrote (replicate len 0xFF) at l l' (at + len)
-blank-all e w = rw (← e) w

@@ -2,16 +2,15 @@
 -- that of its 3F entry, else of its 3E entry.
 -- Assumes nothing.
 use Prim.Native.Nat.{ℕ, zero, suc, ◌+◌, ◌-◌, ◌≤◌, ◌<◌}
-use native.Mathlib.Numerals.{add-one}
 use native.Mathlib.Omega.{arith}
-use mathlib.Core.Path.{◌≡◌, refl, sym, ap, ◌∙◌, subst, fun_ext}
-use mathlib.Core.Logic.{◌≢◌}
+use mathlib.Core.Path.{◌≡◌, refl, sym, ap, ap₂, ◌∙◌, subst, fun_ext}
 use mathlib.Core.Bool.{Bool, true, false, not, cond, ◌||◌, or-true, or-false}
 use mathlib.Core.List.{List, [], ◌∷◌, ◌++◌, map, map-append}
 use mathlib.Core.Option.{Option, none, some}
-use lib.ListN.{length, drop, get_or, replicate, drop_of_length-le}
-use lib.Seq.{drop-cons}
+use lib.ListN.{length, drop, replicate}
 use lib.Dec.{eqb}
+use Rattle.std.specs.List.{list_any}
+use Rattle.std.proofs.lemmas.Bool.Decides.{nat_tests}
 use borrow.Author.Tests.{eq-eqb, ne_eqb}
 use Rattle.model.specs.Layout.{authenticated, header_length}
 use Rattle.model.specs.Lists.{any, keep, first, or_else, on_some, among}
@@ -30,15 +29,12 @@ use Rattle.compose.specs.Compose.{leaving, values_but, leave_of}
 
 -- ---- an offset looked for among others
 
-module _ (n : ℕ) (l : List ℕ) (i : ℕ) where
-  pub among-here : i < length l → n ≡ get_or l i 0 → among (drop i l) n ≡ true
-  among-here h e = ap (any (eqb n)) (drop-cons l i 0 h) ∙ rw (eq-eqb n (get_or l i 0) e)
+turned : (m n : ℕ) → eqb m n ≡ eqb n m
+turned m n = grind (arith, nat_tests)
 
-  pub among_next : i < length l → n ≢ get_or l i 0 → among (drop (i + 1) l) n ≡ among (drop i l) n
-  among_next h e = ap (λ (k : ℕ). any (eqb n) (drop k l)) (add-one i) ∙ sym (ap (any (eqb n)) (drop-cons l i 0 h) ∙ rw (ne_eqb n (get_or l i 0) e))
-
-  pub among-end : length l ≤ i → among (drop i l) n ≡ false
-  among-end e = ap (any (eqb n)) (drop_of_length-le l {i = i} e)
+pub among-found : (leave : List ℕ) (n : ℕ) → list_any (λ m. eqb m n) leave ≡ among leave n
+among-found [] n = refl
+among-found (m ∷ leave) n = ap₂ (λ (x y : Bool). x || y) (turned m n) (among-found leave n)
 
 -- ---- the offsets of a walk rise
 

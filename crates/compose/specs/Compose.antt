@@ -1,11 +1,10 @@
 -- The bytes of an entry's header by its fields, and the values that a compaction carries over.
-use Rattle.std.specs.Prelude.{ℕ, not, List, [], ◌∷◌, ◌++◌, map, replicate}
+use Rattle.std.specs.Prelude.{ℕ, not, Option, Some, None, List, [], ◌∷◌, ◌++◌, map, replicate}
 use Rattle.model.specs.Lists.{bytes32, keep, among}
 use Rattle.model.specs.Entry.{header_front, Value}
 use Rattle.model.specs.Walk.{Entry, entry_value_def}
 use Rattle.model.specs.Region.{entries, is_value}
-use Rattle.values.specs.declared.Found.{Found}
-use Rattle.values.specs.declared.Found.TheVariants.{At, Nothing}
+use Rattle.region.specs.declared.Placed.{Placed}
 
 -- up to the stamp: start id, state, zero, attributes, "We write count and key index as 0"
 unfoldable pub before_stamp_def : ℕ → ℕ → List ℕ
@@ -29,6 +28,6 @@ unfoldable pub values_but : List ℕ → List ℕ → List Value
 values_but leave r = leaving leave (keep (is_value (entries r)) (entries r))
 
 -- the offset of what is found as the one of eight, and 0 for each that is not used: no entry is there
-abbrev pub leave_of : Found → List ℕ
-leave_of (At at e) = at ∷ replicate 7 0
-leave_of Nothing = replicate 8 0
+abbrev pub leave_of : Option Placed → List ℕ
+leave_of (Some p) = p.at ∷ replicate 7 0
+leave_of None = replicate 8 0

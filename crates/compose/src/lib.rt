@@ -3,7 +3,7 @@
 #![tactic(auto)]
 
 ghost use Rattle.std.specs.Prelude.{◌≡◌, ◌≢◌, ◌+◌, ◌-◌, ◌^◌, ◌<◌, ◌≤◌, [], ◌∷◌, ◌++◌, length, replicate, leb};
-ghost use Rattle.model.specs.Lists.{bytes32, among};
+ghost use Rattle.model.specs.Lists.{bytes32};
 ghost use Rattle.model.specs.Image.{region_header_def};
 ghost use Rattle.model.specs.Entry.{header_size_def, rounded, entry_size_def, entry_bytes};
 ghost use Rattle.model.specs.Walk.{entry_value_def};
@@ -12,21 +12,15 @@ ghost use Rattle.region.specs.Walk.{entry_at};
 ghost use Rattle.output.specs.Text.{Wrote};
 ghost use Rattle.compose.specs.Compose.{before_stamp_def, behind_stamp_def, header_bytes_def, leaving, values_but, leave_of};
 
-use layout::Entry;
 use model::Layout;
-use region::walk;
-use values::{Found, NextValue, list};
+use region::{Placed, walk};
+use values::list;
 
 // A number as four bytes, little-endian.
 pub fn bytes32(n: usize) -> [u8; 4]
     ensures { result ≡ bytes32 n }
 {
-    [
-        (n % 256) as u8,
-        (n / 0x100 % 256) as u8,
-        (n / 0x10000 % 256) as u8,
-        (n / 0x1000000 % 256) as u8,
-    ]
+    ((n % 0x1_0000_0000) as u32).to_le_bytes()
 }
 
 // A header up to its stamp: start id, state, zero, attributes, monotonic count 0.
@@ -78,9 +72,7 @@ pub fn put_padding(out: &mut [u8], at: usize, size: usize) -> usize
     requires { (at < 2 ^ 63) × (size < 2 ^ 62) }
     ensures { Wrote (replicate (rounded size - size) 0xFF) at out.old out.new result }
 {
-    let blank = *b"\xFF\xFF\xFF";
-    let n = layout::rounded(size) - size;
-    output::put_bytes(out, at, &blank[..n])
+    output::put_fill(out, at, 0xFF, layout::rounded(size) - size)
 }
 
 // An entry in the state given, whole: header, name, data (those kept, then those given), padding.
@@ -131,10 +123,7 @@ pub fn put_entry(
 fn lies_within(size: usize, at: usize, len: usize) -> bool
     ensures { result ≡ leb (at + len) size }
 {
-    if size < at {
-        return false;
-    }
-    len <= size - at
+    at <= size && len <= size - at
 }
 
 // Bytes that all have a place in the buffer.
@@ -142,19 +131,20 @@ fn put_within(out: &mut [u8], at: usize, src: &[u8])
     requires { at + length src.now ≤ length out.old }
     ensures { Wrote src.now at out.old out.new (at + length src.now) }
 {
-    let mut i = 0;
-    while i < src.len() {
-        out[at + i] = src[i];
-        i += 1;
-    }
+    out[at..at + src.len()].copy_from_slice(src);
 }
 
 // A value whose entry lies within the region, and within the buffer: one copy from its stamp on, in which key index and sizes are then written anew.
-fn carry(out: &mut [u8], at: usize, region: &[u8], place: usize, e: Entry) -> usize
-    requires { (at < 2 ^ 62) × (length region.now ≤ 28672) × (place + (header_size_def + e.name + e.size) ≤ length region.now)
-        × (at + (header_size_def + e.name + e.size) ≤ length out.old) × (e.state ≢ 0xFF) }
-    ensures { Wrote (entry_bytes 0x3F (entry_value_def (entry_at region.now place e))) at out.old out.new result }
+fn carry(out: &mut [u8], at: usize, region: &[u8], placed: Placed) -> usize
+    requires { (at < 2 ^ 62) × (length region.now ≤ 28672)
+        × (placed.at + (header_size_def + placed.entry.name + placed.entry.size) ≤ length region.now)
+        × (at + (header_size_def + placed.entry.name + placed.entry.size) ≤ length out.old) × (placed.entry.state ≢ 0xFF) }
+    ensures { Wrote (entry_bytes 0x3F (entry_value_def (entry_at region.now placed.at placed.entry))) at out.old out.new result }
 {
+    let Placed {
+        at: place,
+        entry: e,
+    } = placed;
     let size = Layout::HEADER + e.name as usize + e.size as usize;
     let from = place + Layout::STAMP;
     let to = place + size;
@@ -167,10 +157,14 @@ fn carry(out: &mut [u8], at: usize, region: &[u8], place: usize, e: Entry) -> us
 }
 
 // A value of whose entry the region, or the buffer, holds not all: field by field, and of name and data what there is.
-fn put_cut(out: &mut [u8], at: usize, region: &[u8], place: usize, e: Entry) -> usize
+fn put_cut(out: &mut [u8], at: usize, region: &[u8], placed: Placed) -> usize
     requires { (at < 2 ^ 62) × (length region.now ≤ 28672) }
-    ensures { Wrote (entry_bytes 0x3F (entry_value_def (entry_at region.now place e))) at out.old out.new result }
+    ensures { Wrote (entry_bytes 0x3F (entry_value_def (entry_at region.now placed.at placed.entry))) at out.old out.new result }
 {
+    let Placed {
+        at: place,
+        entry: e,
+    } = placed;
     let stamp = walk::stamp_of(region, place);
     let name = walk::name_of(Layout::AUTHENTICATED, region, place, e);
     let vendor = walk::vendor_of(Layout::AUTHENTICATED, region, place);
@@ -180,53 +174,32 @@ fn put_cut(out: &mut [u8], at: usize, region: &[u8], place: usize, e: Entry) -> 
 }
 
 // The entry of a value that is carried over: its stamp is kept.
-fn put_value(out: &mut [u8], at: usize, region: &[u8], place: usize, e: Entry) -> usize
+fn put_value(out: &mut [u8], at: usize, region: &[u8], placed: Placed) -> usize
     requires { (at < 2 ^ 62) × (length region.now ≤ 28672) }
-    ensures { Wrote (entry_bytes 0x3F (entry_value_def (entry_at region.now place e))) at out.old out.new result
-        × (result ≤ at + entry_size_def (entry_value_def (entry_at region.now place e))) }
+    ensures { Wrote (entry_bytes 0x3F (entry_value_def (entry_at region.now placed.at placed.entry))) at out.old out.new result
+        × (result ≤ at + entry_size_def (entry_value_def (entry_at region.now placed.at placed.entry))) }
 {
-    if e.state != 0xFF {
-        let size = Layout::HEADER + e.name as usize + e.size as usize;
-        if lies_within(region.len(), place, size) {
-            if lies_within(out.len(), at, size) {
-                return carry(out, at, region, place, e);
-            }
-        }
+    let e = placed.entry;
+    let size = Layout::HEADER + e.name as usize + e.size as usize;
+    if e.state != 0xFF
+        && lies_within(region.len(), placed.at, size)
+        && lies_within(out.len(), at, size)
+    {
+        return carry(out, at, region, placed);
     }
-    put_cut(out, at, region, place, e)
-}
-
-// Whether an offset is one of those to leave out.
-fn is_left_out(leave: &[usize], place: usize) -> bool
-    ensures { result ≡ among leave.now place }
-{
-    let mut i = 0;
-    while i < leave.len() {
-        if place == leave[i] {
-            return true;
-        }
-        i += 1;
-    }
-    false
+    put_cut(out, at, region, placed)
 }
 
 // A value carried over unless its entry is one to leave out.
-fn put_other(
-    out: &mut [u8],
-    at: usize,
-    region: &[u8],
-    place: usize,
-    e: Entry,
-    leave: &[usize],
-) -> usize
+fn put_other(out: &mut [u8], at: usize, region: &[u8], placed: Placed, leave: &[usize]) -> usize
     requires { (at < 2 ^ 62) × (length region.now ≤ 28672) }
-    ensures { Wrote (joined (leaving leave.now (entry_at region.now place e ∷ []))) at out.old out.new result
-        × (result ≤ at + entry_size_def (entry_value_def (entry_at region.now place e))) }
+    ensures { Wrote (joined (leaving leave.now (entry_at region.now placed.at placed.entry ∷ []))) at out.old out.new result
+        × (result ≤ at + entry_size_def (entry_value_def (entry_at region.now placed.at placed.entry))) }
 {
-    if is_left_out(leave, place) {
+    if leave.contains(&placed.at) {
         return at;
     }
-    put_value(out, at, region, place, e)
+    put_value(out, at, region, placed)
 }
 
 // The values in flash order, but those to leave out.
@@ -235,35 +208,32 @@ fn put_others(out: &mut [u8], at: usize, region: &[u8], leave: &[usize]) -> usiz
     ensures { Wrote (joined (values_but leave.now region.now)) at out.old out.new result }
 {
     let mut next = at;
-    let mut here: usize = layout::REGION_HEADER;
-    loop {
-        let v = list::next_value(Layout::AUTHENTICATED, region, here);
-        let NextValue::At(place, e, after) = v else {
-            return next;
-        };
-        next = put_other(out, next, region, place, e, leave);
+    let mut here = layout::REGION_HEADER;
+    while let Some((placed, after)) = list::next_value(Layout::AUTHENTICATED, region, here) {
+        next = put_other(out, next, region, placed, leave);
         here = after;
     }
+    next
 }
 
 // The offset of what is found, to be left out: 0 is the offset of no entry.
-pub fn left_out(found: Found) -> [usize; 8]
+pub fn left_out(found: Option<Placed>) -> [usize; 8]
     ensures { result ≡ leave_of found }
 {
     match found {
-        Found::At(at, _) => [at, 0, 0, 0, 0, 0, 0, 0],
-        Found::Nothing => [0; 8],
+        Some(placed) => [placed.at, 0, 0, 0, 0, 0, 0, 0],
+        None => [0; 8],
     }
 }
 
-// The front of a compacted region: its header, and the values but those whose entries are at one of eight offsets.
-pub fn put_values(out: &mut [u8], region: &[u8], leave: [usize; 8]) -> usize
+// The front of a compacted region: its header, and the values but those whose entries are at one of some offsets.
+pub fn put_values(out: &mut [u8], region: &[u8], leave: &[usize]) -> usize
     requires { length region.now ≤ 28672 }
-    ensures { Wrote (region_header_def (length region.now) ++ joined (values_but leave region.now)) 0 out.old out.new result }
+    ensures { Wrote (region_header_def (length region.now) ++ joined (values_but leave.now region.now)) 0 out.old out.new result }
 {
     let header = layout::fixed::region_header(Layout::AUTHENTICATED, region.len());
     let next = output::put_bytes(out, 0, &header);
-    put_others(out, next, region, &leave)
+    put_others(out, next, region, leave)
 }
 
 // FF bytes up to the end of what is composed.
@@ -271,10 +241,5 @@ pub fn put_blank(out: &mut [u8], at: usize, len: usize) -> usize
     requires { at + len ≤ length out.old }
     ensures { Wrote (replicate len 0xFF) at out.old out.new result }
 {
-    let mut i = 0;
-    while i < len {
-        out[at + i] = 0xFF;
-        i += 1;
-    }
-    at + len
+    output::put_fill(out, at, 0xFF, len)
 }

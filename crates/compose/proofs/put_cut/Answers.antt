@@ -12,12 +12,12 @@ use Rattle.compose.proofs.put_cut.Goals as goal
 pub put_entry-requires : goal.put_entry-requires
 put_entry-requires c =
     let a = c.args in
-    let s = short authenticated a.region.now a.place a.e c.name_of-name.ensures c.vendor_of-vendor.ensures c.data_of-data.ensures in
-    (omega arith, omega (arith, stamp-short a.region.now a.place c.stamp_of-stamp.ensures), omega (arith, s.name-short), omega (arith, s.vendor-short), omega (arith, s.bytes-short), search rules)
+    let s = short authenticated a.region.now a.placed.at a.placed.entry c.name_of-name.ensures c.vendor_of-vendor.ensures c.data_of-data.ensures in
+    (omega arith, omega (arith, stamp-short a.region.now a.placed.at c.stamp_of-stamp.ensures), omega (arith, s.name-short), omega (arith, s.vendor-short), omega (arith, s.bytes-short), search rules)
 
 pub returns : goal.returns
 returns c =
     let a = c.args in
     let e = append-nil c.data_of-data.result.now ∙ c.data_of-data.ensures in
     let w = c.put_entry.ensures in
-    wrote_as (entry_value a.region.now a.place a.e c.stamp_of-stamp.ensures c.name_of-name.ensures c.vendor_of-vendor.ensures e) w
+    wrote_as (entry_value a.region.now a.placed.at a.placed.entry c.stamp_of-stamp.ensures c.name_of-name.ensures c.vendor_of-vendor.ensures e) w

@@ -2,7 +2,6 @@
 -- the region falls.
 -- Assumes nothing.
 use Prim.Native.Nat.{◌+◌, ◌-◌, ◌≤◌}
-use mathlib.Core.Path.{◌≡◌}
 use lib.ListN.{length}
 use Rattle.model.specs.Compact.{joined}
 use Rattle.output.proofs.Writing.{Partly}
@@ -10,9 +9,9 @@ use Rattle.compose.specs.Compose.{values_but}
 use Rattle.compose.proofs.Carried.{to_come}
 use Rattle.compose.proofs.put_others.Given as goal
 
-abbrev pub invariant-loop-place : goal.invariant-loop-place
-invariant-loop-place l =
-    (l.next ≤ l.at + l.here) × (length l.out ≡ length l.initial.out) × Partly (joined (values_but l.leave l.region)) (to_come l.region l.leave l.here) l.at l.initial.out l.out l.next
+abbrev pub invariant-loop-placed : goal.invariant-loop-placed
+invariant-loop-placed l =
+    (l.next ≤ l.at + l.here) × Partly (joined (values_but l.leave l.region)) (to_come l.region l.leave l.here) l.at l.initial.out l.out l.next
 
-abbrev pub decreases-loop-place : goal.decreases-loop-place
-decreases-loop-place l = length l.region - l.here
+abbrev pub decreases-loop-placed : goal.decreases-loop-placed
+decreases-loop-placed l = length l.region - l.here
