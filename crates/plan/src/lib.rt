@@ -130,7 +130,7 @@ pub fn in_numbers(planned: Result<Planned, Rule>) -> HostPlan
         Err(rule) => {
             let ops = operations(nothing());
             HostPlan {
-                rule: model::number(rule),
+                rule: u32::from(rule),
                 deciding: NONE_DECIDES as u64,
                 ops,
             }

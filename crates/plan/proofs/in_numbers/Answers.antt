@@ -10,4 +10,4 @@ returns-in-Ok c = rw (c.in-Ok.is, c.unwrap_or.ensures, c.operations-ops.ensures)
 
 pub returns-in-Err : goal.returns-in-Err
 unfolding in_numbers_def refusal_of
-returns-in-Err c = rw (c.in-Err.is, c.number.ensures, c.operations-ops-in-Err.ensures, c.nothing.ensures, none_at_all)
+returns-in-Err c = rw (c.in-Err.is, c.from.ensures, c.operations-ops-in-Err.ensures, c.nothing.ensures, none_at_all)
