@@ -22,7 +22,7 @@ pub struct Look {
 fn is_state(r: u8) -> bool
     ensures { result ≡ among record_states r }
 {
-    (r == 0xFF) | (r == 0xFE) | (r == 0xFC) | (r == 0xF8)
+    matches!(r, 0xFF | 0xFE | 0xFC | 0xF8)
 }
 
 // The look after one more record, with i before it: "no used record after an unused one" holds where all i are used.
@@ -49,10 +49,8 @@ fn look_through(records: &[u8]) -> Look
         used: 0,
         last: 0xFF,
     };
-    let mut i = 0;
-    while i < records.len() {
-        l = after_record(l, i, records[i]);
-        i += 1;
+    for (i, &r) in records.iter().enumerate() {
+        l = after_record(l, i, r);
     }
     l
 }
@@ -61,14 +59,10 @@ fn look_through(records: &[u8]) -> Look
 fn used_first(records: &[u8]) -> usize
     ensures { result ≤ length records.now }
 {
-    let mut k = 0;
-    while k < records.len() {
-        if records[k] == 0xFF {
-            return k;
-        }
-        k += 1;
-    }
-    k
+    records
+        .iter()
+        .position(|&r| r == 0xFF)
+        .unwrap_or(records.len())
 }
 
 // A look at a block of any length. Where all is FF behind the first used records, these tell everything.
@@ -83,14 +77,10 @@ pub fn look_at(w: &[u8]) -> Look
         return look_through(&w[..k]);
     }
     let l = look_through(&w[..RECORDS]);
-    if l.formed {
-        return Look {
-            formed: slices::is_blank(&w[RECORDS..]),
-            used: l.used,
-            last: l.last,
-        };
+    Look {
+        formed: l.formed && slices::is_blank(&w[RECORDS..]),
+        ..l
     }
-    l
 }
 
 // Well formed and not ending in FC: a call may find the block so.

@@ -8,6 +8,5 @@ returns-then-r-eq255 c = let a = c.args in onward-unused a.l a.i a.r c.if-r-eq25
 
 pub returns : goal.returns
 returns c =
-    let s = c in
-    let a = s.args in
-    rw c.is_state.ensures (onward-used a.l a.i a.r (ne_eqb a.r 0xFF s.if-r-eq255.false))
+    let a = c.args in
+    rw c.is_state.ensures (onward-used a.l a.i a.r (ne_eqb a.r 0xFF c.if-r-eq255.false))

@@ -44,16 +44,14 @@ slice_bounds-is_blank-end c =
 
 pub slice_bounds-look_through-end : goal.slice_bounds-look_through-end
 slice_bounds-look_through-end c =
-    let u = c in
-    let w = u.args.w.now in
-    sym (length-take-le u.used_first-k.result w (few w u.used_first-k.result u.if-w-le-RECORDS.false u.used_first-k.ensures).1)
+    let w = c.args.w.now in
+    sym (length-take-le c.used_first-k.result w (few w c.used_first-k.result c.if-w-le-RECORDS.false c.used_first-k.ensures).1)
 
 pub returns-then-is_blank : goal.returns-then-is_blank
 returns-then-is_blank c =
-    let u = c in
-    let w = u.args.w.now in
-    let k = u.used_first-k.result in
-    let f = few w k u.if-w-le-RECORDS.false u.used_first-k.ensures in
+    let w = c.args.w.now in
+    let k = c.used_first-k.result in
+    let f = few w k c.if-w-le-RECORDS.false c.used_first-k.ensures in
     let t : take (length w - k) (drop k w) ≡ drop k w = take_all (length w - k) (drop k w) (simp length-drop (omega arith)) in
     c.look_through-then-is_blank.ensures ∙ look-front w k f.0 f.1 (ap all_ff (sym t) ∙ sym c.is_blank.ensures ∙ c.if-is_blank.true)
 
@@ -65,13 +63,12 @@ slice_bounds-look_through-end-2 c =
 
 pub returns-then-l : goal.returns-then-l
 returns-then-l c =
-    let k = c in
-    let w = k.args.w.now in
-    let l = k.look_through-l.result in
+    let w = c.args.w.now in
+    let l = c.look_through-l.result in
     let t : take (length w - 64) (drop 64 w) ≡ drop 64 w = take_all (length w - 64) (drop 64 w) (simp length-drop (omega arith)) in
-    rw (c.is_blank-then-l.ensures ∙ ap all_ff t) (look-in-order w l k.look_through-l.ensures c.if-l.true)
+    rw (c.is_blank-then-l.ensures ∙ ap all_ff t) (look-in-order w l c.look_through-l.ensures c.if-l.true)
 
-pub returns : goal.returns
-returns c =
+pub returns-else-l : goal.returns-else-l
+returns-else-l c =
     let w = c.args.w.now in
     look-disordered w c.look_through-l.result c.look_through-l.ensures c.if-l.false

@@ -1,13 +1,10 @@
 -- `records::look_through` meets its contract. The loop's invariant: what is told of all records is what comes of going on, from what is told now,
 -- through the records left. Assumes nothing.
-use Prim.Native.Nat.{◌-◌, ◌≤◌}
+use Prim.Native.Nat.{◌≤◌}
 use mathlib.Core.Path.{◌≡◌}
-use lib.ListN.{length, drop}
+use lib.ListN.{drop}
 use Rattle.records.specs.Passed.{unread, through}
 use Rattle.records.proofs.look_through.Given as goal
 
 abbrev pub invariant-loop-i : goal.invariant-loop-i
-invariant-loop-i l = (l.i ≤ length l.records) × (l.l.used ≤ l.i) × (through unread 0 l.records ≡ through l.l l.i (drop l.i l.records))
-
-abbrev pub decreases-loop-i : goal.decreases-loop-i
-decreases-loop-i l = length l.records - l.i
+invariant-loop-i l = (l.l.used ≤ l.i) × (through unread 0 l.records ≡ through l.l l.i (drop l.i l.records))
