@@ -4,4 +4,4 @@ pub mod Cut
 -- What a look at its parts tells
 pub mod Look
 -- What rules 1 and 2 tell of an image
-pub mod Ready
+pub mod Readiness

@@ -1,21 +1,34 @@
 -- What the functions that look at the parts of an image tell of it: each told it of the part that was cut, which is the image's own.
 -- Assumes nothing.
 use Prim.Native.Nat.{ℕ}
-use mathlib.Core.Path.{◌≡◌, sym, ap, ◌∙◌}
-use mathlib.Core.Bool.{Bool, true, cond, ◌&&◌}
+use native.Mathlib.Omega.{arith}
+use mathlib.Core.Path.{◌≡◌, refl, sym, ap, ◌∙◌}
+use mathlib.Core.Bool.{Bool, true, false, cond, ◌&&◌}
 use mathlib.Core.List.{List}
+use Rattle.std.specs.Prelude.{Option, Some, None, Result, Err, ok_or}
+use Rattle.std.specs.Option.{option_map}
+use Rattle.std.proofs.lemmas.Option.{none-some, same_Some, cond_some}
 use Rattle.model.specs.declared.Layout.{Layout}
+use Rattle.model.specs.declared.Rule.{Rule}
 use Rattle.model.specs.Lists.{all_ff}
 use Rattle.model.specs.Region.{entries_in, tail_at_in, tail_in, sound_in, clean_in}
 use Rattle.model.specs.Work.{well_formed, used_records, ends_in_fc_def, idle}
-use Rattle.model.proofs.Tests.{and_split}
 use Rattle.records.specs.Look.{look_at_def, idle_at, ends_at}
 use Rattle.records.specs.declared.Look.{Look}
 use Rattle.records.proofs.Block.{look-idle, look-closed}
-use Rattle.region.specs.Judge.{judged_in}
+use Rattle.region.specs.Judge.{sound_of, judged_in}
 use Rattle.region.specs.Met.{key_from, met_of, searched_in}
-use Rattle.region.specs.declared.Judged.{Judged}
+use Rattle.region.specs.declared.Sound.{Sound}
 use Rattle.region.specs.declared.Searched.{Searched}
+
+-- the rule broken where nothing is found
+pub rule-broken : {T : Type 0} {o : Option T} {e f : Rule} → ◌≡◌ {A = Result T Rule} (Err f) (ok_or o e) → o ≡ None → f ≡ e
+rule-broken {T} {e = e} {f} v n = let q : ◌≡◌ {A = Result T Rule} (Err f) (Err e) = v ∙ ap (λ o. ok_or o e) n in cc
+
+-- a sound region that is clean
+abbrev pub is_clean : Option Sound → Bool
+is_clean (Some s) = s.clean
+is_clean None = false
 
 -- cut from the image as w', which is its part w
 module _ {w w' : List ℕ} (same : w' ≡ w) {l : Look} (looked : l ≡ look_at_def w') {t : Bool} where
@@ -30,36 +43,45 @@ module _ {w w' : List ℕ} (same : w' ≡ w) {l : Look} (looked : l ≡ look_at_
   unfolding look_at_def
   told-used = ap (λ (x : Look). x.used) looked ∙ ap used_records same
 
-module _ (y : Layout) {r r' : List ℕ} (same : r' ≡ r) {j : Judged} (judged : j ≡ judged_in y r') where
-  its : j ≡ judged_in y r
-  its = judged ∙ ap (judged_in y) same
-
-  pub told-clean : clean_in y r ≡ j.clean
+-- what is judged of the part
+module _ (y : Layout) {r r' : List ℕ} (same : r' ≡ r) {o : Option Sound} (judged : o ≡ judged_in y r') where
+  pub told-sound : {s : Sound} → o ≡ Some s → (sound_in y r ≡ true) × (s ≡ sound_of y r)
   unfolding judged_in
-  told-clean = sym (ap (λ (x : Judged). x.clean) its)
+  told-sound {s} e =
+      let t = cond_some (sound_in y r) (sound_of y r) s (sym (judged ∙ ap (judged_in y) same) ∙ e) in
+      (t.0, sym t.1)
 
-  pub told-sound : sound_in y r ≡ j.sound
+  pub told-unsound : o ≡ None → sound_in y r ≡ false
   unfolding judged_in
-  told-sound = sym (ap (λ (x : Judged). x.sound) its)
+  told-unsound e = go (sound_in y r) (sym (judged ∙ ap (judged_in y) same) ∙ e)
+    where
+      go : (t : Bool) → cond t (Some (sound_of y r)) None ≡ None → t ≡ false
+      go true q = let z : ◌≡◌ {A = ℕ} 0 1 = cc in absurd (omega arith)
+      go false q = refl
 
-  told-tail : j.tail ≡ cond (sound_in y r) (tail_at_in y r) 0
-  unfolding judged_in
-  told-tail = ap (λ (x : Judged). x.tail) its
-
-  -- a clean region's tail
-  pub told-clean-tail : j.clean ≡ true → j.tail ≡ tail_at_in y r
-  unfolding clean_in
-  told-clean-tail e = told-tail ∙ rw (and_split (sound_in y r) (all_ff (tail_in y r)) (told-clean ∙ e)).0
+  -- an unsound region is not clean
+  pub told-clean : is_clean o ≡ clean_in y r
+  unfolding judged_in clean_in
+  told-clean = ap is_clean (judged ∙ ap (judged_in y) same) ∙ go (sound_in y r) (all_ff (tail_in y r))
+    where
+      go : (t u : Bool) → is_clean (cond t (Some (record { tail = tail_at_in y r; clean = t && u })) None) ≡ (t && u)
+      go true u = refl
+      go false u = refl
 
 -- with a sought name
-module _ (y : Layout) {r r' : List ℕ} (same : r' ≡ r) (key : List ℕ) {s : Searched} (searched : s ≡ searched_in y r' key) where
-  pub told-judged : s.judged ≡ judged_in y r'
+module _ (y : Layout) {r r' : List ℕ} (same : r' ≡ r) (key : List ℕ) {o : Option Searched} (searched : o ≡ searched_in y r' key) where
+  pub told-judged : option_map (λ (s : Searched). s.sound) o ≡ judged_in y r'
   unfolding searched_in
-  told-judged = ap (λ (x : Searched). x.judged) searched
+  told-judged = ap (option_map (λ (s : Searched). s.sound)) searched ∙ go (judged_in y r')
+    where
+      go : (j : Option Sound) → option_map (λ (s : Searched). s.sound) (option_map (λ (s : Sound). record { sound = s; met = met_of (key_from key) (entries_in y r') }) j) ≡ j
+      go (Some s) = refl
+      go None = refl
 
-  -- of a clean region
-  pub told-met : s.judged.clean ≡ true → s.met ≡ met_of (key_from key) (entries_in y r)
-  unfolding searched_in clean_in
-  told-met e =
-      ap (λ (x : Searched). x.met) (searched ∙ ap (λ (x : List ℕ). searched_in y x key) same)
-      ∙ rw (and_split (sound_in y r) (all_ff (tail_in y r)) (told-clean y same told-judged ∙ e)).0
+  pub told-met : {s : Searched} → o ≡ Some s → s.met ≡ met_of (key_from key) (entries_in y r)
+  unfolding searched_in
+  told-met {s} e = go (judged_in y r) (sym (searched ∙ ap (λ (x : List ℕ). searched_in y x key) same) ∙ e)
+    where
+      go : (j : Option Sound) → option_map (λ (s : Sound). record { sound = s; met = met_of (key_from key) (entries_in y r) }) j ≡ Some s → s.met ≡ met_of (key_from key) (entries_in y r)
+      go (Some j) q = sym (ap (λ (x : Searched). x.met) (same_Some _ _ q))
+      go None q = absurd (none-some _ q)

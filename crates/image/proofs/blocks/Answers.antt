@@ -5,18 +5,19 @@ use mathlib.Core.Path.{sym}
 use lib.ListN.{length}
 use Rattle.image.proofs.Cut.{blocks-right, blocks-wrong}
 use Rattle.image.proofs.blocks.Goals as goal
-
-pub returns-then-b-lt1 : goal.returns-then-b-lt1
-returns-then-b-lt1 c = (sym (blocks-wrong c.args.image.now (λ b l h n. omega (arith, c.if-b-lt1.true))), omega arith)
-
-pub returns-then-b-gt7 : goal.returns-then-b-gt7
-returns-then-b-gt7 c = (sym (blocks-wrong c.args.image.now (λ b l h n. omega (arith, c.if-b-gt7.true))), omega arith)
+use Rattle.image.proofs.blocks.Goals.{else-b-ge1-via-then-b-ge1+then-b-le7+else-n-b, else-b-ge1-via-then-b-ge1+else-b-le7, else-b-ge1-via-else-b-ge1}
 
 pub returns-then-n-b : goal.returns-then-n-b
 returns-then-n-b c =
     let img = c.args.image.now in
     (sym (blocks-right img (length img / 8192) (omega arith) (omega arith) (omega (arith, c.if-n-b.true))), omega arith)
 
-pub returns : goal.returns
-returns c =
-    (sym (blocks-wrong c.args.image.now (λ b l h n. c.if-n-b.false (omega arith))), omega arith)
+pub returns-else-b-ge1 : goal.returns-else-b-ge1
+returns-else-b-ge1 c = (
+  sym (blocks-wrong c.args.image.now (λ b l h n. elim c.else-b-ge1.branch [
+    | else-b-ge1-via-then-b-ge1+then-b-le7+else-n-b w ↦ w.if-n-b.false (omega arith)
+    | else-b-ge1-via-then-b-ge1+else-b-le7 w ↦ omega (arith, w.if-b-le7.false)
+    | else-b-ge1-via-else-b-ge1 w ↦ omega (arith, w.if-b-ge1.false)
+  ])),
+  tt,
+)
