@@ -1,6 +1,4 @@
 -- Laws that the proofs of this crate's functions cite.
--- Keys of one vendor
-pub mod Keys
 -- The bytes of a number
 pub mod Bytes
 -- The name of an entry as a part of the bytes

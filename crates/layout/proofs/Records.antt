@@ -1,15 +1,14 @@
 -- A record's name is 26 bytes long, and its digits stand one behind the other, at 16, 18, 20 and 22, with the zero character at 24.
 -- Assumes nothing.
-use Prim.Native.Nat.{ℕ, zero, suc, ◌+◌, ◌*◌, ◌≤◌, ◌<◌}
+use Prim.Native.Nat.{ℕ, zero, suc, ◌+◌, ◌*◌, ◌≤◌}
 use native.Mathlib.Omega.{arith}
-use mathlib.Core.Path.{◌≡◌, refl, ap, ap₂, ◌∙◌}
+use mathlib.Core.Path.{◌≡◌, refl, sym, ap, ap₂, ◌∙◌}
 use mathlib.Core.Logic.{◌≢◌}
-use mathlib.Core.Bool.{Bool, true, false, ◌&&◌, and-true, and-false, or-false, false≢true}
+use mathlib.Core.Bool.{Bool, true, false, ◌&&◌, and_assoc, and-true, and-false, false≢true}
 use mathlib.Core.List.{List, [], ◌∷◌}
 use lib.ListN.{length, get_or, take, drop, length-drop}
-use lib.Dec.{eqb, leb}
+use lib.Dec.{eqb}
 use lib.Seq.{drop-drop, get_or-drop}
-use borrow.Author.Tests.{eq-eqb, ne_eqb, le-leb, lt-leb}
 use Rattle.model.specs.Lists.{same}
 use Rattle.model.specs.Name.{Key, record_vendor_def, record_front_def, is_digit_def, digits, record_name}
 use Rattle.model.proofs.Tests.{and_split, same-eq}
@@ -26,9 +25,9 @@ digits-length (suc n) (a ∷ b ∷ s) h =
     let l = digits-length n s (and_split (is_digit_def a && eqb b 0) (digits n s) h).1 in
     omega arith
 
-pub record-length : (k : Key) → length k.name ≢ 26 → record_name k ≡ false
+pub record_length : (k : Key) → length k.name ≢ 26 → record_name k ≡ false
 unfolding record_name
-record-length k h = go (digits 4 (drop 16 k.name)) refl
+record_length k h = go (digits 4 (drop 16 k.name)) refl
   where
     go : (t : Bool) → digits 4 (drop 16 k.name) ≡ t
         → (same (take 16 k.name) record_front_def && digits 4 (drop 16 k.name) && same k.vendor record_vendor_def) ≡ false
@@ -42,26 +41,6 @@ pub record-form : (k : Key) (t : Bool) → (same (take 16 k.name) record_front_d
     → record_name k ≡ (t && same k.vendor record_vendor_def)
 unfolding record_name
 record-form k t h = rw h
-
--- ---- a digit
-
-pub digit_low : (c : ℕ) → c ≤ 0x39 → is_digit_def c ≡ leb 0x30 c
-digit_low c h = rw (le-leb c 0x39 h, lt-leb 0x41 c (omega arith), and-true (leb 0x30 c)) (or-false (leb 0x30 c))
-
-pub digit-high : (c : ℕ) → 0x39 < c → c ≤ 0x46 → is_digit_def c ≡ leb 0x41 c
-digit-high c h k = rw (lt-leb c 0x39 h, le-leb c 0x46 k, and-false (leb 0x30 c)) (and-true (leb 0x41 c))
-
-pub digit-past : (c : ℕ) → 0x46 < c → is_digit_def c ≡ false
-digit-past c h = rw (lt-leb c 0x39 (omega arith), lt-leb c 0x46 h, and-false (leb 0x30 c)) (and-false (leb 0x41 c))
-
-module _ (s : List ℕ) (at : ℕ) where
-  pub digit-low-byte : get_or s (at + 1) 0 ≡ 0 → digit_at s at ≡ is_digit_def (get_or s at 0)
-  unfolding digit_at
-  digit-low-byte h = rw (eq-eqb (get_or s (at + 1) 0) 0 h) (and-true (is_digit_def (get_or s at 0)))
-
-  pub digit-high-byte : get_or s (at + 1) 0 ≢ 0 → digit_at s at ≡ false
-  unfolding digit_at
-  digit-high-byte h = rw (ne_eqb (get_or s (at + 1) 0) 0 h) (and-false (is_digit_def (get_or s at 0)))
 
 -- ---- its digits
 
@@ -89,12 +68,16 @@ last-zero (a ∷ []) h = absurd (omega arith)
 last-zero (a ∷ b ∷ []) h = ap (λ (t : Bool). eqb a 0 && t) (and-true (eqb b 0))
 last-zero (a ∷ b ∷ c ∷ s) h = absurd (omega arith)
 
-pub digits-bytes : (s : List ℕ) → length s ≡ 26
+digits-in-turn : (s : List ℕ) → length s ≡ 26
     → digits 4 (drop 16 s) ≡ (digit_at s 16 && (digit_at s 18 && (digit_at s 20 && (digit_at s 22 && (eqb (get_or s 24 0) 0 && eqb (get_or s 25 0) 0)))))
-digits-bytes s h =
+digits-in-turn s h =
     next-digit 3 s 16 (omega arith)
     ∙ ap (λ (t : Bool). digit_at s 16 && t) (next-digit 2 s 18 (omega arith)
     ∙ ap (λ (t : Bool). digit_at s 18 && t) (next-digit 1 s 20 (omega arith)
     ∙ ap (λ (t : Bool). digit_at s 20 && t) (next-digit 0 s 22 (omega arith)
     ∙ ap (λ (t : Bool). digit_at s 22 && t) (last-zero (drop 24 s) (rw length-drop (omega arith))
     ∙ rw (get_or-drop 24 s 0 0, get_or-drop 24 s 1 0)))))
+
+pub digits_bytes : (s : List ℕ) → length s ≡ 26
+    → digits 4 (drop 16 s) ≡ (digit_at s 16 && digit_at s 18 && digit_at s 20 && digit_at s 22 && eqb (get_or s 24 0) 0 && eqb (get_or s 25 0) 0)
+digits_bytes s h = digits-in-turn s h ∙ sym (simp and_assoc)

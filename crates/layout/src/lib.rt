@@ -54,6 +54,7 @@ pub fn u32_at(s: &[u8], i: usize) -> u32
 }
 
 // The header at the front of `s`, the part of the region from an entry's first byte on; none at the end of the walk.
+#[tactic(auto, unfolding(crate::specs::Head::head_in, model::specs::Entry::read_header_in, model::specs::Entry::header_fields_in))]
 pub fn read_head(y: Layout, s: &[u8]) -> Option<Entry>
     ensures { result ≡ head_in y s.now }
 {
@@ -96,6 +97,7 @@ pub fn is_error_record(attributes: u32) -> bool
 }
 
 // The stamp of the entry at the front of `s`, in the form in which calls store.
+#[tactic(auto, unfolding(model::specs::Entry::header_fields_in))]
 pub fn stamp_of(s: &[u8]) -> &[u8]
     ensures { result.now ≡ (header_fields s.now).stamp }
 {
@@ -103,6 +105,7 @@ pub fn stamp_of(s: &[u8]) -> &[u8]
 }
 
 // The GUID of the entry at the front of `s`.
+#[tactic(auto, unfolding(model::specs::Entry::header_fields_in))]
 pub fn vendor_of(y: Layout, s: &[u8]) -> &[u8]
     ensures { result.now ≡ (header_fields_in y s.now).vendor }
 {
@@ -121,6 +124,7 @@ pub fn key_of(y: Layout, s: &[u8], e: Entry) -> &[u8]
 }
 
 // Its name by its numbers, as much of it as is there; an unfinished entry has none.
+#[tactic(auto, unfolding(crate::specs::Head::name_in, model::specs::Walk::placed))]
 pub fn name_of(y: Layout, s: &[u8], e: Entry) -> &[u8]
     ensures { result.now ≡ name_in y s.now e }
 {
@@ -131,6 +135,7 @@ pub fn name_of(y: Layout, s: &[u8], e: Entry) -> &[u8]
 }
 
 // Its data, likewise.
+#[tactic(auto, unfolding(crate::specs::Head::data_in, model::specs::Walk::placed))]
 pub fn data_of(y: Layout, s: &[u8], e: Entry) -> &[u8]
     ensures { result.now ≡ data_in y s.now e }
 {
@@ -142,6 +147,7 @@ pub fn data_of(y: Layout, s: &[u8], e: Entry) -> &[u8]
 
 // Whether the entry at the front of `s`, in the form in which calls store and whatever its numbers, may have this name: the words at the end and at the front
 // of the name, which are cheap to see.
+#[tactic(auto, unfolding(crate::specs::Head::may_be_def))]
 pub fn may_be(s: &[u8], name: &[u8]) -> bool
     ensures { (result ≡ may_be_def s.now name.now) × (result ≡ false → Unlike s.now name.now) }
 {
@@ -149,8 +155,6 @@ pub fn may_be(s: &[u8], name: &[u8]) -> bool
     if n < 4 {
         return true;
     }
-    if slices::four(s, Layout::HEADER + (n - 4)) == slices::four(name, n - 4) {
-        return slices::four(s, Layout::HEADER) == slices::four(name, 0);
-    }
-    false
+    slices::four(s, Layout::HEADER + (n - 4)) == slices::four(name, n - 4)
+        && slices::four(s, Layout::HEADER) == slices::four(name, 0)
 }

@@ -6,7 +6,7 @@ use mathlib.Core.Logic.{◌≢◌}
 use mathlib.Core.Bool.{true≢false}
 use lib.ListN.{length}
 use lib.Dec.{eqb}
-use borrow.Author.Tests.{eq-eqb}
+use borrow.Author.Tests.{eq-eqb, ne_eqb}
 use Rattle.slices.specs.Agree.{four_at}
 use Rattle.layout.proofs.Named.{unlike, may-short, may-front, may-not}
 use Rattle.layout.proofs.may_be.Goals as goal
@@ -26,11 +26,11 @@ returns-then-four c =
           (λ e. true≢false (sym (eq-eqb c.four-then-four.result c.four-then-four-2.result (c.four-then-four.ensures ∙ e ∙ sym c.four-then-four-2.ensures)) ∙ h)),
     )
 
-pub returns : goal.returns
-returns c =
+pub returns-else-four : goal.returns-else-four
+returns-else-four c =
     let a = c.args in
     let n = length a.name.now in
     let d : four_at a.s.now (60 + (n - 4)) ≢ four_at a.name.now (n - 4) = λ e. c.if-four.false (c.four.ensures ∙ e ∙ sym c.four-2.ensures) in (
-      may-not a.s.now a.name.now (omega arith) d,
+      rw (ne_eqb _ _ c.if-four.false) (may-not a.s.now a.name.now (omega arith) d),
       λ h. unlike a.s.now a.name.now (n - 4) (60 + (n - 4)) (omega arith) (omega arith) d,
     )

@@ -1,9 +1,9 @@
 -- `layout::fixed::region_header` meets its contract: the signature's bytes one after the other are the signature, whichever of the two it is, and the
 -- four bytes behind it are those of the size.
 -- Assumes nothing.
-use Prim.Native.Nat.{ℕ, ◌/◌, ◌%◌}
+use Prim.Native.Nat.{ℕ, ◌%◌}
 use native.Mathlib.Omega.{arith}
-use mathlib.Core.Path.{◌≡◌, refl, ◌∙◌}
+use mathlib.Core.Path.{◌≡◌, refl}
 use mathlib.Core.Bool.{Bool, true, false, cond}
 use mathlib.Core.List.{List, [], ◌∷◌, ◌++◌}
 use lib.ListN.{get_or, replicate}
@@ -28,9 +28,6 @@ unfolding region_header_in
 returns c =
     let a = c.args in
     let n = a.size in
-    let low : c.low_byte-a.result ≡ n % 65536 % 256 = omega arith in
-    let second : c.low_byte-b.result ≡ n % 65536 / 256 % 256 = c.low_byte-b.ensures ∙ second-byte n in
-    let third : c.low_byte-c.result ≡ n / 65536 % 256 = omega arith in
-    let high : c.low_byte-d.result ≡ n / 65536 / 256 % 256 = c.low_byte-d.ensures ∙ fourth-byte n in
-    rw (c.signature-s.ensures, low, second, third, high)
+    let low : n % 256 ≡ n % 65536 % 256 = omega arith in
+    rw (c.signature-s.ensures, c.to_le_bytes.ensures, low, second-byte n, fourth-byte n)
     (spelt-whole (is_stamped_def a.y) (bytes32 n) (0x5A ∷ 0xFE ∷ []) (replicate 6 0))
