@@ -41,16 +41,10 @@ const VENDOR: usize = 200;
 fn is_listed(t: &[u8], count: u32, n: u32) -> bool
     ensures { result ≡ listed (numbers_at t.now 40 8) count n }
 {
-    let used = count as usize;
-    let mut i: usize = 0;
-    while i < 8 {
-        if used <= i {
-            return false;
-        }
+    for i in 0..(count as usize).min(8) {
         if layout::u32_at(t, NUMBERS + 4 * i) == n {
             return true;
         }
-        i += 1;
     }
     false
 }
@@ -62,16 +56,7 @@ fn is_allowed(t: &[u8], n: u32) -> bool
     if layout::u32_at(t, RANGED) == 0 {
         return is_listed(t, layout::u32_at(t, COUNT), n);
     }
-    if n < layout::u32_at(t, LOW) {
-        return false;
-    }
-    n <= layout::u32_at(t, HIGH)
-}
-
-fn wide(x: u8) -> u32
-    ensures { (result ≡ x) × (result < 256) }
-{
-    x as u32
+    layout::u32_at(t, LOW) <= n && n <= layout::u32_at(t, HIGH)
 }
 
 // A byte of the data that would stand, 0 past their end.
@@ -79,27 +64,15 @@ fn byte_of(old: &[u8], own: &[u8], i: usize) -> u32
     ensures { (result ≡ get_or (old.now ++ own.now) i 0) × (result < 256) }
 {
     let n = old.len();
-    if i < n {
-        return wide(old[i]);
-    }
-    let j = i - n;
-    if j < own.len() {
-        return wide(own[j]);
-    }
-    0
+    let byte = if i < n { old.get(i) } else { own.get(i - n) };
+    byte.map_or(0, |&b| u32::from(b))
 }
 
 // Whether a field may be so wide.
 fn is_width(width: u32) -> bool
     ensures { result ≡ among widths width }
 {
-    if width == 1 {
-        return true;
-    }
-    if width == 2 {
-        return true;
-    }
-    width == 4
+    matches!(width, 1 | 2 | 4)
 }
 
 // The number that a field holds, low byte first.
@@ -152,10 +125,8 @@ fn is_for(t: &[u8], name: &[u8], vendor: &[u8; 16]) -> bool
         return false;
     }
     let room = slices::cut(t, NAME, slices::LONGEST_NAME);
-    if !slices::equal(slices::cut(room, 0, size), name) {
-        return false;
-    }
-    slices::equal(slices::cut(t, VENDOR, 16), vendor)
+    slices::equal(slices::cut(room, 0, size), name)
+        && slices::equal(slices::cut(t, VENDOR, 16), vendor)
 }
 
 // Whether a rule is for a name and broken by a set of it: read-only refuses every one, and the data, if any would stand, must meet the rest.
@@ -169,16 +140,7 @@ fn breaks_one(
 ) -> bool
     ensures { result ≡ breaks_for (keyed name.now vendor.now) stands (old.now ++ own.now) (limit_of t.now) }
 {
-    if !is_for(t, name, vendor) {
-        return false;
-    }
-    if layout::u32_at(t, FIXED) != 0 {
-        return true;
-    }
-    if !stands {
-        return false;
-    }
-    !meets(t, old, own)
+    is_for(t, name, vendor) && (layout::u32_at(t, FIXED) != 0 || (stands && !meets(t, old, own)))
 }
 
 // Whether a set of a name breaks one of the rules in use of a table that are for it. More than 32 are ignored.
@@ -193,17 +155,11 @@ pub fn breaks(
 ) -> bool
     ensures { result ≡ broken_by (limits_in limits.now rules (keyed name.now vendor.now)) stands (old.now ++ own.now) }
 {
-    let used = rules as usize;
-    let mut i: usize = 0;
-    while i < 32 {
-        if used <= i {
-            return false;
-        }
+    for i in 0..(rules as usize).min(32) {
         let rule = slices::cut(limits, RULE * i, RULE);
         if breaks_one(rule, name, vendor, stands, old, own) {
             return true;
         }
-        i += 1;
     }
     false
 }

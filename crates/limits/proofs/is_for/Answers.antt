@@ -15,21 +15,21 @@ returns-then-size-gt-LONGEST_NAME c =
     let k : Key = record { name = a.name.now; vendor = a.vendor.now } in
     sym (too_long a.t.now k c.u32_at-size.ensures c.if-size-gt-LONGEST_NAME.true)
 
-pub returns-then-not-equal : goal.returns-then-not-equal
+pub returns-else-equal : goal.returns-else-equal
 unfolding limit_of
-returns-then-not-equal c =
+returns-else-equal c =
     let a = c.args in
     let k : Key = record { name = a.name.now; vendor = a.vendor.now } in
     let size = c.u32_at-size in
     let its = c.cut.ensures ∙ ap (λ (l : List ℕ). take size.result l) c.cut-room.ensures in
-    sym (other_name a.t.now k size.ensures its (sym c.equal.ensures ∙ c.if-not-equal.true))
+    c.if-equal.false ∙ sym (other_name a.t.now k size.ensures its (sym c.equal.ensures ∙ c.if-equal.false))
 
-pub returns : goal.returns
+pub returns-then-equal : goal.returns-then-equal
 unfolding limit_of
-returns c =
+returns-then-equal c =
     let a = c.args in
     let k : Key = record { name = a.name.now; vendor = a.vendor.now } in
     let size = c.u32_at-size in
     let its = c.cut.ensures ∙ ap (λ (l : List ℕ). take size.result l) c.cut-room.ensures in
-    c.equal-2.ensures
-    ∙ sym (same_name a.t.now k size.ensures its c.cut-2.ensures c.if-size-gt-LONGEST_NAME.false (sym c.equal.ensures ∙ c.if-not-equal.false))
+    c.equal-then-equal.ensures
+    ∙ sym (same_name a.t.now k size.ensures its c.cut-then-equal.ensures c.if-size-gt-LONGEST_NAME.false (sym c.equal.ensures ∙ c.if-equal.true))

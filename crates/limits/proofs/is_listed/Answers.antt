@@ -1,4 +1,3 @@
--- `limits::is_listed` meets its contract. The loop's invariant: the number is listed just if it is at one of the places in use from `i` on. Assumes nothing.
 use Prim.Native.Nat.{ℕ, min, ◌+◌, ◌*◌}
 use native.Mathlib.Omega.{arith}
 use mathlib.Core.Path.{refl, sym, ◌∙◌}
@@ -11,32 +10,22 @@ use Rattle.limits.proofs.Tried.{by-list}
 use Rattle.limits.proofs.is_listed.Goals as goal
 
 pub loop-i-init : goal.loop-i-init
-loop-i-init c = (omega arith, refl)
-
-pub returns-then-used-i : goal.returns-then-used-i
-returns-then-used-i c =
-    let l = c in
-    let a = l.args in
-    let f : ℕ → Bool = λ j. eqb a.n (u32_at a.t.now (40 + 4 * j)) in
-    sym (by-list a.t.now a.count a.n ∙ l.loop-i.invariant.1 ∙ from_end f (min a.count 8) l.loop-i.i (omega arith))
+loop-i-init c = refl
 
 pub returns-then-u32_at-n : goal.returns-then-u32_at-n
 returns-then-u32_at-n c =
-    let l = c in
-    let a = l.args in
+    let a = c.args in
     let f : ℕ → Bool = λ j. eqb a.n (u32_at a.t.now (40 + 4 * j)) in
-    sym (by-list a.t.now a.count a.n ∙ l.loop-i.invariant.1 ∙ from-here f (min a.count 8) l.loop-i.i (omega arith) (eq-eqb _ _ (sym (sym c.u32_at.ensures ∙ c.if-u32_at-n.true))))
+    sym (by-list a.t.now a.count a.n ∙ c.loop-i.invariant ∙ from-here f (min a.count 8) c.loop-i.i (omega arith) (eq-eqb _ _ (sym (sym c.u32_at.ensures ∙ c.if-u32_at-n.true))))
 
 pub loop-i-preserved : goal.loop-i-preserved
 loop-i-preserved c =
-    let l = c in
-    let a = l.args in
+    let a = c.args in
     let f : ℕ → Bool = λ j. eqb a.n (u32_at a.t.now (40 + 4 * j)) in
-    (omega arith, l.loop-i.invariant.1 ∙ from_next f (min a.count 8) l.loop-i.i (omega arith) (ne_eqb _ _ (λ e. c.if-u32_at-n.false (c.u32_at.ensures ∙ sym e))))
+    (c.loop-i.invariant ∙ from_next f (min a.count 8) c.loop-i.i (omega arith) (ne_eqb _ _ (λ e. c.if-u32_at-n.false (c.u32_at.ensures ∙ sym e))))
 
 pub returns : goal.returns
 returns c =
-    let l = c in
-    let a = l.args in
+    let a = c.args in
     let f : ℕ → Bool = λ j. eqb a.n (u32_at a.t.now (40 + 4 * j)) in
-    sym (by-list a.t.now a.count a.n ∙ l.loop-i.invariant.1 ∙ from_end f (min a.count 8) l.loop-i.i (omega arith))
+    sym (by-list a.t.now a.count a.n ∙ c.loop-i.invariant ∙ from_end f (min a.count 8) c.loop-i.i (omega arith))
