@@ -4,13 +4,13 @@
 use Prim.Native.Nat.{ℕ, zero, suc, ◌-◌, ◌≤◌, ◌<◌}
 use native.Mathlib.Omega.{arith}
 use mathlib.Core.Path.{◌≡◌, refl, sym, ap, ◌∙◌}
-use mathlib.Core.Logic.{◌≢◌}
 use mathlib.Core.Bool.{Bool, true, false, not, cond, ◌&&◌, ◌||◌, and-true, and-false, or-true, true≢false}
 use mathlib.Core.List.{List, [], ◌∷◌, ◌++◌, append-nil}
-use mathlib.Core.Option.{Option, none, some}
+use mathlib.Core.Option.{Option as Maybe, none, some}
+use Rattle.std.specs.Prelude.{Option, Some, None}
+use Rattle.std.proofs.lemmas.Option.{none-some, same_Some}
 use lib.ListN.{length}
 use lib.Dec.{eqb}
-use borrow.Author.Tests.{ne_eqb, eq-eqb}
 use Rattle.model.specs.Layout.{authenticated}
 use Rattle.model.specs.Lists.{any, keep, first, same}
 use Rattle.model.specs.Name.{Key, same_key_def, empty_name}
@@ -22,10 +22,8 @@ use Rattle.model.proofs.Tests.{and_split, true-and, or_split, key-eq}
 use Rattle.model.proofs.Walking.{entries_from}
 use Rattle.layout.specs.declared.Entry as numbers
 use Rattle.region.specs.Walk.{entry_as, entry_at, turn_in}
-use Rattle.region.specs.Met.{offset_of, met_of}
+use Rattle.region.specs.Met.{met_of}
 use Rattle.region.specs.declared.Met.{Met}
-use Rattle.region.specs.declared.Turn.{Turn}
-use Rattle.region.specs.declared.Turn.TheVariants as turn
 use Rattle.region.proofs.Turns.{Turned, at_entry, at-end}
 use Rattle.region.proofs.Passing.{at_place}
 use Rattle.query.specs.Query.{visible, is_seen_def, is_sought_def, is_shown_def, is_passed_def, entry_to_get, entry_following, going_on, entry_to_name, standing_at}
@@ -43,20 +41,20 @@ pub record Reached (f : Entry → Bool) (r : List ℕ) (at : ℕ) (x : Entry) : 
   pub own : f x ≡ true
 
 module _ (f : Entry → Bool) (r : List ℕ) (x : Entry) where
-  reach-turn : (at : ℕ) (t : Turn) → turn_in authenticated r at ≡ t → ((k : ℕ) → length r - k < length r - at → first f (from r k) ≡ some x → Reached f r k x)
+  reach-turn : (at : ℕ) (t : Option (numbers.Entry × ℕ)) → turn_in authenticated r at ≡ t → ((k : ℕ) → length r - k < length r - at → first f (from r k) ≡ some x → Reached f r k x)
       → first f (from r at) ≡ some x → Reached f r at x
-  reach-turn at turn.Stop p on h =
+  reach-turn at None p on h =
       let z = at-end refl p in
-      let nothing : ◌≡◌ {A = Option Entry} none (some x) = ap (first f) (sym z.walk) ∙ h in
+      let nothing : ◌≡◌ {A = Maybe Entry} none (some x) = ap (first f) (sym z.walk) ∙ h in
       let q : ◌≡◌ {A = ℕ} 0 1 = cc in
       absurd (omega arith)
-  reach-turn at (turn.Entry e k) p on h = go (f (entry_at r at e)) refl
+  reach-turn at (Some (e, k)) p on h = go (f (entry_at r at e)) refl
     where
       go : (t : Bool) → f (entry_at r at e) ≡ t → Reached f r at x
       go true q =
           let w = at_entry refl p in
           let step : first f (from r at) ≡ some (entry_at r at e) = ap (first f) w.walk ∙ ap (λ (t : Bool). cond t (some (entry_at r at e)) (first f (from r k))) q in
-          let found : ◌≡◌ {A = Option Entry} (some (entry_at r at e)) (some x) = sym step ∙ h in
+          let found : ◌≡◌ {A = Maybe Entry} (some (entry_at r at e)) (some x) = sym step ∙ h in
           let same : entry_at r at e ≡ x = cc in
           let place : at ≡ x.at = sym (at_place authenticated r at e) ∙ ap (λ (y : Entry). y.at) same in
           record {
@@ -182,46 +180,39 @@ module _ (runtime : Bool) (k : Key) (es : List Entry) where
 
 -- ---- where the name is met
 
--- the entries from an offset on; none from 0
-abbrev rest : List ℕ → ℕ → List Entry
-rest r n = cond (eqb n 0) [] (from r n)
+-- the entries from an offset on, if there is one
+abbrev rest : List ℕ → Option ℕ → List Entry
+rest r (Some n) = from r n
+rest r None = []
 
-record Led (runtime : Bool) (k : Key) (r : List ℕ) (n : ℕ) : Type 0 where
+record Led (runtime : Bool) (k : Key) (r : List ℕ) (n : Option ℕ) : Type 0 where
   before : List Entry
   whole : entries r ≡ before ++ rest r n
   none-there : any (is_sought_def runtime k (entries r)) before ≡ false
 
 led-to : (runtime : Bool) (k : Key) (r : List ℕ) (x : Entry) {f : Entry → Bool} (c : Reached f r region_header_size x) → any (is_sought_def runtime k (entries r)) c.before ≡ false
-    → Led runtime k r x.at
-led-to runtime k r x c h =
-    let n : eqb x.at 0 ≡ false = ne_eqb x.at 0 (λ z. omega (arith, c.later)) in
-    record { before = c.before; whole = rw n (entries_from authenticated r ∙ c.whole); none-there = h }
+    → Led runtime k r (Some x.at)
+led-to runtime k r x c h = record { before = c.before; whole = entries_from authenticated r ∙ c.whole; none-there = h }
 
 led : (runtime : Bool) (k : Key) (r : List ℕ) (m : Met) → m ≡ met_of k (entries r) → Led runtime k r (standing_at m)
 unfolding met_of added replacing
 led runtime k r m e = go (first (is_entry_def 0x3F k) (entries r)) refl (first (is_entry_def 0x3E k) (entries r)) refl
   where
-    go : (o : Option Entry) → first (is_entry_def 0x3F k) (entries r) ≡ o → (u : Option Entry) → first (is_entry_def 0x3E k) (entries r) ≡ u → Led runtime k r (standing_at m)
+    go : (o : Maybe Entry) → first (is_entry_def 0x3F k) (entries r) ≡ o → (u : Maybe Entry) → first (is_entry_def 0x3E k) (entries r) ≡ u → Led runtime k r (standing_at m)
     go (some x) p u q =
         let c = reach (is_entry_def 0x3F k) r x (ap (first (is_entry_def 0x3F k)) (sym (entries_from authenticated r)) ∙ p) in
-        let there : m.added ≡ x.at = ap (λ (y : Met). y.added) e ∙ ap offset_of p in
-        let n : eqb m.added 0 ≡ false = ne_eqb m.added 0 (λ z. omega (arith, c.later)) in
         let one = first_some (is_entry_def 0x3F k) (entries r) x p in
         let other : (any (is_entry_def 0x3E k) c.before && not (any (is_entry_def 0x3F k) (entries r))) ≡ false = rw one (and-false (any (is_entry_def 0x3E k) c.before)) in
-        rw (n, there) (led-to runtime k r x c (none-sought runtime k (entries r) c.before c.unlike other))
+        rw (ap standing_at e, p) (led-to runtime k r x c (none-sought runtime k (entries r) c.before c.unlike other))
     go none p (some x) q =
         let c = reach (is_entry_def 0x3E k) r x (ap (first (is_entry_def 0x3E k)) (sym (entries_from authenticated r)) ∙ q) in
-        let nowhere : m.added ≡ 0 = ap (λ (y : Met). y.added) e ∙ ap offset_of p in
-        let there : m.replacing ≡ x.at = ap (λ (y : Met). y.replacing) e ∙ ap offset_of q in
         let whole : entries r ≡ c.before ++ from r x.at = entries_from authenticated r ∙ c.whole in
         let Added-none = any-front (is_entry_def 0x3F k) c.before (from r x.at) (ap (any (is_entry_def 0x3F k)) (sym whole) ∙ first-none (is_entry_def 0x3F k) (entries r) p) in
         let other : (any (is_entry_def 0x3E k) c.before && not (any (is_entry_def 0x3F k) (entries r))) ≡ false = rw c.unlike in
-        rw (eq-eqb m.added 0 nowhere, there) (led-to runtime k r x c (none-sought runtime k (entries r) c.before Added-none other))
+        rw (ap standing_at e, p, q) (led-to runtime k r x c (none-sought runtime k (entries r) c.before Added-none other))
     go none p none q =
-        let nowhere : m.added ≡ 0 = ap (λ (y : Met). y.added) e ∙ ap offset_of p in
-        let there : m.replacing ≡ 0 = ap (λ (y : Met). y.replacing) e ∙ ap offset_of q in
         let other : (any (is_entry_def 0x3E k) (entries r) && not (any (is_entry_def 0x3F k) (entries r))) ≡ false = rw (first-none (is_entry_def 0x3E k) (entries r) q) in
-        rw (eq-eqb m.added 0 nowhere, there) (record {
+        rw (ap standing_at e, p, q) (record {
           before = entries r;
           whole = sym (append-nil (entries r));
           none-there = none-sought runtime k (entries r) (entries r) (first-none (is_entry_def 0x3F k) (entries r) p) other;
@@ -234,74 +225,71 @@ same-entry r x {behind} h {n} p {e} {next} w =
     let two : entry_at r n e ∷ from r next ≡ x ∷ behind = sym w.walk ∙ ap (from r) p ∙ h in
     cc
 
-value_there : (k : Key) (r : List ℕ) (m : Met) → m ≡ met_of k (entries r) → {n : ℕ} → n ≡ standing_at m → n ≢ 0 → {e : numbers.Entry} {next : ℕ} → Turned authenticated r n e next
+value_there : (k : Key) (r : List ℕ) (m : Met) → m ≡ met_of k (entries r) → {n : ℕ} → standing_at m ≡ Some n → {e : numbers.Entry} {next : ℕ} → Turned authenticated r n e next
     → (is_entry_def 0x3F k (entry_at r n e) || (is_entry_def 0x3E k (entry_at r n e) && not (any (is_entry_def 0x3F k) (entries r)))) ≡ true
 unfolding met_of added replacing
-value_there k r m met {n} s z {e} {next} w = go (first (is_entry_def 0x3F k) (entries r)) refl (first (is_entry_def 0x3E k) (entries r)) refl
+value_there k r m met {n} s {e} {next} w = go (first (is_entry_def 0x3F k) (entries r)) refl (first (is_entry_def 0x3E k) (entries r)) refl
   where
-    go : (o : Option Entry) → first (is_entry_def 0x3F k) (entries r) ≡ o → (u : Option Entry) → first (is_entry_def 0x3E k) (entries r) ≡ u
+    go : (o : Maybe Entry) → first (is_entry_def 0x3F k) (entries r) ≡ o → (u : Maybe Entry) → first (is_entry_def 0x3E k) (entries r) ≡ u
         → (is_entry_def 0x3F k (entry_at r n e) || (is_entry_def 0x3E k (entry_at r n e) && not (any (is_entry_def 0x3F k) (entries r)))) ≡ true
     go (some x) p u q =
         let c = reach (is_entry_def 0x3F k) r x (ap (first (is_entry_def 0x3F k)) (sym (entries_from authenticated r)) ∙ p) in
-        let there : m.added ≡ x.at = ap (λ (y : Met). y.added) met ∙ ap offset_of p in
-        let some : eqb m.added 0 ≡ false = ne_eqb m.added 0 (λ z. omega (arith, c.later)) in
-        let place : n ≡ x.at = s ∙ ap (λ (t : Bool). cond t m.replacing m.added) some ∙ there in
+        let there : standing_at m ≡ Some x.at = ap standing_at met ∙ rw p in
+        let place : n ≡ x.at = same_Some _ _ (sym s ∙ there) in
         rw (same-entry r x c.here place w) (rw c.own)
     go none p (some x) q =
         let c = reach (is_entry_def 0x3E k) r x (ap (first (is_entry_def 0x3E k)) (sym (entries_from authenticated r)) ∙ q) in
-        let nowhere : m.added ≡ 0 = ap (λ (y : Met). y.added) met ∙ ap offset_of p in
-        let there : m.replacing ≡ x.at = ap (λ (y : Met). y.replacing) met ∙ ap offset_of q in
-        let place : n ≡ x.at = s ∙ ap (λ (t : Bool). cond t m.replacing m.added) (eq-eqb m.added 0 nowhere) ∙ there in
+        let there : standing_at m ≡ Some x.at = ap standing_at met ∙ rw (p, q) in
+        let place : n ≡ x.at = same_Some _ _ (sym s ∙ there) in
         let other : any (is_entry_def 0x3F k) (entries r) ≡ false = first-none (is_entry_def 0x3F k) (entries r) p in
         rw (same-entry r x c.here place w) (rw (true-and c.own (ap not other)) (or-true (is_entry_def 0x3F k x)))
     go none p none q =
-        let nowhere : m.added ≡ 0 = ap (λ (y : Met). y.added) met ∙ ap offset_of p in
-        let there : m.replacing ≡ 0 = ap (λ (y : Met). y.replacing) met ∙ ap offset_of q in
-        absurd (z (s ∙ ap (λ (t : Bool). cond t m.replacing m.added) (eq-eqb m.added 0 nowhere) ∙ there))
+        let there : standing_at m ≡ None = ap standing_at met ∙ rw (p, q) in
+        absurd (none-some n (sym there ∙ s))
 
 -- so it is sought, if it is visible
-pub sought-there : (runtime : Bool) (k : Key) (r : List ℕ) (m : Met) → m ≡ met_of k (entries r) → {n : ℕ} → n ≡ standing_at m → n ≢ 0
+pub sought-there : (runtime : Bool) (k : Key) (r : List ℕ) (m : Met) → m ≡ met_of k (entries r) → {n : ℕ} → standing_at m ≡ Some n
     → {e : numbers.Entry} {next : ℕ} → Turned authenticated r n e next → visible runtime e.attributes ≡ true → is_sought_def runtime k (entries r) (entry_at r n e) ≡ true
 unfolding is_sought_def is_seen_def entry_as placed
-sought-there runtime k r m q {n} s z {e} {next} w v =
+sought-there runtime k r m q {n} s {e} {next} w v =
     let y = entry_at r n e in
-    let p = and_split (same_key_def (entry_key y) k) (is_value (entries r) y) (value_of runtime k (entries r) y ∙ value_there k r m q s z w) in
+    let p = and_split (same_key_def (entry_key y) k) (is_value (entries r) y) (value_of runtime k (entries r) y ∙ value_there k r m q s w) in
     true-and p.0 (true-and p.1 v)
 
 -- ---- where the walks begin
 
-module _ (runtime : Bool) (k : Key) (r : List ℕ) (m : Met) (e : m ≡ met_of k (entries r)) {n : ℕ} where
-  get-rest : n ≡ standing_at m
+module _ (runtime : Bool) (k : Key) (r : List ℕ) (m : Met) (e : m ≡ met_of k (entries r)) where
+  get-rest : {n : Option ℕ} → standing_at m ≡ n
       → entry_to_get runtime k (entries r) ≡ first (λ e. same_key_def (entry_key e) k) (keep (is_seen_def runtime (entries r)) (rest r n))
   unfolding entry_to_get
   get-rest p =
       let l = led runtime k r m e in
-      rw p (ap (λ es. first (λ e. same_key_def (entry_key e) k) (keep (is_seen_def runtime (entries r)) es)) l.whole
+      rw (← p) (ap (λ es. first (λ e. same_key_def (entry_key e) k) (keep (is_seen_def runtime (entries r)) es)) l.whole
       ∙ skip-get runtime k (entries r) l.before (rest r (standing_at m)) l.none-there)
 
-  pub get_none : n ≡ standing_at m → n ≡ 0 → entry_to_get runtime k (entries r) ≡ none
-  get_none p z = get-rest p ∙ rw (eq-eqb n 0 z)
+  pub get_none : standing_at m ≡ None → entry_to_get runtime k (entries r) ≡ none
+  get_none p = get-rest p
 
-  pub get-begin : n ≡ standing_at m → n ≢ 0 → entry_to_get runtime k (entries r) ≡ first (λ e. same_key_def (entry_key e) k) (seen_from runtime r n)
+  pub get-begin : {n : ℕ} → standing_at m ≡ Some n → entry_to_get runtime k (entries r) ≡ first (λ e. same_key_def (entry_key e) k) (seen_from runtime r n)
   unfolding seen_from
-  get-begin p z = get-rest p ∙ rw (ne_eqb n 0 z)
+  get-begin p = get-rest p
 
-module _ (guid : List ℕ) (modem runtime : Bool) (k : Key) (r : List ℕ) (m : Met) (e : m ≡ met_of k (entries r)) {n : ℕ} where
-  name-rest : n ≡ standing_at m
+module _ (guid : List ℕ) (modem runtime : Bool) (k : Key) (r : List ℕ) (m : Met) (e : m ≡ met_of k (entries r)) where
+  name-rest : {n : Option ℕ} → standing_at m ≡ n
       → entry_following k (keep (is_shown_def guid modem runtime (entries r)) (entries r)) ≡ entry_following k (keep (is_shown_def guid modem runtime (entries r)) (rest r n))
   name-rest p =
       let l = led runtime k r m e in
-      rw p (ap (λ es. entry_following k (keep (is_shown_def guid modem runtime (entries r)) es)) l.whole
+      rw (← p) (ap (λ es. entry_following k (keep (is_shown_def guid modem runtime (entries r)) es)) l.whole
       ∙ skip-name runtime k (entries r) guid modem l.before (rest r (standing_at m)) l.none-there)
 
-  pub name-none : (empty : Bool) → empty ≡ same k.name empty_name → n ≡ cond empty region_header_size (standing_at m) → n ≡ 0
+  pub name-none : (empty : Bool) → empty ≡ same k.name empty_name → cond empty (Some region_header_size) (standing_at m) ≡ None
       → entry_to_name guid modem runtime k (entries r) ≡ none
   unfolding entry_to_name
-  name-none true q p z = absurd (omega arith)
-  name-none false q p z = rw (← q) (name-rest p ∙ rw (eq-eqb n 0 z) (going-none false k refl))
+  name-none true q p = absurd (none-some region_header_size (sym p))
+  name-none false q p = rw (← q) (name-rest p ∙ going-none false k refl)
 
-  pub name-begin : (empty : Bool) → empty ≡ same k.name empty_name → n ≡ cond empty region_header_size (standing_at m) → n ≢ 0
+  pub name-begin : {n : ℕ} (empty : Bool) → empty ≡ same k.name empty_name → cond empty (Some region_header_size) (standing_at m) ≡ Some n
       → entry_to_name guid modem runtime k (entries r) ≡ going_on empty k (shown_from guid modem runtime r n)
   unfolding entry_to_name shown_from
-  name-begin true q p z = rw p (name-from guid modem runtime k r ∙ rw (← q))
-  name-begin false q p z = rw (← q) (name-rest p ∙ rw (ne_eqb n 0 z))
+  name-begin true q p = rw (← same_Some _ _ p) (name-from guid modem runtime k r ∙ rw (← q))
+  name-begin false q p = rw (← q) (name-rest p)

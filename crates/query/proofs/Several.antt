@@ -3,9 +3,11 @@
 -- Assumes nothing.
 use Prim.Native.Nat.{ℕ, ◌+◌, ◌-◌, ◌*◌, ◌≤◌, ◌<◌}
 use native.Mathlib.Omega.{arith}
-use mathlib.Core.Path.{◌≡◌, refl, sym, ap, ap₂, subst, ◌∙◌}
-use mathlib.Core.Bool.{Bool, true, false, cond, ◌&&◌, ◌||◌, or-true, and-false, true≢false}
+use mathlib.Core.Path.{◌≡◌, refl, sym, ap, ap₂, ◌∙◌}
+use mathlib.Core.Bool.{Bool, true, false, cond, ◌&&◌, ◌||◌, or-true, and-true, and-false, true≢false}
 use mathlib.Core.List.{List, [], ◌∷◌}
+use Rattle.std.specs.Prelude.{Option, Some, None}
+use Rattle.std.specs.Option.{option_or}
 use lib.ListN.{length, get_or, set, get_or-replicate}
 use lib.Seq.{get_or-set_same, get_or-set_other}
 use lib.Dec.{eqb, leb, ltb}
@@ -17,7 +19,7 @@ use Rattle.model.specs.Image.{region_header_size}
 use Rattle.model.specs.Walk.{Entry, state_of, entry_key, placed}
 use Rattle.model.specs.Region.{entries, is_entry_def, added, replacing}
 use Rattle.model.specs.Beside.{from_in, asked_bytes}
-use Rattle.model.proofs.Tests.{and_split, true-and}
+use Rattle.model.proofs.Tests.{and_split, or_split, true-and}
 use Rattle.model.proofs.Walking.{entries_from}
 use Rattle.layout.specs.declared.Entry as numbers
 use Rattle.region.specs.Walk.{entry_as, entry_at}
@@ -29,7 +31,8 @@ use Rattle.region.specs.declared.Met.{Met}
 use Rattle.region.proofs.Turns.{Turned, Ended}
 use Rattle.region.proofs.Passing.{at_place}
 use Rattle.region.proofs.Marked.{sought-mark}
-use Rattle.query.specs.Many.{key_bytes, is_asked_def, leads, Indexed, within, first_of, none_met_def, NotedIn, Noted, met_as, AllMet}
+use Rattle.query.specs.Many.{key_bytes, is_asked_def, leads, Indexed, within, first_of, noted_at, unmet, none_met_def, NotedIn, Noted, met_as, AllMet}
+use Rattle.query.specs.declared.many.Offsets.{Offsets}
 
 -- ---- the bytes of a name
 
@@ -153,65 +156,91 @@ within-other start end k n = ap (λ (t : Bool). leb start k && t) (go (ltb k end
 
 -- ---- an entry noted for names
 
-module _ (state : ℕ) (keys sizes r : List ℕ) (at : ℕ) (e : numbers.Entry) where
-  pub noted-none : (start : ℕ) (old : List ℕ) → NotedIn state keys sizes r at e start start old old
+module _ (keys sizes r : List ℕ) (at : ℕ) (e : numbers.Entry) where
+  pub noted-none : (start : ℕ) (old : List Offsets) → NotedIn keys sizes r at e start start old old
   unfolding first_of
   noted-none start old = record { each = λ k. sym (rw (within_none start k)) }
 
-  pub noted-next : {start end : ℕ} {old new : List ℕ} → NotedIn state keys sizes r at e start end old new → start ≤ end → end < length new
-      → {v : ℕ} → v ≡ first_of (is_asked_def state keys sizes end (entry_at r at e)) at (get_or new end 0)
-      → NotedIn state keys sizes r at e start (end + 1) old (set new end v)
+  -- one name more, of which the entry is one
+  pub noted-next : {start end : ℕ} {old new : List Offsets} → NotedIn keys sizes r at e start end old new → start ≤ end → end < length new
+      → {v : Offsets} → v ≡ noted_at (is_asked_def 0x3F keys sizes end (entry_at r at e)) (is_asked_def 0x3E keys sizes end (entry_at r at e)) at (get_or new end unmet)
+      → NotedIn keys sizes r at e start (end + 1) old (set new end v)
   unfolding first_of
   noted-next {start} {end} {old} {new} n s l {v} q = record { each = λ k. go k (eqb k end) refl }
     where
-      go : (k : ℕ) (t : Bool) → eqb k end ≡ t
-          → get_or (set new end v) k 0 ≡ first_of (within start (end + 1) k && is_asked_def state keys sizes k (entry_at r at e)) at (get_or old k 0)
+      go : (k : ℕ) (t : Bool) → eqb k end ≡ t → get_or (set new end v) k unmet
+          ≡ noted_at (within start (end + 1) k && is_asked_def 0x3F keys sizes k (entry_at r at e)) (within start (end + 1) k && is_asked_def 0x3E keys sizes k (entry_at r at e)) at (get_or old k unmet)
       go k true z =
           let same : k ≡ end = eqb-true k end z in
-          let before : get_or new end 0 ≡ get_or old end 0 = n.each end ∙ rw (within_end start end) in
-          rw (same, get_or-set_same new end v 0 l, within-last start end s, ← before) q
+          let before : get_or new end unmet ≡ get_or old end unmet = n.each end ∙ rw (within_end start end) in
+          rw (same, get_or-set_same new end v unmet l, within-last start end s, ← before) q
       go k false z =
           let other = eqb-false k end z in
-          rw (get_or-set_other new end k v 0 other, within-other start end k other) (n.each k)
+          rw (get_or-set_other new end k v unmet other, within-other start end k other) (n.each k)
+
+  -- or is none
+  pub noted-pass : {start end : ℕ} {old new : List Offsets} → NotedIn keys sizes r at e start end old new → start ≤ end
+      → is_asked_def 0x3F keys sizes end (entry_at r at e) ≡ false → is_asked_def 0x3E keys sizes end (entry_at r at e) ≡ false
+      → NotedIn keys sizes r at e start (end + 1) old new
+  unfolding first_of
+  noted-pass {start} {end} {old} {new} n s a b = record { each = λ k. go k (eqb k end) refl }
+    where
+      go : (k : ℕ) (t : Bool) → eqb k end ≡ t → get_or new k unmet
+          ≡ noted_at (within start (end + 1) k && is_asked_def 0x3F keys sizes k (entry_at r at e)) (within start (end + 1) k && is_asked_def 0x3E keys sizes k (entry_at r at e)) at (get_or old k unmet)
+      go k true z =
+          let same : k ≡ end = eqb-true k end z in
+          rw (same, within-last start end s, a, b) (n.each end ∙ rw (within_end start end))
+      go k false z = rw (within-other start end k (eqb-false k end z)) (n.each k)
+
+  -- by the name and GUID
+  pub asked-named : (k : ℕ) → same_key_def (entry_key (entry_at r at e)) (key_from (key_bytes keys sizes k)) ≡ true → (state : ℕ)
+      → is_asked_def state keys sizes k (entry_at r at e) ≡ eqb e.state state
+  unfolding is_asked_def entry_as placed
+  asked-named k h state = rw h (and-true (eqb e.state state))
+
+  pub asked-other : (k : ℕ) → same_key_def (entry_key (entry_at r at e)) (key_from (key_bytes keys sizes k)) ≡ false → (state : ℕ)
+      → is_asked_def state keys sizes k (entry_at r at e) ≡ false
+  unfolding is_asked_def
+  asked-other k h state = rw h (and-false (eqb (state_of (entry_at r at e)) state))
+
+  -- an entry that is not live
+  pub noted_other : live_state_def e.state ≡ false → (old : List Offsets) → Noted keys sizes r at e old old
+  unfolding is_asked_def first_of entry_as placed
+  noted_other h old = let s = or_split (eqb e.state 0x3F) (eqb e.state 0x3E) h in record { each = λ k l. sym (rw (s.0, s.1)) }
 
 -- of a live entry the name and GUID decide
 pub sought-entry : (r : List ℕ) (at : ℕ) (e : numbers.Entry) (key : List ℕ) → live_state_def e.state ≡ true
-    → is_sought_def (key_from key) (entry_at r at e) ≡ is_entry_def e.state (key_from key) (entry_at r at e)
+    → is_sought_def (key_from key) (entry_at r at e) ≡ same_key_def (entry_key (entry_at r at e)) (key_from key)
 unfolding entry_as placed
-sought-entry r at e key l = rw (l, eq-eqb e.state e.state refl)
-
--- an entry in another state
-pub noted_other : (state : ℕ) (keys sizes r : List ℕ) (at : ℕ) (e : numbers.Entry) (old : List ℕ) → (e.state ≡ state → ⊥) → Noted state keys sizes r at e old old
-unfolding is_asked_def first_of entry_as placed
-noted_other state keys sizes r at e old n = record { each = λ k h. sym (rw (ne_eqb e.state state n)) }
+sought-entry r at e key l = rw l
 
 -- for all names that the table leads to, and so for all
-module _ (keys sizes r : List ℕ) (at : ℕ) (e : numbers.Entry) {start end : ℕ} (told : ℕ)
+module _ (keys sizes r : List ℕ) (at : ℕ) (e : numbers.Entry) (start end told : ℕ)
     (sought : (k : ℕ) → k < length sizes → is_sought_def (key_from (key_bytes keys sizes k)) (entry_at r at e) ≡ true → leads told k ≡ true)
     (led : (k : ℕ) → k < length sizes → leads told k ≡ true → within start end k ≡ true) where
-  pub noted-all : (state : ℕ) → live_state_def state ≡ true → {old new : List ℕ} → NotedIn state keys sizes r at e start end old new → Noted state keys sizes r at e old new
+  within-asked : (state : ℕ) → live_state_def state ≡ true → (k : ℕ) → k < length sizes
+      → (within start end k && is_asked_def state keys sizes k (entry_at r at e)) ≡ is_asked_def state keys sizes k (entry_at r at e)
   unfolding is_asked_def
-  noted-all state alive {old} {new} n = record { each = λ k h. n.each k ∙ ap (λ (t : Bool). first_of t at (get_or old k 0)) (go k h (is_entry_def state (key_from (key_bytes keys sizes k)) (entry_at r at e)) refl) }
+  within-asked state alive k h = go (is_entry_def state (key_from (key_bytes keys sizes k)) (entry_at r at e)) refl
     where
-      go : (k : ℕ) → k < length sizes → (t : Bool) → is_entry_def state (key_from (key_bytes keys sizes k)) (entry_at r at e) ≡ t
+      go : (t : Bool) → is_entry_def state (key_from (key_bytes keys sizes k)) (entry_at r at e) ≡ t
           → (within start end k && is_asked_def state keys sizes k (entry_at r at e)) ≡ is_asked_def state keys sizes k (entry_at r at e)
-      go k h true z =
+      go true z =
           let x = entry_at r at e in
           let p = and_split (eqb (state_of x) state) (same_key_def (entry_key x) (key_from (key_bytes keys sizes k))) z in
           let live : live_state_def (state_of x) ≡ true = ap live_state_def (eqb-true (state_of x) state p.0) ∙ alive in
           rw (led k h (sought k h (true-and live p.1))) refl
-      go k h false z = rw z (and-false (within start end k))
+      go false z = rw z (and-false (within start end k))
 
-pub noted-as : {s state : ℕ} {keys sizes r : List ℕ} {at : ℕ} {e : numbers.Entry} {old new : List ℕ} → s ≡ state → Noted s keys sizes r at e old new
-    → Noted state keys sizes r at e old new
-noted-as {s} {state} {keys} {sizes} {r} {at} {e} {old} {new} q n = subst (λ (t : ℕ). Noted t keys sizes r at e old new) q n
+  pub noted-all : {old new : List Offsets} → NotedIn keys sizes r at e start end old new → Noted keys sizes r at e old new
+  noted-all {old} n = record { each = λ k h. n.each k ∙ ap₂ (λ (t u : Bool). noted_at t u at (get_or old k unmet)) (within-asked 0x3F refl k h) (within-asked 0x3E refl k h) }
 
 -- where the table leads to none
-pub noted-nowhere : (state : ℕ) → live_state_def state ≡ true → (keys sizes r : List ℕ) (at : ℕ) (e : numbers.Entry) (told : ℕ)
+pub noted-nowhere : (keys sizes r : List ℕ) (at : ℕ) (e : numbers.Entry) (told : ℕ)
     → ((k : ℕ) → k < length sizes → is_sought_def (key_from (key_bytes keys sizes k)) (entry_at r at e) ≡ true → leads told k ≡ true)
-    → told ≡ 0 → (old : List ℕ) → Noted state keys sizes r at e old old
-noted-nowhere state alive keys sizes r at e told sought z old =
-    noted-all keys sizes r at e {start = 0} {end = 0} told sought (λ k h l. led-none told k l (λ q. absurd (omega arith)) z) state alive (noted-none state keys sizes r at e 0 old)
+    → told ≡ 0 → (old : List Offsets) → Noted keys sizes r at e old old
+noted-nowhere keys sizes r at e told sought z old =
+    noted-all keys sizes r at e 0 0 told sought (λ k h l. led-none told k l (λ q. absurd (omega arith)) z) (noted-none keys sizes r at e 0 old)
 
 -- an entry leads to each name that it has
 pub sought-leads : (keys sizes table r : List ℕ) (at : ℕ) (e : numbers.Entry) (m : Mark) → m ≡ mark_at (entry_at r at e) → Indexed keys sizes table (length sizes)
@@ -223,21 +252,17 @@ sought-leads keys sizes table r at e m q i k h s =
 -- ---- the walk
 
 -- the first of those met and those to come
-abbrev later : ℕ → ℕ → ℕ
-later a b = cond (eqb a 0) b a
-
 abbrev later_met : Met → Met → Met
-later_met m n = record { added = later m.added n.added; replacing = later m.replacing n.replacing }
+later_met m n = record { added = option_or m.added n.added; replacing = option_or m.replacing n.replacing }
 
 -- where each name is met in the whole region is where it was met, or else where it is met from an offset on
-pub record Ahead (keys sizes r added replacing : List ℕ) (at : ℕ) : Type 0 where
-  pub begun : 0 < at
+pub record Ahead (keys sizes r : List ℕ) (found : List Offsets) (at : ℕ) : Type 0 where
   pub met : (k : ℕ) → k < length sizes
-      → later_met (met_as added replacing k) (met_of (key_from (key_bytes keys sizes k)) (from_in authenticated r at)) ≡ met_of (key_from (key_bytes keys sizes k)) (entries r)
+      → later_met (met_as (get_or found k unmet)) (met_of (key_from (key_bytes keys sizes k)) (from_in authenticated r at)) ≡ met_of (key_from (key_bytes keys sizes k)) (entries r)
 
-none-there : (k : ℕ) → k < 64 → get_or none_met_def k 0 ≡ 0
+none-there : (k : ℕ) → k < 64 → get_or none_met_def k unmet ≡ unmet
 unfolding none_met_def
-none-there k h = get_or-replicate 64 k 0 0 h
+none-there k h = get_or-replicate 64 k unmet unmet h
 
 pub none-long : length none_met_def ≡ 64
 unfolding none_met_def
@@ -247,49 +272,42 @@ pub marks-long : length no_marks_def ≡ 1280
 unfolding no_marks_def
 marks-long = refl
 
-pub ahead-begin : (keys sizes r : List ℕ) {added replacing : List ℕ} → added ≡ none_met_def → replacing ≡ none_met_def → length sizes ≤ 64
-    → Ahead keys sizes r added replacing region_header_size
-ahead-begin keys sizes r a b l = record {
-  begun = omega arith;
+pub ahead-begin : (keys sizes r : List ℕ) {found : List Offsets} → found ≡ none_met_def → length sizes ≤ 64 → Ahead keys sizes r found region_header_size
+ahead-begin keys sizes r a l = record {
   met = λ k h.
       let z = none-there k (omega arith) in
-      rw (a, b, z, entries_from authenticated r) refl;
+      rw (a, z, entries_from authenticated r) refl;
 }
 
-module _ {keys sizes r added replacing : List ℕ} {at : ℕ} (c : Ahead keys sizes r added replacing at) where
-  pub ahead-end : Ended authenticated r at → AllMet keys sizes r added replacing
+module _ {keys sizes r : List ℕ} {found : List Offsets} {at : ℕ} (c : Ahead keys sizes r found at) where
+  pub ahead-end : Ended authenticated r at → AllMet keys sizes r found
   unfolding met_of added replacing
   ahead-end z = record { met = λ k h. at_last k ∙ c.met k h }
     where
-      last : (a : ℕ) → a ≡ later a 0
-      last a = go (eqb a 0) refl
-        where
-          go : (t : Bool) → eqb a 0 ≡ t → a ≡ cond t 0 a
-          go true q = eqb-true a 0 q
-          go false q = refl
+      last : (a : Option ℕ) → a ≡ option_or a None
+      last (Some n) = refl
+      last None = refl
 
-      at_last : (k : ℕ) → met_as added replacing k ≡ later_met (met_as added replacing k) (met_of (key_from (key_bytes keys sizes k)) (from_in authenticated r at))
-      at_last k = rw z.walk (ap₂ (λ (i j : ℕ). record { added = i; replacing = j }) (last (get_or added k 0)) (last (get_or replacing k 0)))
+      at_last : (k : ℕ) → met_as (get_or found k unmet) ≡ later_met (met_as (get_or found k unmet)) (met_of (key_from (key_bytes keys sizes k)) (from_in authenticated r at))
+      at_last k = rw z.walk (ap₂ (λ (i j : Option ℕ). record { added = i; replacing = j }) (last (get_or found k unmet).added) (last (get_or found k unmet).replacing))
 
   module _ {e : numbers.Entry} {n : ℕ} (w : Turned authenticated r at e n) where
-    one_more : (f : Entry → Bool) (a : ℕ) → later (first_of (f (entry_at r at e)) at a) (offset_of (first f (from_in authenticated r n))) ≡ later a (offset_of (first f (from_in authenticated r at)))
+    one_more : (f : Entry → Bool) (a : Option ℕ)
+        → option_or (first_of (f (entry_at r at e)) at a) (offset_of (first f (from_in authenticated r n))) ≡ option_or a (offset_of (first f (from_in authenticated r at)))
     unfolding first_of
-    one_more f a = rw w.walk (go (f (entry_at r at e)) refl (eqb a 0) refl)
+    one_more f a = rw w.walk (go (f (entry_at r at e)) refl a)
       where
-        go : (t : Bool) → f (entry_at r at e) ≡ t → (z : Bool) → eqb a 0 ≡ z
-            → later (first_of (f (entry_at r at e)) at a) (offset_of (first f (from_in authenticated r n)))
-            ≡ later a (offset_of (first f (entry_at r at e ∷ from_in authenticated r n)))
-        go true p true q = rw (p, q, ne_eqb at 0 (λ e. omega (arith, c.begun))) (sym (at_place authenticated r at e))
-        go true p false q = rw (p, q) (rw q)
-        go false p z q = rw p
+        go : (t : Bool) → f (entry_at r at e) ≡ t → (b : Option ℕ)
+            → option_or (first_of (f (entry_at r at e)) at b) (offset_of (first f (from_in authenticated r n))) ≡ option_or b (offset_of (first f (entry_at r at e ∷ from_in authenticated r n)))
+        go true p None = rw p (ap Some (sym (at_place authenticated r at e)))
+        go true p (Some b) = rw p
+        go false p b = rw p
 
-    pub ahead-next : {added₂ replacing₂ : List ℕ} → Noted 0x3F keys sizes r at e added added₂ → Noted 0x3E keys sizes r at e replacing replacing₂
-        → Ahead keys sizes r added₂ replacing₂ n
+    pub ahead-next : {new : List Offsets} → Noted keys sizes r at e found new → Ahead keys sizes r new n
     unfolding met_of added replacing is_asked_def
-    ahead-next a b = record {
-      begun = omega (arith, w.more);
+    ahead-next a = record {
       met = λ k h.
           let key = key_from (key_bytes keys sizes k) in
-          rw (a.each k h, b.each k h)
-          (ap₂ (λ (i j : ℕ). record { added = i; replacing = j }) (one_more (is_entry_def 0x3F key) (get_or added k 0)) (one_more (is_entry_def 0x3E key) (get_or replacing k 0)) ∙ c.met k h);
+          rw (a.each k h)
+          (ap₂ (λ (i j : Option ℕ). record { added = i; replacing = j }) (one_more (is_entry_def 0x3F key) (get_or found k unmet).added) (one_more (is_entry_def 0x3E key) (get_or found k unmet).replacing) ∙ c.met k h);
     }

@@ -12,96 +12,77 @@ ghost use Rattle.query.specs.Query.{entry_in, visible, is_seen_def, is_sought_de
 
 use layout::Entry;
 use model::Layout;
-use region::{Met, Turn, judge, walk};
-use values::{Found, list};
+use region::{Met, Placed, judge, walk};
+use values::list;
 
 pub mod many;
-
-// A range of names, by their numbers.
-#[derive(Clone, Copy)]
-pub struct Names {
-    pub start: usize,
-    pub end: usize,
-}
 
 // Whether a value with these attributes is seen: at runtime only with runtime access.
 fn is_visible(runtime: bool, attributes: u32) -> bool
     ensures { result ≡ visible runtime attributes }
 {
-    if runtime {
-        return policy::runtime_access(attributes);
-    }
-    true
+    !runtime || policy::runtime_access(attributes)
 }
 
 // Whether an entry is a value that is seen.
 fn is_seen(region: &[u8], at: usize, e: Entry, runtime: bool) -> bool
     ensures { result ≡ is_seen_def runtime (entries region.now) (entry_at region.now at e) }
 {
-    if is_visible(runtime, e.attributes) {
-        return list::is_value(Layout::AUTHENTICATED, region, at, e);
-    }
-    false
+    is_visible(runtime, e.attributes) && list::is_value(Layout::AUTHENTICATED, region, at, e)
 }
 
 // Whether an entry is a value that is seen, of this name and GUID; what is cheap to look at comes first.
 fn is_sought(region: &[u8], at: usize, e: Entry, runtime: bool, name: &[u8], vendor: &[u8]) -> bool
     ensures { result ≡ is_sought_def runtime (keyed name.now vendor.now) (entries region.now) (entry_at region.now at e) }
 {
-    if judge::is_live(e.state) {
-        if walk::is_entry(Layout::AUTHENTICATED, region, at, e, e.state, name, vendor) {
-            return is_seen(region, at, e, runtime);
-        }
-    }
-    false
+    judge::is_live(e.state)
+        && walk::is_entry(Layout::AUTHENTICATED, region, at, e, e.state, name, vendor)
+        && is_seen(region, at, e, runtime)
 }
 
-// Where the entry begins that holds a name's value: its 3F entry, else its 3E entry; 0 where there is none.
-fn standing(met: Met) -> usize
+// Where the entry begins that holds a name's value: its 3F entry, else its 3E entry.
+fn standing(met: Met) -> Option<usize>
     ensures { result ≡ standing_at met }
 {
-    if met.added == 0 {
-        return met.replacing;
-    }
-    met.added
+    met.added.or(met.replacing)
 }
 
 // The same by a walk from there on.
-fn walk_to_get(region: &[u8], runtime: bool, name: &[u8], vendor: &[u8; 16], met: Met) -> Found
+fn walk_to_get(
+    region: &[u8],
+    runtime: bool,
+    name: &[u8],
+    vendor: &[u8; 16],
+    met: Met,
+) -> Option<Placed>
     requires { met ≡ met_of (keyed name.now vendor.now) (entries region.now) }
     ensures { entry_in region.now result ≡ entry_to_get runtime (keyed name.now vendor.now) (entries region.now) }
 {
-    let mut at = standing(met);
-    if at == 0 {
-        return Found::Nothing;
-    }
-    loop {
-        let t = walk::turn(Layout::AUTHENTICATED, region, at);
-        let Turn::Entry(e, next) = t else {
-            return Found::Nothing;
-        };
-        if is_sought(region, at, e, runtime, name, vendor) {
-            return Found::At(at, e);
+    let mut at = standing(met)?;
+    while let Some((entry, next)) = walk::turn(Layout::AUTHENTICATED, region, at) {
+        if is_sought(region, at, entry, runtime, name, vendor) {
+            return Some(Placed { at, entry });
         }
         at = next;
     }
+    None
 }
 
 // The value to get: the one of this name and GUID, if it is seen. It is where the name was met, so the name is not compared again.
-pub fn to_get(region: &[u8], runtime: bool, name: &[u8], vendor: &[u8; 16], met: Met) -> Found
+pub fn to_get(
+    region: &[u8],
+    runtime: bool,
+    name: &[u8],
+    vendor: &[u8; 16],
+    met: Met,
+) -> Option<Placed>
     requires { met ≡ met_of (keyed name.now vendor.now) (entries region.now) }
     ensures { entry_in region.now result ≡ entry_to_get runtime (keyed name.now vendor.now) (entries region.now) }
 {
-    let place = standing(met);
-    if place == 0 {
-        return Found::Nothing;
-    }
-    let t = walk::turn(Layout::AUTHENTICATED, region, place);
-    let Turn::Entry(e, _) = t else {
-        return Found::Nothing;
-    };
-    if is_visible(runtime, e.attributes) {
-        return Found::At(place, e);
+    let at = standing(met)?;
+    let (entry, _) = walk::turn(Layout::AUTHENTICATED, region, at)?;
+    if is_visible(runtime, entry.attributes) {
+        return Some(Placed { at, entry });
     }
     walk_to_get(region, runtime, name, vendor, met)
 }
@@ -117,10 +98,8 @@ pub fn is_empty_name(name: &[u8]) -> bool
 fn is_shown(region: &[u8], at: usize, e: Entry, runtime: bool, guid: &[u8; 16], modem: bool) -> bool
     ensures { result ≡ is_shown_def guid.now modem runtime (entries region.now) (entry_at region.now at e) }
 {
-    if is_seen(region, at, e, runtime) {
-        return list::is_own(Layout::AUTHENTICATED, region, at, e, guid, modem);
-    }
-    false
+    is_seen(region, at, e, runtime)
+        && list::is_own(Layout::AUTHENTICATED, region, at, e, guid, modem)
 }
 
 // And of this name and GUID.
@@ -137,20 +116,19 @@ fn is_passed(
     ensures { result ≡ is_passed_def guid.now modem runtime (keyed name.now vendor.now)
         (entries region.now) (entry_at region.now at e) }
 {
-    if is_sought(region, at, e, runtime, name, vendor) {
-        return list::is_own(Layout::AUTHENTICATED, region, at, e, guid, modem);
-    }
-    false
+    is_sought(region, at, e, runtime, name, vendor)
+        && list::is_own(Layout::AUTHENTICATED, region, at, e, guid, modem)
 }
 
 // Where the walk for the next name begins: at the name, or behind the empty name at the first entry.
-fn begin(empty: bool, met: Met) -> usize
-    ensures { result ≡ cond empty region_header_size (standing_at met) }
+fn begin(empty: bool, met: Met) -> Option<usize>
+    ensures { result ≡ cond empty (Some region_header_size) (standing_at met) }
 {
     if empty {
-        return layout::REGION_HEADER;
+        Some(layout::REGION_HEADER)
+    } else {
+        standing(met)
     }
-    standing(met)
 }
 
 // The value to name: of those that are seen and a side's own, the first after the one of this name and GUID, or the first of all after the empty name.
@@ -162,28 +140,22 @@ pub fn to_name(
     name: &[u8],
     vendor: &[u8; 16],
     met: Met,
-) -> Found
+) -> Option<Placed>
     requires { met ≡ met_of (keyed name.now vendor.now) (entries region.now) }
     ensures { entry_in region.now result ≡ entry_to_name guid.now modem runtime (keyed name.now vendor.now)
         (entries region.now) }
 {
     let mut passed = is_empty_name(name);
-    let mut here = begin(passed, met);
-    if here == 0 {
-        return Found::Nothing;
-    }
-    loop {
-        let t = walk::turn(Layout::AUTHENTICATED, region, here);
-        let Turn::Entry(e, next) = t else {
-            return Found::Nothing;
-        };
+    let mut here = begin(passed, met)?;
+    while let Some((entry, next)) = walk::turn(Layout::AUTHENTICATED, region, here) {
         if passed {
-            if is_shown(region, here, e, runtime, guid, modem) {
-                return Found::At(here, e);
+            if is_shown(region, here, entry, runtime, guid, modem) {
+                return Some(Placed { at: here, entry });
             }
         } else {
-            passed = is_passed(region, here, e, runtime, guid, modem, name, vendor);
+            passed = is_passed(region, here, entry, runtime, guid, modem, name, vendor);
         }
         here = next;
     }
+    None
 }

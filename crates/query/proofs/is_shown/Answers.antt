@@ -9,7 +9,7 @@ returns-then-is_seen c =
     c.is_own.ensures
     ∙ sym (shown-seen a.guid.now a.modem a.runtime a.region.now a.at a.e (sym c.is_seen.ensures ∙ c.if-is_seen.true))
 
-pub returns : goal.returns
-returns c =
+pub returns-else-is_seen : goal.returns-else-is_seen
+returns-else-is_seen c =
     let a = c.args in
-    sym (shown-unseen a.guid.now a.modem a.runtime a.region.now a.at a.e (sym c.is_seen.ensures ∙ c.if-is_seen.false))
+    c.if-is_seen.false ∙ sym (shown-unseen a.guid.now a.modem a.runtime a.region.now a.at a.e (sym c.is_seen.ensures ∙ c.if-is_seen.false))

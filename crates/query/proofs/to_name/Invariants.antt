@@ -10,9 +10,9 @@ use Rattle.query.specs.Query.{going_on, entry_to_name}
 use Rattle.query.proofs.Seen.{shown_from}
 use Rattle.query.proofs.to_name.Given as goal
 
-abbrev pub invariant-loop-e : goal.invariant-loop-e
-invariant-loop-e l =
+abbrev pub invariant-loop-entry : goal.invariant-loop-entry
+invariant-loop-entry l =
     entry_to_name l.guid l.modem l.runtime (keyed l.name l.vendor) (entries l.region) ≡ going_on l.passed (keyed l.name l.vendor) (shown_from l.guid l.modem l.runtime l.region l.here)
 
-abbrev pub decreases-loop-e : goal.decreases-loop-e
-decreases-loop-e l = length l.region - l.here
+abbrev pub decreases-loop-entry : goal.decreases-loop-entry
+decreases-loop-entry l = length l.region - l.here

@@ -1,6 +1,3 @@
--- `query::walk_to_get` meets its contract: before the entry that holds the name's value none is a value of that name. The loop's invariant: the entry to get is the first of that
--- name among those seen from here on. What is left of the region falls.
--- Assumes nothing.
 use mathlib.Core.Path.{sym, ap, ◌∙◌}
 use Rattle.model.specs.Lists.{first}
 use Rattle.model.specs.Name.{keyed}
@@ -9,34 +6,29 @@ use Rattle.query.proofs.Seen.{seen_none, get-here, get-next}
 use Rattle.query.proofs.Leading.{get_none, get-begin}
 use Rattle.query.proofs.walk_to_get.Goals as goal
 
-pub returns-then-at-eq0 : goal.returns-then-at-eq0
-returns-then-at-eq0 c =
-    let s = c in
-    let a = s.args in
-    sym (get_none a.runtime (keyed a.name.now a.vendor.now) a.region.now a.met s.requires c.standing-at.ensures c.if-at-eq0.true)
+pub returns-in_err-at : goal.returns-in_err-at
+returns-in_err-at c =
+    let a = c.args in
+    rw c.from_residual.ensures (sym (get_none a.runtime (keyed a.name.now a.vendor.now) a.region.now a.met c.requires (sym c.standing.ensures ∙ c.in_err-at.was)))
 
-pub loop-e-init : goal.loop-e-init
-loop-e-init c =
-    let s = c in
-    let a = s.args in
-    get-begin a.runtime (keyed a.name.now a.vendor.now) a.region.now a.met s.requires c.standing-at.ensures c.if-at-eq0.false
+pub loop-entry-init : goal.loop-entry-init
+loop-entry-init c =
+    let a = c.args in
+    get-begin a.runtime (keyed a.name.now a.vendor.now) a.region.now a.met c.requires (sym c.standing.ensures ∙ c.in_ok-at.was)
 
-pub returns-in_default : goal.returns-in_default
-returns-in_default c =
-    let b = c in
-    sym (b.loop-e.invariant ∙ ap (first _) (seen_none _ (at-end b.turn-t.ensures c.in_default.is)))
+pub returns : goal.returns
+returns c =
+    sym (c.loop-entry.invariant ∙ ap (first _) (seen_none _ (at-end c.turn.ensures c.in_default.is)))
 
 pub returns-then-is_sought : goal.returns-then-is_sought
 returns-then-is_sought c =
-    let b = c in
-    let w = at_entry b.turn-t.ensures b.in-Entry.is in
-    sym (b.loop-e.invariant ∙ get-here w _ _ (sym c.is_sought.ensures ∙ c.if-is_sought.true))
+    let w = at_entry c.turn.ensures c.in-Some.is in
+    sym (c.loop-entry.invariant ∙ get-here w _ _ (sym c.is_sought.ensures ∙ c.if-is_sought.true))
 
-pub loop-e-smaller : goal.loop-e-smaller
-loop-e-smaller c = let b = c in (at_entry b.turn-t.ensures b.in-Entry.is).less
+pub loop-entry-smaller : goal.loop-entry-smaller
+loop-entry-smaller c = (at_entry c.turn.ensures c.in-Some.is).less
 
-pub loop-e-preserved : goal.loop-e-preserved
-loop-e-preserved c =
-    let b = c in
-    let w = at_entry b.turn-t.ensures b.in-Entry.is in
-    b.loop-e.invariant ∙ get-next w _ _ (sym c.is_sought.ensures ∙ c.if-is_sought.false)
+pub loop-entry-preserved : goal.loop-entry-preserved
+loop-entry-preserved c =
+    let w = at_entry c.turn.ensures c.in-Some.is in
+    c.loop-entry.invariant ∙ get-next w _ _ (sym c.is_sought.ensures ∙ c.if-is_sought.false)

@@ -12,9 +12,9 @@ use Rattle.query.specs.Query.{entry_to_get}
 use Rattle.query.proofs.Seen.{seen_from}
 use Rattle.query.proofs.walk_to_get.Given as goal
 
-abbrev pub invariant-loop-e : goal.invariant-loop-e
-invariant-loop-e l =
+abbrev pub invariant-loop-entry : goal.invariant-loop-entry
+invariant-loop-entry l =
     entry_to_get l.runtime (keyed l.name l.vendor) (entries l.region) ≡ first (λ e. same_key_def (entry_key e) (keyed l.name l.vendor)) (seen_from l.runtime l.region l.at)
 
-abbrev pub decreases-loop-e : goal.decreases-loop-e
-decreases-loop-e l = length l.region - l.at
+abbrev pub decreases-loop-entry : goal.decreases-loop-entry
+decreases-loop-entry l = length l.region - l.at

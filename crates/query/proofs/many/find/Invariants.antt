@@ -7,9 +7,9 @@ use lib.ListN.{length}
 use Rattle.query.proofs.Several.{Ahead}
 use Rattle.query.proofs.many.find.Given as goal
 
-abbrev pub invariant-loop-e : goal.invariant-loop-e
-invariant-loop-e l =
-    (length l.added ≡ 64) × (length l.replacing ≡ 64) × Ahead l.keys l.sizes l.region l.added l.replacing l.at
+abbrev pub invariant-loop-entry : goal.invariant-loop-entry
+invariant-loop-entry l =
+    (length l.found ≡ 64) × Ahead l.keys l.sizes l.region l.found l.at
 
-abbrev pub decreases-loop-e : goal.decreases-loop-e
-decreases-loop-e l = length l.region - l.at
+abbrev pub decreases-loop-entry : goal.decreases-loop-entry
+decreases-loop-entry l = length l.region - l.at

@@ -13,13 +13,12 @@ use Rattle.query.proofs.many.is_asked.Goals as goal
 
 pub returns : goal.returns
 returns c =
-    let s = c in
-    let a = s.args in
+    let a = c.args in
     let r = a.region.now in
     let key = asked_bytes a.keys.now a.k a.size in
     c.equal.ensures
     ∙ ap₂ same
     (c.key_of.ensures ∙ ap (λ (x : List ℕ). (header_fields_in authenticated x).vendor ++ name_in authenticated x a.e) c.from.ensures)
     c.asked-key.ensures
-    ∙ sought-named authenticated r a.at a.e key s.requires.2 s.requires.1
-    ∙ sought-entry r a.at a.e key s.requires.1
+    ∙ sought-named authenticated r a.at a.e key c.requires.2 c.requires.1
+    ∙ sought-entry r a.at a.e key c.requires.1

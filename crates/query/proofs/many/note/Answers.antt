@@ -1,32 +1,35 @@
--- `query::many::note` meets its contract: after each turn one name more has the entry noted. Assumes nothing.
 use native.Mathlib.Omega.{arith}
-use mathlib.Core.Path.{◌≡◌, ap, ◌∙◌}
+use mathlib.Core.Path.{◌≡◌, sym, ap₂, ◌∙◌}
 use mathlib.Core.Bool.{Bool}
 use lib.ListN.{get_or, length-set}
-use Rattle.query.specs.Many.{is_asked_def, first_of}
-use Rattle.query.proofs.Several.{noted-none, noted-next}
+use Rattle.query.specs.Many.{noted_at, unmet}
+use Rattle.query.proofs.Several.{noted-none, noted-next, noted-pass, asked-named, asked-other}
 use Rattle.query.proofs.many.note.Goals as goal
+use Rattle.query.proofs.many.note.Goals.{then-is_asked, else-is_asked}
 
 pub loop-k-init : goal.loop-k-init
 loop-k-init c =
     let a = c.args in
-    (omega arith, c.requires.1, c.requires.4, noted-none a.e.state a.keys.now a.sizes.now a.region.now a.at a.e a.start a.found.now)
+    (c.requires.4, noted-none a.keys.now a.sizes.now a.region.now a.at a.e a.names.start a.found.now)
 
 pub loop-k-preserved : goal.loop-k-preserved
-unfolding is_asked_def
 loop-k-preserved c =
-    let l = c in
-    let a = l.args in
-    let here = c.is_asked-here.ensures in
-    let room = l.requires in (
-      omega arith,
-      omega arith,
-      length-set l.loop-k.found l.loop-k.k c.first_of.result ∙ l.loop-k.invariant.2,
-      noted-next a.e.state a.keys.now a.sizes.now a.region.now a.at a.e l.loop-k.invariant.3 l.loop-k.invariant.0 (omega arith) (c.first_of.ensures ∙ ap (λ (t : Bool). first_of t a.at (get_or l.loop-k.found l.loop-k.k 0)) here),
-    )
+    let a = c.args in
+    let k = c.loop-k.k in
+    elim c.if-is_asked.branch [
+      | then-is_asked w ↦
+          let named = asked-named a.keys.now a.sizes.now a.region.now a.at a.e k (sym c.is_asked.ensures ∙ w.if-is_asked.true) in
+          rw w.found-is (
+            length-set c.loop-k.found k w.with.result ∙ c.loop-k.invariant.0,
+            noted-next a.keys.now a.sizes.now a.region.now a.at a.e c.loop-k.invariant.1 (omega arith) (omega arith)
+                (w.with.ensures ∙ ap₂ (λ (t u : Bool). noted_at t u a.at (get_or c.loop-k.found k unmet)) (sym (named 0x3F)) (sym (named 0x3E))),
+          )
+      | else-is_asked w ↦
+          let other = asked-other a.keys.now a.sizes.now a.region.now a.at a.e k (sym c.is_asked.ensures ∙ w.if-is_asked.false) in
+          rw w.found-is (c.loop-k.invariant.0, noted-pass a.keys.now a.sizes.now a.region.now a.at a.e c.loop-k.invariant.1 (omega arith) (other 0x3F) (other 0x3E))
+    ]
 
 pub returns : goal.returns
 returns c =
-    let l = c in
-    let n : l.loop-k.k ≡ l.args.end = omega arith in
-    rw (← n) l.loop-k.invariant.3
+    let n : c.loop-k.k ≡ c.args.names.end = omega arith in
+    rw (← n) c.loop-k.invariant.1
