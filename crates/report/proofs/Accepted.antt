@@ -13,12 +13,13 @@ use Rattle.model.specs.Region.{entries_in, values, values_in}
 use Rattle.model.specs.Answers.{rule_number}
 use Rattle.model.specs.declared.Rule.{Rule}
 use Rattle.image.specs.Check.{call_in}
-use Rattle.image.specs.declared.Check.TheVariants.{Ready, Refused}
-use Rattle.image.proofs.Ready.{refused-rule, is-ready}
+use Rattle.image.specs.declared.Ready.{Ready}
+use Rattle.std.specs.Prelude.{Ok, Err}
+use Rattle.image.proofs.Readiness.{refused-rule, is-ready}
 use Rattle.report.specs.Varlist.{summary_line, value_lines, refused_line, store_text, list_text}
 
 -- a refused image
-pub refused-text : (y : Layout) (img : List ℕ) (rule : Rule) → call_in y img ≡ Refused rule → refused_line (rule_number rule) ≡ list_text y img
+pub refused-text : (y : Layout) (img : List ℕ) (rule : Rule) → call_in y img ≡ Err rule → refused_line (rule_number rule) ≡ list_text y img
 unfolding list_text
 refused-text y img rule p = rw (refused-rule y img rule p)
 
@@ -30,7 +31,7 @@ pub record Accepted (y : Layout) (img : List ℕ) (b t : ℕ) : Type 0 where
   pub tail-low : t ≤ 28672
   pub text : summary_line (length (region img)) t (length (values (entries_in y (region img)))) ++ value_lines (values (entries_in y (region img))) ≡ list_text y img
 
-pub accepted : (y : Layout) (img : List ℕ) {b t u : ℕ} → call_in y img ≡ Ready b t u → Accepted y img b t
+pub accepted : (y : Layout) (img : List ℕ) {ready : Ready} → call_in y img ≡ Ok ready → Accepted y img ready.blocks ready.tail
 unfolding list_text store_text values_in region_size block
 accepted y img p =
     let r = is-ready y p in

@@ -9,7 +9,7 @@ use Rattle.model.specs.Walk as walk
 use Rattle.layout.specs.declared.Entry as numbers
 use Rattle.region.specs.Walk.{entry_as, vendor_as}
 use Rattle.values.proofs.Listed.{listed_in}
-use Rattle.values.proofs.Stands.{None}
+use Rattle.values.proofs.Stands.{NoneLeft}
 use Rattle.values.proofs.Next.{Next}
 use Rattle.report.specs.Varlist.{entry_line, value_line, value_lines}
 
@@ -26,6 +26,6 @@ module _ (y : Layout) where
   unfolding value_lines
   next-lines x = ap value_lines x.list
 
-  pub no_lines : {r : List ℕ} {here : ℕ} → None y r here → value_lines (listed_in y r here) ≡ []
+  pub no_lines : {r : List ℕ} {here : ℕ} → NoneLeft y r here → value_lines (listed_in y r here) ≡ []
   unfolding value_lines
   no_lines x = ap value_lines x.list

@@ -8,11 +8,10 @@ ghost use Rattle.region.specs.Walk.{entry_as};
 ghost use Rattle.output.specs.Text.{Wrote};
 ghost use Rattle.report.specs.Varlist.{field, summary_line, key_text, entry_line, value_line, value_lines, refused_line, list_text};
 
-use image::Check;
-use layout::Entry;
+use image::Ready;
 use model::Layout;
-use region::walk;
-use values::{NextValue, list};
+use region::{Placed, walk};
+use values::list;
 
 // A word and a number behind it.
 fn put_field(out: &mut [u8], at: usize, word: &[u8], n: u32) -> usize
@@ -55,14 +54,7 @@ fn put_key(out: &mut [u8], at: usize, vendor: &[u8], name: &[u8]) -> usize
     output::put_byte(out, next, b' ')
 }
 
-// Stored attributes are below 256.
-fn low_byte(n: u32) -> u8
-    ensures { result ≡ n % 256 }
-{
-    (n % 256) as u8
-}
-
-// The line of a value: GUID, name bytes, attributes, data size.
+// The line of a value: GUID, name bytes, attributes, which are below 256 where they are stored, data size.
 fn put_value(
     out: &mut [u8],
     at: usize,
@@ -76,21 +68,22 @@ fn put_value(
         × (result ≤ at + 2 * length vendor.now + 2 * length name.now + 16) }
 {
     let next = put_key(out, at, vendor, name);
-    let next = output::put_hex_byte(out, next, low_byte(attributes));
+    let next = output::put_hex_byte(out, next, (attributes % 256) as u8);
     let next = put_field(out, next, b" ", size);
     output::put_byte(out, next, b'\n')
 }
 
 // The line of the value that an entry holds.
-fn put_entry(y: Layout, out: &mut [u8], at: usize, region: &[u8], place: usize, e: Entry) -> usize
+fn put_entry(y: Layout, out: &mut [u8], at: usize, region: &[u8], placed: Placed) -> usize
     requires { (at < 2 ^ 40) × (length region.now ≤ 28672) }
-    ensures { Wrote (value_line (entry_value_def (entry_as y region.now place e))) at out.old out.new result
-        × (result ≤ at + 48 + 2 * length (entry_as y region.now place e).name) }
+    ensures { Wrote (value_line (entry_value_def (entry_as y region.now placed.at placed.entry))) at out.old out.new result
+        × (result ≤ at + 48 + 2 * length (entry_as y region.now placed.at placed.entry).name) }
 {
+    let Placed { at: place, entry } = placed;
     let vendor = walk::vendor_of(y, region, place);
-    let name = walk::name_of(y, region, place, e);
-    let data = walk::data_of(y, region, place, e);
-    put_value(out, at, vendor, name, e.attributes, data.len() as u32)
+    let name = walk::name_of(y, region, place, entry);
+    let data = walk::data_of(y, region, place, entry);
+    put_value(out, at, vendor, name, entry.attributes, data.len() as u32)
 }
 
 // A line for each value in flash order.
@@ -99,15 +92,12 @@ fn put_lines(y: Layout, region: &[u8], out: &mut [u8], at: usize) -> usize
     ensures { Wrote (value_lines (values (entries_in y region.now))) at out.old out.new result }
 {
     let mut next = at;
-    let mut here: usize = layout::REGION_HEADER;
-    loop {
-        let v = list::next_value(y, region, here);
-        let NextValue::At(place, e, after) = v else {
-            return next;
-        };
-        next = put_entry(y, out, next, region, place, e);
+    let mut here = layout::REGION_HEADER;
+    while let Some((placed, after)) = list::next_value(y, region, here) {
+        next = put_entry(y, out, next, region, placed);
         here = after;
     }
+    next
 }
 
 // The report on an accepted store: the summary, then the values. Whose they are does not matter.
@@ -127,11 +117,10 @@ fn put_store(y: Layout, region: &[u8], tail: usize, out: &mut [u8]) -> usize
 pub fn report(y: Layout, image: &[u8], out: &mut [u8]) -> usize
     ensures { Wrote (list_text y image.now) 0 out.old out.new result }
 {
-    let c = image::check_call(y, image);
-    match c {
-        Check::Ready(b, tail, _) => {
-            put_store(y, slices::cut(image, 0, layout::BLOCK * b), tail, out)
+    match image::check_call(y, image) {
+        Ok(Ready { blocks, tail, .. }) => {
+            put_store(y, slices::cut(image, 0, layout::BLOCK * blocks), tail, out)
         }
-        Check::Refused(rule) => put_refused(out, 0, model::number(rule)),
+        Err(rule) => put_refused(out, 0, u32::from(rule)),
     }
 }
