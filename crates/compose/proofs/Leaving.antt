@@ -240,8 +240,8 @@ module _ (r : List ℕ) where
   agreed-zeros (suc n) = agreed-zero (replicate n 0) [] (agreed-zeros n)
 
   -- with no place no value is left out
-  pub leaving-none : values_but (replicate 8 0) r ≡ values (entries r)
-  leaving-none = leaving-agreed (replicate 8 0) [] (agreed-zeros 8) ∙ without-none (values (entries r))
+  pub leaving-none : values_but [] r ≡ values (entries r)
+  leaving-none = leaving-agreed [] [] agreed-none ∙ without-none (values (entries r))
 
   -- with the place of a name's value that value alone is left out
   pub leaving-standing : sound r ≡ true → (k : Key) → values_but (leave_of (found_of (standing k (entries r)))) r ≡ without k (values (entries r))

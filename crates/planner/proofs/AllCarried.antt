@@ -4,7 +4,7 @@ use Prim.Native.Nat.{ℕ, ◌+◌, ◌*◌, ◌-◌, ◌≤◌}
 use native.Mathlib.Omega.{arith}
 use mathlib.Core.Path.{◌≡◌, ap, ◌∙◌}
 use mathlib.Core.Bool.{true}
-use mathlib.Core.List.{List, ◌++◌}
+use mathlib.Core.List.{List, [], ◌++◌}
 use lib.ListN.{length, replicate}
 use Rattle.model.specs.Layout.{authenticated}
 use Rattle.model.specs.Lists.{part}
@@ -35,13 +35,13 @@ module _ (img : List ℕ) (b : ℕ) (low : 1 ≤ b) (high : b ≤ 7) (long : len
   room = let m = region-long img b low high long in omega (arith, sound-fits authenticated (region img) chunked)
 
   module _ {s l l₁ : List ℕ} {n : ℕ} (e : s ≡ part 0 (block * b) img)
-      (w : Wrote (region_header_def (length s) ++ joined (values_but (replicate 8 0) s)) 0 l l₁ n) (full : length l ≡ 28672) where
+      (w : Wrote (region_header_def (length s) ++ joined (values_but [] s)) 0 l l₁ n) (full : length l ≡ 28672) where
     front : Wrote (region_header_def (block * b) ++ joined (values_of img)) 0 l l₁ n
     unfolding values_in
     front =
         wrote_as
-        (ap (λ (x : List ℕ). region_header_def (length x) ++ joined (values_but (replicate 8 0) x)) (e ∙ its-region img b low high long)
-        ∙ ap (λ (k : ℕ). region_header_def k ++ joined (values_but (replicate 8 0) (region img))) (region-long img b low high long)
+        (ap (λ (x : List ℕ). region_header_def (length x) ++ joined (values_but [] x)) (e ∙ its-region img b low high long)
+        ∙ ap (λ (k : ℕ). region_header_def k ++ joined (values_but [] (region img))) (region-long img b low high long)
         ∙ ap (λ (vs : List Value). region_header_def (block * b) ++ joined vs) (leaving-none (region img))) w
 
     -- what the compaction asks

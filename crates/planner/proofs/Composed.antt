@@ -16,7 +16,8 @@ use Rattle.model.specs.Region.{entries, standing, sound, values}
 use Rattle.model.specs.Change.{without, put, step, entry_sizes, space_of, entry_sizes_in, space_in}
 use Rattle.model.specs.Compact.{joined, encode}
 use Rattle.model.proofs.Encode.{AllValid}
-use Rattle.values.specs.declared.Found.{Found}
+use Rattle.std.specs.Prelude.{Option}
+use Rattle.region.specs.declared.Placed.{Placed}
 use Rattle.values.specs.Found.{found_of}
 use Rattle.output.specs.Text.{Wrote}
 use Rattle.output.proofs.Writing.{wrote-append, wrote_as, wrote-front}
@@ -75,7 +76,7 @@ module _ (n : ℕ) (v : Value) (vs : List Value) where
       (omega (arith, h.2), omega arith, h.0, omega arith, h.1)
 
 -- the others: the place that is left out is that of the name's value
-pub others-wrote : (r : List ℕ) (k : Key) {leave l l₁ : List ℕ} {f : Found} {n : ℕ} → sound r ≡ true → leave ≡ leave_of f → f ≡ found_of (standing k (entries r))
+pub others-wrote : (r : List ℕ) (k : Key) {leave l l₁ : List ℕ} {f : Option Placed} {n : ℕ} → sound r ≡ true → leave ≡ leave_of f → f ≡ found_of (standing k (entries r))
     → Wrote (region_header_def (length r) ++ joined (values_but leave r)) 0 l l₁ n → Wrote (region_header_def (length r) ++ joined (without k (values (entries r)))) 0 l l₁ n
 others-wrote r k s p q w =
     wrote_as (ap (λ (vs : List Value). region_header_def (length r) ++ joined vs) (ap (λ (o : List ℕ). values_but o r) (p ∙ ap leave_of q) ∙ leaving-standing r s k)) w

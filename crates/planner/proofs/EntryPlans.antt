@@ -5,7 +5,8 @@ use native.Mathlib.Omega.{arith}
 use mathlib.Core.Path.{◌≡◌, refl, sym, ap, ap₂, ◌∙◌}
 use mathlib.Core.Bool.{true}
 use mathlib.Core.List.{List, [], ◌∷◌, ◌++◌, append_assoc, append-nil}
-use mathlib.Core.Option.{Option, none, some}
+use mathlib.Core.Option.{Option as Maybe, none, some}
+use Rattle.std.specs.Prelude.{Option, Some, None}
 use lib.ListN.{length, get_or, take, drop, replicate, length-append, length-replicate}
 use lib.Seq.{take_at, drop_at}
 use lib.Dec.{eqb}
@@ -18,10 +19,8 @@ use Rattle.model.specs.Region.{is_entry_def, added, replacing, standing}
 use Rattle.model.specs.Set.{mark_state, leftover, entry_stores, tail_to, tail_on, delete_to}
 use Rattle.model.proofs.Tests.{and_split}
 use Rattle.model.proofs.Values.{found}
-use Rattle.layout.specs.declared.Entry.{Entry}
 use Rattle.values.specs.Found.{found_of, else_found}
-use Rattle.values.specs.declared.Found.{Found}
-use Rattle.values.specs.declared.Found.TheVariants.{At, Nothing}
+use Rattle.region.specs.declared.Placed.{Placed}
 use Rattle.values.specs.declared.Places.{Places}
 use Rattle.values.proofs.Finds.{found-else}
 use Rattle.plan.specs.declared.Step.{Step}
@@ -29,18 +28,18 @@ use Rattle.plan.specs.declared.Step.TheVariants as step
 use Rattle.plan.specs.Plan.{is_mark, stores_of_step, expand}
 use Rattle.planner.specs.Entries.{on_found, Below, mark_found_def, leftover_step, remove_step, retire_step, delete_plan, tail_plan}
 
-pub standing-below : (end : ℕ) (x y : Found) → Below end x → Below end y → Below end (else_found x y)
-standing-below end (At at e) y h k = h
-standing-below end Nothing y h k = k
+pub standing-below : (end : ℕ) (x y : Option Placed) → Below end x → Below end y → Below end (else_found x y)
+standing-below end (Some p) y h k = h
+standing-below end None y h k = k
 
 -- ---- one operation
 
-mark-stores : (c : List ℕ) (o : Option walk.Entry) (v : ℕ) → stores_of_step c (mark_found_def (found_of o) v) ≡ on_some o (λ e. mark_state e.at v) []
+mark-stores : (c : List ℕ) (o : Maybe walk.Entry) (v : ℕ) → stores_of_step c (mark_found_def (found_of o) v) ≡ on_some o (λ e. mark_state e.at v) []
 unfolding stores_of_step mark_found_def
 mark-stores c (some e) v = refl
 mark-stores c none v = refl
 
-leftover-stores : (c : List ℕ) (a r : Option walk.Entry)
+leftover-stores : (c : List ℕ) (a r : Maybe walk.Entry)
     → stores_of_step c (on_found {A = Step} (found_of a) (λ at e. mark_found_def (found_of r) 0x3C) step.Nothing)
     ≡ on_some a (λ f. on_some r (λ e. mark_state e.at 0x3C) []) []
 unfolding stores_of_step
@@ -48,11 +47,11 @@ leftover-stores c (some a) r = mark-stores c r 0x3C
 leftover-stores c none r = refl
 
 -- the entries found have the states that they were sought by
-abbrev Stated : ℕ → Option walk.Entry → Type 0
+abbrev Stated : ℕ → Maybe walk.Entry → Type 0
 Stated state (some e) = walk.state_of e ≡ state
 Stated state none = Unit {0}
 
-remove-stores : (c : List ℕ) (a r : Option walk.Entry) → Stated 0x3F a → Stated 0x3E r
+remove-stores : (c : List ℕ) (a r : Maybe walk.Entry) → Stated 0x3F a → Stated 0x3E r
     → stores_of_step c (on_found {A = Step} (found_of a) (λ at e. mark_found_def (found_of a) 0x3D) (mark_found_def (found_of r) 0x3C))
     ≡ on_some (or_else a r) (λ e. mark_state e.at (walk.state_of e - 0x02)) []
 unfolding stores_of_step mark_found_def
@@ -60,7 +59,7 @@ remove-stores c (some a) r h k = ap (λ (s : ℕ). mark_state a.at (s - 0x02)) (
 remove-stores c none (some r) h k = ap (λ (s : ℕ). mark_state r.at (s - 0x02)) (sym k)
 remove-stores c none none h k = refl
 
-remove-mark : (a r : Option walk.Entry) → is_some (or_else a r) ≡ true
+remove-mark : (a r : Maybe walk.Entry) → is_some (or_else a r) ≡ true
     → is_mark (on_found {A = Step} (found_of a) (λ at e. mark_found_def (found_of a) 0x3D) (mark_found_def (found_of r) 0x3C)) ≡ true
 unfolding mark_found_def
 remove-mark (some a) r h = refl
@@ -68,12 +67,12 @@ remove-mark none (some r) h = refl
 remove-mark none none h = h
 
 -- as `remove` comes to it
-pub on-found : (x : Found) (a d : Step) {at : ℕ} {e : Entry} → x ≡ At at e → a ≡ on_found {A = Step} x (λ at e. a) d
+pub on-found : (x : Option Placed) (a d : Step) {p : Placed} → x ≡ Some p → a ≡ on_found {A = Step} x (λ at e. a) d
 on-found x a d p = rw p
 
 -- ---- what was found of a name is what the entries hold of it
 
-sought : (state : ℕ) (k : Key) (es : List walk.Entry) (o : Option walk.Entry) → first (is_entry_def state k) es ≡ o → Stated state o
+sought : (state : ℕ) (k : Key) (es : List walk.Entry) (o : Maybe walk.Entry) → first (is_entry_def state k) es ≡ o → Stated state o
 sought state k es (some e) h =
     let g = found (is_entry_def state k) es e h in
     eqb-true (walk.state_of e) state (and_split (eqb (walk.state_of e) state) (same_key_def (walk.entry_key e) k) g.passes).0

@@ -6,7 +6,8 @@ use native.Mathlib.Omega.{arith}
 use mathlib.Core.Path.{◌≡◌, refl, sym, ap, ◌∙◌, subst}
 use mathlib.Core.Bool.{Bool, true}
 use mathlib.Core.List.{List, ◌++◌}
-use mathlib.Core.Option.{Option, none, some}
+use mathlib.Core.Option.{Option as Maybe, none, some}
+use Rattle.std.specs.Prelude.{Option, Some, None}
 use lib.ListN.{length}
 use lib.Dec.{eqb}
 use borrow.Author.Tests.{eq-eqb}
@@ -23,8 +24,7 @@ use Rattle.model.specs.Book.{ClearsOne, is_state_def}
 use Rattle.model.proofs.Tests.{or_left, or_right}
 use Rattle.model.proofs.Values.{any_at, found}
 use Rattle.values.specs.Found.{found_of, else_found}
-use Rattle.values.specs.declared.Found.{Found}
-use Rattle.values.specs.declared.Found.TheVariants.{At, Nothing}
+use Rattle.region.specs.declared.Placed.{Placed}
 use Rattle.values.specs.declared.Places.{Places}
 use Rattle.plan.specs.declared.Step.{Step}
 use Rattle.plan.specs.declared.Step.TheVariants as step
@@ -38,40 +38,40 @@ abbrev Good : List ℕ → ℕ → (ℕ → Bool) → Step → Type 0
 Good c long marks s = Fits (length c) long s × MarkAt marks s × Blank c s
 
 -- where a state was found
-abbrev StateAt : (ℕ → Bool) → Found → Type 0
-StateAt marks (At at e) = marks (at + state_at) ≡ true
-StateAt marks Nothing = Unit {0}
+abbrev StateAt : (ℕ → Bool) → Option Placed → Type 0
+StateAt marks (Some p) = marks (p.at + state_at) ≡ true
+StateAt marks None = Unit {0}
 
 module _ (c : List ℕ) (long : ℕ) (marks : ℕ → Bool) where
-  mark-good : (x : Found) (v : ℕ) → Below long x → StateAt marks x → Good c long marks (mark_found_def x v)
+  mark-good : (x : Option Placed) (v : ℕ) → Below long x → StateAt marks x → Good c long marks (mark_found_def x v)
   unfolding mark_found_def
-  mark-good (At at e) v h m = (omega arith, m, tt)
-  mark-good Nothing v h m = (tt, tt, tt)
+  mark-good (Some p) v h m = (omega arith, m, tt)
+  mark-good None v h m = (tt, tt, tt)
 
-  module _ (x y : Found) (hx : Below long x) (hy : Below long y) (mx : StateAt marks x) (my : StateAt marks y) where
+  module _ (x y : Option Placed) (hx : Below long x) (hy : Below long y) (mx : StateAt marks x) (my : StateAt marks y) where
     leftover-good : Good c long marks (on_found {A = Step} x (λ at e. mark_found_def y 0x3C) step.Nothing)
     leftover-good = go x
       where
-        go : (x : Found) → Good c long marks (on_found {A = Step} x (λ at e. mark_found_def y 0x3C) step.Nothing)
-        go (At at e) = mark-good y 0x3C hy my
-        go Nothing = (tt, tt, tt)
+        go : (x : Option Placed) → Good c long marks (on_found {A = Step} x (λ at e. mark_found_def y 0x3C) step.Nothing)
+        go (Some p) = mark-good y 0x3C hy my
+        go None = (tt, tt, tt)
 
     remove-good : Good c long marks (on_found {A = Step} x (λ at e. mark_found_def x 0x3D) (mark_found_def y 0x3C))
     remove-good = go x refl
       where
-        go : (z : Found) → x ≡ z → Good c long marks (on_found {A = Step} z (λ at e. mark_found_def x 0x3D) (mark_found_def y 0x3C))
-        go (At at e) p = mark-good x 0x3D hx mx
-        go Nothing p = mark-good y 0x3C hy my
+        go : (z : Option Placed) → x ≡ z → Good c long marks (on_found {A = Step} z (λ at e. mark_found_def x 0x3D) (mark_found_def y 0x3C))
+        go (Some q) p = mark-good x 0x3D hx mx
+        go None p = mark-good y 0x3C hy my
 
     retire-good : Good c long marks (mark_found_def (else_found x y) 0x3C)
     retire-good = go x hx mx
       where
-        go : (x : Found) → Below long x → StateAt marks x → Good c long marks (mark_found_def (else_found x y) 0x3C)
-        go (At at e) h m = mark-good (At at e) 0x3C h m
-        go Nothing h m = mark-good y 0x3C hy my
+        go : (x : Option Placed) → Below long x → StateAt marks x → Good c long marks (mark_found_def (else_found x y) 0x3C)
+        go (Some p) h m = mark-good (Some p) 0x3C h m
+        go None h m = mark-good y 0x3C hy my
 
 -- an entry's state stands at a place of a state
-entry-state : (img : List ℕ) (state : ℕ) (k : Key) (o : Option walk.Entry) → first (is_entry_def state k) (entries (region img)) ≡ o → StateAt (is_state_def img) (found_of o)
+entry-state : (img : List ℕ) (state : ℕ) (k : Key) (o : Maybe walk.Entry) → first (is_entry_def state k) (entries (region img)) ≡ o → StateAt (is_state_def img) (found_of o)
 unfolding is_state_def
 entry-state img state k (some e) h =
     let g = found (is_entry_def state k) (entries (region img)) e h in

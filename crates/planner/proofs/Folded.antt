@@ -7,6 +7,7 @@ use mathlib.Core.Path.{◌≡◌, refl, sym, ap, ◌∙◌, subst}
 use mathlib.Core.Bool.{Bool, true, false}
 use mathlib.Core.List.{List, [], ◌++◌}
 use lib.ListN.{length, replicate}
+use Rattle.std.specs.Prelude.{Some, Ok}
 use Rattle.model.specs.Layout.{authenticated}
 use Rattle.model.specs.Lists.{part}
 use Rattle.model.specs.Image.{block, region_size, region, work, region_header_def}
@@ -31,12 +32,11 @@ use Rattle.image.specs.Check.{IsReady}
 use Rattle.output.specs.Text.{Wrote}
 use Rattle.output.proofs.Writing.{wrote_as, wrote-length}
 use Rattle.compose.specs.Compose.{values_but}
-use Rattle.plan.specs.declared.Op.{Op}
 use Rattle.plan.specs.declared.Step.TheVariants.{Nothing}
-use Rattle.plan.specs.declared.Planned.{Planned}
+use Rattle.plan.specs.declared.Step.{Step}
 use Rattle.plan.specs.Plan.{stores_of_step}
 use Rattle.plan.specs.Planned.{accepted, decides_right}
-use Rattle.plan.proofs.Parts.{mark-decides, accepted-as, accepted-ready}
+use Rattle.plan.proofs.Parts.{mark-decides, accepted-as}
 use Rattle.planner.specs.Compactions.{compact_plan}
 use Rattle.planner.proofs.EntryPlans.{standing-is}
 use Rattle.planner.proofs.CompactionPlans.{compact-to, compact-on}
@@ -76,19 +76,19 @@ module _ {img : List ℕ} {b at used : ℕ} (a : IsReady img b at used) (vs : Li
           composed vs valid has_room w x (omega (arith, a.few, full)) ∙ ap (λ (k : ℕ). encode k vs) (sym (region-size img b a.number))
 
       -- the record FC decides
-      decides : {ops : List Op} {p : Planned} → ops ≡ compact_plan Nothing Nothing b (used_records (work img)) → p ≡ accepted ops 5
-          → decides_right (set.compact_plan img vs) p ≡ true
+      decides : {ops : List Step} → ops ≡ compact_plan Nothing Nothing b (used_records (work img))
+          → decides_right (set.compact_plan img vs) (accepted ops (Some 5)) ≡ true
       unfolding compact_plan
-      decides {ops} {p} o f =
-          ap (λ (q : Plan). decides_right q p) is-plan
-          ∙ mark-decides c (compact_plan Nothing Nothing b (used_records (work img))) 5 (fill_spare b (work img) wanted) (finish b (next_record_def (work img)) wanted) f o refl
+      decides {ops} o =
+          ap (λ (q : Plan). decides_right q (accepted ops (Some 5))) is-plan
+          ∙ mark-decides c (compact_plan Nothing Nothing b (used_records (work img))) 5 (fill_spare b (work img) wanted) (finish b (next_record_def (work img)) wanted) o refl
           (compact-to c b (work img) wanted is-composed)
 
       -- *what was planned*
-      pub compact-planned : {ops : List Op} {p : Planned} → ops ≡ compact_plan Nothing Nothing b used → p ≡ accepted ops 5 → CompactPlanned img vs c p
+      pub compact-planned : {ops : List Step} → ops ≡ compact_plan Nothing Nothing b used → CompactPlanned img vs c (Ok (accepted ops (Some 5)))
       unfolding stores_of stores_of_step block
-      compact-planned {ops} {p} o f =
-          let ops' : List Op = compact_plan Nothing Nothing b (used_records (work img)) in
+      compact-planned {ops} o =
+          let ops' : List Step = compact_plan Nothing Nothing b (used_records (work img)) in
           let is : ops ≡ ops' = o ∙ ap (λ (k : ℕ). compact_plan Nothing Nothing b k) (sym a.used) in
           let size : region_size img ≡ 4096 * b = region-size img b a.number in
           let long : length img ≡ 4096 * (2 * b + 1) = (image-long img b a.right a.number).1 in
@@ -96,12 +96,12 @@ module _ {img : List ℕ} {b at used : ℕ} (a : IsReady img b at used) (vs : Li
           let held : 4096 * b ≤ length c = omega (arith, wrote-length x, wrote-length w) in
           record {
             same =
-                accepted-as c ops' 5 (fill_spare b (work img) wanted) (finish b (next_record_def (work img)) wanted) f is (compact-to c b (work img) wanted is-composed)
+                accepted-as c ops' (Some 5) (fill_spare b (work img) wanted) (finish b (next_record_def (work img)) wanted) is (compact-to c b (work img) wanted is-composed)
                 (compact-on c b (work img) wanted is-composed)
                 ∙ sym is-plan;
-            decides = decides is f;
+            decides = decides is;
             ready = λ records.
-                accepted-ready c img ops' 5 f is
+                rw is
                 (compact-ready c img Nothing Nothing b (work img) wanted is-composed size (omega arith) held (tt, tt, tt) (tt, tt, tt)
                 (λ n. subst (λ (ss : List Store). ClearsOne (is_record img) ss img) (ap (stores_of n) is-plan) (records n)));
           }
@@ -140,15 +140,15 @@ module _ {img : List ℕ} {b at used : ℕ} {places : Places} {v : Value} (a : A
     pub fold-asked : (n ≤ 4096 * b) × (b ≤ 7) × (length l₁ ≡ 28672)
     fold-asked = compact-asked a.ready ws put-is-valid a.room (wrote_as (its-front e) w) full
 
-    pub fold-planned : {c : List ℕ} {ops : List Op} {p : Planned} → Wrote (replicate (4096 * b - n) 0xFF) n l₁ c (4096 * b) → fits_tail (region img) v ≡ false
-        → ops ≡ compact_plan Nothing Nothing b used → p ≡ accepted ops 5 → PutPlanned img v c p
+    pub fold-planned : {c : List ℕ} {ops : List Step} → Wrote (replicate (4096 * b - n) 0xFF) n l₁ c (4096 * b) → fits_tail (region img) v ≡ false
+        → ops ≡ compact_plan Nothing Nothing b used → PutPlanned img v c (Ok (accepted ops (Some 5)))
     unfolding put_plan
-    fold-planned {c} {ops} {p} x fit o f =
-        let k = compact-planned a.ready ws put-is-valid a.room (wrote_as (its-front e) w) full x o f in
+    fold-planned {c} {ops} x fit o =
+        let k = compact-planned a.ready ws put-is-valid a.room (wrote_as (its-front e) w) full x o in
         let is : put_plan img v ≡ set.compact_plan img ws = rw fit in
         record {
           same = k.same ∙ sym is;
-          decides = ap (λ (q : Plan). decides_right q p) is ∙ k.decides;
+          decides = ap (λ (q : Plan). decides_right q (accepted ops (Some 5))) is ∙ k.decides;
           ready = λ states records. k.ready (λ n. subst (λ (ss : List Store). ClearsOne (is_record img) ss img) (ap (stores_of n) is) (records n));
         }
 
@@ -183,6 +183,6 @@ module _ {img : List ℕ} {b used : ℕ} {rs : List Request} {leave : List ℕ} 
     pub items-asked : (n ≤ 4096 * b) × (b ≤ 7) × (length l₁ ≡ 28672)
     items-asked = compact-asked a.ready left items-are-valid a.room (wrote_as (items-front e) w) full
 
-    pub items-planned : {c : List ℕ} {ops : List Op} {p : Planned} → Wrote (replicate (4096 * b - n) 0xFF) n l₁ c (4096 * b)
-        → ops ≡ compact_plan Nothing Nothing b used → p ≡ accepted ops 5 → FoldPlanned img (changes_alone rs (values_of img)) c p
-    items-planned x o f = compact-planned a.ready left items-are-valid a.room (wrote_as (items-front e) w) full x o f
+    pub items-planned : {c : List ℕ} {ops : List Step} → Wrote (replicate (4096 * b - n) 0xFF) n l₁ c (4096 * b)
+        → ops ≡ compact_plan Nothing Nothing b used → FoldPlanned img (changes_alone rs (values_of img)) c (Ok (accepted ops (Some 5)))
+    items-planned x o = compact-planned a.ready left items-are-valid a.room (wrote_as (items-front e) w) full x o

@@ -1,18 +1,21 @@
 -- A compaction with a change of PK and one of PlatMode folded in: the values at neither's place, then those that come, PlatMode's last.
 -- Assumes nothing.
-use Prim.Native.Nat.{ℕ, zero, suc, ◌*◌, ◌-◌, ◌^◌, ◌≤◌, ◌<◌}
+use Prim.Native.Nat.{ℕ, ◌*◌, ◌-◌, ◌^◌, ◌≤◌, ◌<◌}
 use native.Mathlib.Omega.{arith}
 use mathlib.Core.Path.{◌≡◌, refl, sym, ap, ◌∙◌, subst}
 use mathlib.Core.Bool.{Bool, true, false, cond}
 use mathlib.Core.List.{List, [], ◌∷◌, ◌++◌}
 use lib.ListN.{length, replicate, length-append}
 use lib.Dec.{eqb}
+use mathlib.Core.Option.{Option as Maybe, none, some}
+use Rattle.std.specs.Prelude.{Option, Some, None, unwrap_or, Ok}
 use Rattle.model.specs.Layout.{authenticated}
-use Rattle.model.specs.Lists.{same, part}
+use Rattle.model.specs.Lists.{same, part, on_some}
 use Rattle.model.specs.Image.{region, region_header_def}
 use Rattle.model.specs.Name.{Key, same_key_def}
 use Rattle.model.specs.Entry.{Value, key_of, no_stamp_def, entry_bytes}
-use Rattle.model.specs.Region.{entries, values, values_of, values_in, sound}
+use Rattle.model.specs.Region.{entries, standing, values, values_of, values_in, sound}
+use Rattle.model.specs.Walk.{Entry}
 use Rattle.model.specs.Request.{global_vendor_def, key_pk, key_mode, mode_value}
 use Rattle.model.specs.Change.{remove, put, steps}
 use Rattle.model.specs.Compact.{joined}
@@ -26,10 +29,9 @@ use Rattle.output.specs.Text.{Wrote}
 use Rattle.output.proofs.Writing.{wrote-append, wrote_as}
 use Rattle.compose.specs.Compose.{values_but}
 use Rattle.compose.proofs.Carried.{joined-append}
-use Rattle.compose.proofs.Leaving.{Agreed, agreed-none, agreed-zero, agreed-name, leaving-agreed}
-use Rattle.plan.specs.declared.Op.{Op}
+use Rattle.compose.proofs.Leaving.{Agreed, agreed-none, agreed-name, leaving-agreed}
 use Rattle.plan.specs.declared.Step.TheVariants.{Nothing}
-use Rattle.plan.specs.declared.Planned.{Planned}
+use Rattle.plan.specs.declared.Step.{Step}
 use Rattle.plan.specs.Planned.{accepted}
 use Rattle.planner.specs.Compactions.{compact_plan}
 use Rattle.planner.specs.Asked.{valued, joint_changes, stored_pk, stored_mode, stands_at, Joinable, FoldPlanned}
@@ -85,12 +87,16 @@ module _ (v : Value) (byte : ℕ) where
 
 -- ---- the values after them
 
-abbrev pub leaving : ℕ → ℕ → List ℕ
-leaving pk mode = pk ∷ mode ∷ replicate 6 0
+abbrev pub leaving : Option ℕ → Option ℕ → List ℕ
+leaving pk mode = unwrap_or pk 0 ∷ unwrap_or mode 0 ∷ []
 
-zeros : (r : List ℕ) (n : ℕ) → Agreed r (replicate n 0) []
-zeros r zero = agreed-none r
-zeros r (suc n) = agreed-zero r (replicate n 0) [] (zeros r n)
+-- a place where there is one, else 0
+agreed-place : (r : List ℕ) → sound r ≡ true → (k : Key) (leave : List ℕ) (ks : List Key) → Agreed r leave ks → Agreed r (unwrap_or (stands_at k r) 0 ∷ leave) (k ∷ ks)
+agreed-place r sounds k leave ks h = subst (λ (a : ℕ). Agreed r (a ∷ leave) (k ∷ ks)) (go (standing k (entries r))) (agreed-name r sounds k leave ks h)
+  where
+    go : (o : Maybe Entry) → on_some o (λ e. e.at) 0 ≡ unwrap_or (on_some o (λ e. Some e.at) None) 0
+    go (some e) = refl
+    go none = refl
 
 joint-after : (r : List ℕ) (comes : Bool) (v : Value) (byte : ℕ) → sound r ≡ true → (comes ≡ true → key_of v ≡ key_pk)
     → values_but (leaving (stands_at key_pk r) (stands_at key_mode r)) r ++ (stored_pk comes v ++ stored_mode byte)
@@ -98,7 +104,7 @@ joint-after : (r : List ℕ) (comes : Bool) (v : Value) (byte : ℕ) → sound r
 joint-after r comes v byte sounds n =
     let leave = leaving (stands_at key_pk r) (stands_at key_mode r) in
     let agreed : Agreed r leave (key_pk ∷ key_mode ∷ []) =
-    agreed-name r sounds key_pk (stands_at key_mode r ∷ replicate 6 0) (key_mode ∷ []) (agreed-name r sounds key_mode (replicate 6 0) [] (zeros r 6)) in
+    agreed-place r sounds key_pk (unwrap_or (stands_at key_mode r) 0 ∷ []) (key_mode ∷ []) (agreed-place r sounds key_mode [] [] (agreed-none r)) in
     let kept : values_but leave r ≡ without_all (changed_keys (joint_changes comes v byte)) (values (entries r)) =
     leaving-agreed r leave (key_pk ∷ key_mode ∷ []) agreed ∙ ap (λ (ks : List Key). without_all ks (values (entries r))) (sym (joint-keys v byte comes n)) in
     rw (kept, ← joint-put v byte comes) (sym (steps-folded (joint_changes comes v byte) (values (entries r)) (joint-apart v byte comes n)))
@@ -108,7 +114,7 @@ joint-after r comes v byte sounds n =
 abbrev pub after_both : List ℕ → List ℕ → Bool → Value → ℕ → List ℕ
 after_both r leave comes v byte = region_header_def (length r) ++ joined (values_but leave r ++ (stored_pk comes v ++ stored_mode byte))
 
-module _ {img : List ℕ} {b used pk mode byte : ℕ} {comes : Bool} {v : Value} (a : Joinable img b used pk mode comes v byte) where
+module _ {img : List ℕ} {b used byte : ℕ} {pk mode : Option ℕ} {comes : Bool} {v : Value} (a : Joinable img b used pk mode comes v byte) where
   abbrev left : List Value
   left = steps (joint_changes comes v byte) (values_of img)
 
@@ -134,9 +140,9 @@ module _ {img : List ℕ} {b used pk mode byte : ℕ} {comes : Bool} {v : Value}
     pub joint-asked : (n ≤ 4096 * b) × (b ≤ 7) × (length l₁ ≡ 28672)
     joint-asked = compact-asked a.ready left left-valid a.room (wrote_as (its-front e) w) full
 
-    pub joint-planned : {c : List ℕ} {ops : List Op} {p : Planned} → Wrote (replicate (4096 * b - n) 0xFF) n l₁ c (4096 * b)
-        → ops ≡ compact_plan Nothing Nothing b used → p ≡ accepted ops 5 → FoldPlanned img (joint_changes comes v byte) c p
-    joint-planned x o f = compact-planned a.ready left left-valid a.room (wrote_as (its-front e) w) full x o f
+    pub joint-planned : {c : List ℕ} {ops : List Step} → Wrote (replicate (4096 * b - n) 0xFF) n l₁ c (4096 * b)
+        → ops ≡ compact_plan Nothing Nothing b used → FoldPlanned img (joint_changes comes v byte) c (Ok (accepted ops (Some 5)))
+    joint-planned x o = compact-planned a.ready left left-valid a.room (wrote_as (its-front e) w) full x o
 
 -- ---- entry by entry
 
@@ -161,10 +167,10 @@ pub vendor-length : length global_vendor_def ≡ 16
 unfolding global_vendor_def
 vendor-length = refl
 
-pub mode-wrote : (byte : ℕ) {name vendor stamp none : List ℕ} {at n : ℕ} {l l' : List ℕ} → name ≡ key_mode.name → vendor ≡ global_vendor_def → stamp ≡ no_stamp_def → none ≡ []
-    → eqb byte 0 ≡ false → Wrote (entry_bytes 0x3F (valued name vendor 0x07 stamp (none ++ (byte ∷ [])))) at l l' n → Wrote (joined (stored_mode byte)) at l l' n
+pub mode-wrote : (byte : ℕ) {name vendor stamp nothing : List ℕ} {at n : ℕ} {l l' : List ℕ} → name ≡ key_mode.name → vendor ≡ global_vendor_def → stamp ≡ no_stamp_def → nothing ≡ []
+    → eqb byte 0 ≡ false → Wrote (entry_bytes 0x3F (valued name vendor 0x07 stamp (nothing ++ (byte ∷ [])))) at l l' n → Wrote (joined (stored_mode byte)) at l l' n
 unfolding mode_value key_mode
-mode-wrote byte {none = none} p q r s h w =
+mode-wrote byte {nothing = nothing} p q r s h w =
     rw h (wrote_as (ap (entry_bytes 0x3F) (rw (p, q, r, s)) ∙ joined-one (mode_value byte)) w)
 
 -- ---- one after the other

@@ -9,6 +9,8 @@ use mathlib.Core.List.{List}
 use lib.ListN.{length}
 use lib.Dec.{eqb, leb}
 use borrow.Author.Tests.{leb-true, eqb-true}
+use Rattle.std.specs.Prelude.{Result}
+use Rattle.model.specs.declared.Rule.{Rule}
 use Rattle.model.specs.Lists.{all_ff}
 use Rattle.model.specs.Image.{block, blocks, right_length, region_size, region, work, spare}
 use Rattle.model.specs.Entry.{Value, plain_size}
@@ -50,5 +52,5 @@ value-short {img} {b} v r h = omega (arith, put-space v (values_of img), r.few, 
 pub asked-as : {img : List ℕ} {b at used : ℕ} {places : Places} {v w : Value} → v ≡ w → Asked img b at used places w → Asked img b at used places v
 asked-as {img} {b} {at} {used} {places} e a = subst (λ (x : Value). Asked img b at used places x) (sym e) a
 
-pub planned-as : {img c : List ℕ} {v w : Value} {p : Planned} → v ≡ w → PutPlanned img v c p → PutPlanned img w c p
+pub planned-as : {img c : List ℕ} {v w : Value} {p : Result Planned Rule} → v ≡ w → PutPlanned img v c p → PutPlanned img w c p
 planned-as {img} {c} {p = p} e a = subst (λ (x : Value). PutPlanned img x c p) e a

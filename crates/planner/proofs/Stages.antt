@@ -30,7 +30,7 @@ module _ (img : List ℕ) (b : ℕ) (low : 1 ≤ b) (high : b ≤ 7) (long : len
   unfolding block
   whole =
       let n : length img ≡ 8192 * b + 4096 = omega arith in
-      parted img b (sym (blocks-right img b low high n)) (λ e. omega arith)
+      parted img b (blocks-right img b low high n)
 
   pub its-blocks : blocks img ≡ b
   its-blocks = whole.same

@@ -6,7 +6,8 @@ use native.Mathlib.Omega.{arith}
 use mathlib.Core.Path.{◌≡◌, refl, sym, ap, ap₂, ◌∙◌, subst}
 use mathlib.Core.Bool.{Bool, true, false, cond, ◌&&◌, ◌||◌}
 use mathlib.Core.List.{List, [], ◌∷◌, ◌++◌}
-use mathlib.Core.Option.{Option, none, some}
+use mathlib.Core.Option.{Option as Maybe, none, some}
+use Rattle.std.specs.Prelude.{None, Result, Ok, Err}
 use lib.ListN.{length, take, drop, length-drop}
 use lib.Seq.{length-take-le}
 use lib.Dec.{eqb, leb}
@@ -30,16 +31,14 @@ use Rattle.recovery.proofs.StartingUp.{resume-alone}
 use Rattle.recovery.proofs.Bits.{start_up-marks}
 use Rattle.image.specs.Check.{start_up_of}
 use Rattle.image.specs.declared.Start.{Start}
-use Rattle.image.specs.declared.Start.TheVariants.{Pending, Sound, Refused}
+use Rattle.image.specs.declared.Start.TheVariants.{Pending, Sound}
 use Rattle.output.specs.Text.{Wrote}
 use Rattle.output.proofs.Writing.{wrote-front, wrote-length}
 use Rattle.records.specs.Look.{look_at_def}
 use Rattle.records.specs.declared.Look.{Look}
-use Rattle.plan.specs.declared.Op.{Op}
 use Rattle.plan.specs.declared.Step.{Step}
-use Rattle.plan.specs.declared.Planned.{Planned}
 use Rattle.plan.specs.Plan.{stores_of_step, expand}
-use Rattle.plan.specs.Planned.{none_decides, accepted, Plans}
+use Rattle.plan.specs.Planned.{accepted, Plans}
 use Rattle.plan.proofs.Parts.{undecided-plans}
 use Rattle.planner.specs.Fronts.{begun_plan}
 use Rattle.planner.specs.Compactions.{spare_step_def, work_step_def, tidied, compact_plan, resume_plan}
@@ -50,8 +49,8 @@ use Rattle.planner.proofs.Stages.{its-size, last_within, resume-list}
 
 -- ---- what was found
 
-abbrev start_of : Option Rule → Bool → ℕ → Look → Bool → Start
-start_of o t b l k = on_some o Refused (cond t (Pending b l) (Sound b l k))
+abbrev start_of : Maybe Rule → Bool → ℕ → Look → Bool → Result Start Rule
+start_of o t b l k = on_some o Err (Ok (cond t (Pending b l) (Sound b l k)))
 
 -- rules 1 and 2
 abbrev rules : List ℕ → List (Rule × Bool)
@@ -64,12 +63,12 @@ pub record Accepted (img : List ℕ) (b : ℕ) (t : Bool) : Type 0 where
   pub waits : pending img ≡ t
   pub same : blocks img ≡ b
 
-module _ (img : List ℕ) (b : ℕ) (l : Look) (k t : Bool) (found : start_up_of img ≡ cond t (Pending b l) (Sound b l k)) where
+module _ (img : List ℕ) (b : ℕ) (l : Look) (k t : Bool) (found : start_up_of img ≡ Ok (cond t (Pending b l) (Sound b l k))) where
   both : (first_broken (rules img) ≡ none) × (pending img ≡ t) × (blocks img ≡ b) × (l ≡ look_at_def (work img)) × (t ≡ false → k ≡ clean (region img))
   unfolding start_up_of
   both = go (first_broken (rules img)) (pending img) t found
     where
-      go : (o : Option Rule) (u t : Bool) → start_of o u (blocks img) (look_at_def (work img)) (clean (region img)) ≡ cond t (Pending b l) (Sound b l k)
+      go : (o : Maybe Rule) (u t : Bool) → start_of o u (blocks img) (look_at_def (work img)) (clean (region img)) ≡ Ok (cond t (Pending b l) (Sound b l k))
           → (o ≡ none) × (u ≡ t) × (blocks img ≡ b) × (l ≡ look_at_def (work img)) × (t ≡ false → k ≡ clean (region img))
       go (some rule) u true h = let z : ◌≡◌ {A = ℕ} 0 1 = cc in absurd (omega arith)
       go (some rule) u false h = let z : ◌≡◌ {A = ℕ} 0 1 = cc in absurd (omega arith)
@@ -145,13 +144,13 @@ module _ (img : List ℕ) (b : ℕ) (f : Accepted img b true) (bytes : Bytes img
           ap (λ (k : ℕ). take k c) (sym p) ∙ wrote-front w (omega arith) ∙ cut
 
       -- *what was planned*
-      pub resume-plans : {ops : List Op} {p : Planned} → ops ≡ resume_plan b place → p ≡ accepted ops none_decides → Plans (make [] (start_up_stores img)) img before c p
+      pub resume-plans : {ops : List Step} → ops ≡ resume_plan b place → Plans (make [] (start_up_stores img)) img before c (Ok (accepted ops None))
       unfolding block
-      resume-plans {ops} {p} o e =
+      resume-plans o =
           let content : List ℕ = part (4096 * b + 4096) (4096 * b) img in
           let n : length img ≡ 4096 * (2 * b + 1) = long in
           let h = high in
-          undecided-plans before c img (make [] (start_up_stores img)) (resume_plan b place) (start_up_stores img) e o (resume-is c b place content copied ∙ sym spare-finish) refl
+          undecided-plans before c img (make [] (start_up_stores img)) (resume_plan b place) (start_up_stores img) o (resume-is c b place content copied ∙ sym spare-finish) refl
           (resume-ready c img b place content copied (its-size img b low high long) (omega arith) (omega (arith, wrote-length w)) (last_within img b low high long looked f.waits)
           (records-clear img b true f bytes (finish b place content) spare-finish))
 
@@ -205,18 +204,18 @@ module _ (img : List ℕ) (b : ℕ) (f : Accepted img b false) where
   image-long = let l = (sized img b false f).2 in omega arith
 
   -- *the tail is blank*
-  pub rest-plans : (before c : List ℕ) {ops : List Op} {p : Planned} → all_ff (tail (region img)) ≡ true
-      → ops ≡ begun_plan (spare_step_def b (all_ff (spare img))) (work_step_def b (idle (work img))) → p ≡ accepted ops none_decides → Plans (make [] (start_up_stores img)) img before c p
-  rest-plans before c {ops} {p} t o e =
-      undecided-plans before c img (make [] (start_up_stores img)) (begun_plan (spare_step_def b (all_ff (spare img))) (work_step_def b (idle (work img)))) (start_up_stores img) e o
+  pub rest-plans : (before c : List ℕ) {ops : List Step} → all_ff (tail (region img)) ≡ true
+      → ops ≡ begun_plan (spare_step_def b (all_ff (spare img))) (work_step_def b (idle (work img))) → Plans (make [] (start_up_stores img)) img before c (Ok (accepted ops None))
+  rest-plans before c t o =
+      undecided-plans before c img (make [] (start_up_stores img)) (begun_plan (spare_step_def b (all_ff (spare img))) (work_step_def b (idle (work img)))) (start_up_stores img) o
       (rest-is own waits t c ∙ ap start_up_stores (sym whole)) refl (rest-ready c img b (all_ff (spare img)) (idle (work img)) image-long)
 
   -- *it is not*
-  pub tidy-plans : Bytes img → (before c : List ℕ) {ops : List Op} {p : Planned} → all_ff (tail (region img)) ≡ false → length c ≡ 28672
+  pub tidy-plans : Bytes img → (before c : List ℕ) {ops : List Step} → all_ff (tail (region img)) ≡ false → length c ≡ 28672
       → part 0 (block * b) c ≡ encode (block * b) (values (entries (region img)))
-      → ops ≡ compact_plan (spare_step_def b (all_ff (spare img))) (work_step_def b (idle (work img))) b (used_records (tidied (work img))) → p ≡ accepted ops none_decides
-      → Plans (make [] (start_up_stores img)) img before c p
-  tidy-plans bytes before c {ops} {p} t room e o a =
+      → ops ≡ compact_plan (spare_step_def b (all_ff (spare img))) (work_step_def b (idle (work img))) b (used_records (tidied (work img)))
+      → Plans (make [] (start_up_stores img)) img before c (Ok (accepted ops None))
+  tidy-plans bytes before c t room e o =
       let content : List ℕ = encode (block * b) (values (entries (region img))) in
       let w : List ℕ = tidied (work img) in
       let x = spare_step_def b (all_ff (spare img)) in
@@ -227,14 +226,14 @@ module _ (img : List ℕ) (b : ℕ) (f : Accepted img b false) where
       let gx = spare-good c (length img) b (is_record img) (all_ff (spare img)) (omega arith) in
       let gy = work-good c (length img) b (is_record img) (idle (work img)) (omega arith) in
       let few : block * b ≤ length c = unfold block in omega (arith, z.1, room) in
-      undecided-plans before c img (make [] (start_up_stores img)) (compact_plan x y b (used_records w)) (start_up_stores img) a o is refl
+      undecided-plans before c img (make [] (start_up_stores img)) (compact_plan x y b (used_records w)) (start_up_stores img) o is refl
       (compact-ready c img x y b w content e (its-size img b z.0 z.1 z.2) l few gx gy
       (records-clear img b false f bytes (stores_of_step c x ++ (stores_of_step c y ++ (fill_spare b w content ++ finish b (next_record_def w) content)))
       (sym is ∙ compact-is c x y b w content e)))
 
 -- the plans as the code makes them
-pub rest-as : {ops : List Op} {x y x' y' : Step} → ops ≡ begun_plan x y → x ≡ x' → y ≡ y' → ops ≡ begun_plan x' y'
+pub rest-as : {ops : List Step} {x y x' y' : Step} → ops ≡ begun_plan x y → x ≡ x' → y ≡ y' → ops ≡ begun_plan x' y'
 rest-as o p q = o ∙ ap₂ begun_plan p q
 
-pub compact-as : (b : ℕ) {ops : List Op} {x y x' y' : Step} {u u' : ℕ} → ops ≡ compact_plan x y b u → x ≡ x' → y ≡ y' → u ≡ u' → ops ≡ compact_plan x' y' b u'
+pub compact-as : (b : ℕ) {ops : List Step} {x y x' y' : Step} {u u' : ℕ} → ops ≡ compact_plan x y b u → x ≡ x' → y ≡ y' → u ≡ u' → ops ≡ compact_plan x' y' b u'
 compact-as b o p q e = o ∙ rw (p, q, e)

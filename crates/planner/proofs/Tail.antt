@@ -9,6 +9,7 @@ use mathlib.Core.List.{List, ◌++◌}
 use lib.ListN.{length, drop, length-append}
 use lib.Seq.{sets-eq, length-sets}
 use borrow.Author.Tests.{le-leb, lt-leb, leb-true}
+use Rattle.std.specs.Prelude.{Some, Ok}
 use Rattle.model.specs.Image.{block, region}
 use Rattle.model.specs.Entry.{Value, key_of, rounded, entry_size_def, entry_bytes}
 use Rattle.model.specs.Region.{entries, tail_at}
@@ -19,10 +20,9 @@ use Rattle.model.specs.Book.{ClearsOne, is_state_def}
 use Rattle.values.specs.declared.Places.{Places}
 use Rattle.output.specs.Text.{Wrote}
 use Rattle.compose.proofs.Headers.{entry-short}
-use Rattle.plan.specs.declared.Op.{Op}
-use Rattle.plan.specs.declared.Planned.{Planned}
+use Rattle.plan.specs.declared.Step.{Step}
 use Rattle.plan.specs.Planned.{accepted, decides_right}
-use Rattle.plan.proofs.Parts.{mark-decides, accepted-as, accepted-ready}
+use Rattle.plan.proofs.Parts.{mark-decides, accepted-as}
 use Rattle.planner.specs.Entries.{Below, tail_plan}
 use Rattle.planner.proofs.EntryPlans.{Holds, tail-to, tail-on, entry-holds}
 use Rattle.planner.proofs.EntryReady.{tail-ready}
@@ -87,34 +87,34 @@ module _ {img : List ℕ} {b at used : ℕ} {places : Places} {v : Value} (a : A
       is-plan = rw fit
 
       -- the state 3F decides
-      decides : {ops : List Op} {p : Planned} → ops ≡ tail_plan places (tail_at (region img)) (length v.name) (length v.bytes) → p ≡ accepted ops 6
-          → decides_right (put_plan img v) p ≡ true
+      decides : {ops : List Step} → ops ≡ tail_plan places (tail_at (region img)) (length v.name) (length v.bytes)
+          → decides_right (put_plan img v) (accepted ops (Some 6)) ≡ true
       unfolding tail_plan
-      decides {ops} {p} o f =
+      decides {ops} o =
           let es = entries (region img) in
           let t = tail_at (region img) in
-          ap (λ (q : Plan). decides_right q p) is-plan
-          ∙ mark-decides c (tail_plan places t (length v.name) (length v.bytes)) 6 (tail_to t v es) (tail_on v es) f o refl
+          ap (λ (q : Plan). decides_right q (accepted ops (Some 6))) is-plan
+          ∙ mark-decides c (tail_plan places t (length v.name) (length v.bytes)) 6 (tail_to t v es) (tail_on v es) o refl
           (tail-to c places v es a.added a.replacing holds t)
 
       -- *what was planned*
-      pub tail-planned : {ops : List Op} {p : Planned} {m : ℕ} → m ≡ length v.bytes → ops ≡ tail_plan places at (length v.name) m → p ≡ accepted ops 6 → PutPlanned img v c p
+      pub tail-planned : {ops : List Step} {m : ℕ} → m ≡ length v.bytes → ops ≡ tail_plan places at (length v.name) m → PutPlanned img v c (Ok (accepted ops (Some 6)))
       unfolding stores_of block
-      tail-planned {ops} {p} {m} e o f =
+      tail-planned {ops} {m} e o =
           let es = entries (region img) in
           let t = tail_at (region img) in
-          let ops' : List Op = tail_plan places t (length v.name) (length v.bytes) in
+          let ops' : List Step = tail_plan places t (length v.name) (length v.bytes) in
           let is : ops ≡ ops' = o ∙ ap (λ (k : ℕ). tail_plan places at (length v.name) k) e ∙ ap (λ (k : ℕ). tail_plan places k (length v.name) (length v.bytes)) (sym a.ready.tail-at) in
           let x = below (length img) (inr (omega arith)) in
           let long = image-long img b a.ready.right a.ready.number in
           let r = tail-room in
           record {
             same =
-                accepted-as c ops' 6 (tail_to t v es) (tail_on v es) f is (tail-to c places v es a.added a.replacing holds t) (tail-on c places v es a.added a.replacing t)
+                accepted-as c ops' (Some 6) (tail_to t v es) (tail_on v es) is (tail-to c places v es a.added a.replacing holds t) (tail-on c places v es a.added a.replacing t)
                 ∙ sym is-plan;
-            decides = decides is f;
+            decides = decides is;
             ready = λ states records.
-                accepted-ready c img ops' 6 f is
+                rw is
                 (tail-ready c img places v a.added a.replacing x.0 x.1 (omega (arith, a.ready.long, long.1)) held holds
                 (λ n. subst (λ (ss : List Store). ClearsOne (is_state_def img) ss img) (ap (stores_of n) is-plan) (states fit n)));
           }

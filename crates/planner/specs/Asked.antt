@@ -1,5 +1,6 @@
 -- The value that a put stores, those that the items of a profile and a joint change of PK and PlatMode store, and what the checks of the call leave to them.
-use Rattle.std.specs.Prelude.{ℕ, ◌≤◌, ◌≡◌, Bool, true, false, cond, List, [], ◌∷◌, ◌++◌, length, eqb}
+use Rattle.std.specs.Prelude.{ℕ, ◌≤◌, ◌≡◌, Bool, true, false, cond, Option, Some, None, Result, IfOk, List, [], ◌∷◌, ◌++◌, length, eqb}
+use Rattle.model.specs.declared.Rule.{Rule}
 use Rattle.model.specs.Image.{region_size, region}
 use Rattle.model.specs.Lists.{among, on_some}
 use Rattle.model.specs.Name.{Key}
@@ -36,22 +37,22 @@ pub record Asked (img : List ℕ) (b tail used : ℕ) (places : Places) (v : Val
 
 -- a put was planned over an image, with this content: it is what the definitions plan, its deciding operation is told rightly, and it is what the executor
 -- asks, if every change of state and record clears one bit, whatever w is
-pub record PutPlanned (img : List ℕ) (v : Value) (content : List ℕ) (p : Planned) : Type 0 where
-  pub same : planned_as content p ≡ put_plan img v
-  pub decides : decides_right (put_plan img v) p ≡ true
+pub record PutPlanned (img : List ℕ) (v : Value) (content : List ℕ) (planned : Result Planned Rule) : Type 0 where
+  pub same : planned_as content planned ≡ put_plan img v
+  pub decides : IfOk planned (λ p. decides_right (put_plan img v) p ≡ true)
   pub ready : (fits_tail (region img) v ≡ true → (w : ℕ) → ClearsOne (is_state_def img) (stores_of w (put_plan img v)) img)
       → ((w : ℕ) → ClearsOne (is_record img) (stores_of w (put_plan img v)) img)
-      → Ready content p.plan img
+      → IfOk planned (λ p. Ready content p.plan img)
 
 -- a compaction was planned over an image that is to leave a list of values, with this content: as before; which operations make up the list is as open as in `Plans`
-pub record CompactPlanned (img : List ℕ) (vs : List Value) (content : List ℕ) (p : Planned) : Type 0 where
-  pub same : planned_as content p ≡ compact_plan img vs
-  pub decides : decides_right (compact_plan img vs) p ≡ true
-  pub ready : ((w : ℕ) → ClearsOne (is_record img) (stores_of w (compact_plan img vs)) img) → Ready content p.plan img
+pub record CompactPlanned (img : List ℕ) (vs : List Value) (content : List ℕ) (planned : Result Planned Rule) : Type 0 where
+  pub same : planned_as content planned ≡ compact_plan img vs
+  pub decides : IfOk planned (λ p. decides_right (compact_plan img vs) p ≡ true)
+  pub ready : ((w : ℕ) → ClearsOne (is_record img) (stores_of w (compact_plan img vs)) img) → IfOk planned (λ p. Ready content p.plan img)
 
 -- 02 (l), "The whole profile is one compaction": changes one after another, all of them folded in
-abbrev pub FoldPlanned : List ℕ → List Change → List ℕ → Planned → Type 0
-FoldPlanned img cs content p = CompactPlanned img (steps cs (values_of img)) content p
+abbrev pub FoldPlanned : List ℕ → List Change → List ℕ → Result Planned Rule → Type 0
+FoldPlanned img cs content planned = CompactPlanned img (steps cs (values_of img)) content planned
 
 -- the value that an item stores, if it does: it has neither 0x20 nor 0x40, so its stamp is zeros
 abbrev pub item_value : Request → Value
@@ -95,13 +96,13 @@ stored_pk comes v = cond comes (v ∷ []) []
 abbrev pub stored_mode : ℕ → List Value
 stored_mode byte = cond (eqb byte 0) [] (mode_value byte ∷ [])
 
--- the offset of the entry of what stands under a name; 0, where no entry is, if nothing does
-abbrev pub stands_at : Key → List ℕ → ℕ
-stands_at k r = on_some (standing k (entries r)) (λ e. e.at) 0
+-- the offset of the entry of what stands under a name
+abbrev pub stands_at : Key → List ℕ → Option ℕ
+stands_at k r = on_some (standing k (entries r)) (λ e. Some e.at) None
 
 -- before a joint change is folded in: the image is ready, the offsets are those of what stands, and PK's value, if it comes, is what a region can hold; there is room for
 -- what the changes leave
-pub record Joinable (img : List ℕ) (b used pk byte_at : ℕ) (comes : Bool) (v : Value) (byte : ℕ) : Type 0 where
+pub record Joinable (img : List ℕ) (b used : ℕ) (pk byte_at : Option ℕ) (comes : Bool) (v : Value) (byte : ℕ) : Type 0 where
   pub tail : ℕ
   pub ready : IsReady img b tail used
   pub first : pk ≡ stands_at key_pk (region img)

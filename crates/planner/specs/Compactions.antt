@@ -3,10 +3,8 @@ use Rattle.std.specs.Prelude.{ℕ, ◌+◌, ◌*◌, Bool, cond, List, ◌∷◌
 use Rattle.model.specs.Image.{block}
 use Rattle.model.specs.Work.{idle}
 use Rattle.model.specs.Stores.{blank}
-use Rattle.plan.specs.declared.Op.{Op}
 use Rattle.plan.specs.declared.Step.{Step}
 use Rattle.plan.specs.declared.Step.TheVariants.{Nothing, Mark, Erase, Program}
-use Rattle.plan.specs.Plan.{op}
 use Rattle.planner.specs.Fronts.{nones}
 
 unfoldable pub clear_step : ℕ → ℕ → Step
@@ -27,24 +25,24 @@ tidied w = cond (idle w) w blank
 abbrev pub record_at : ℕ → ℕ → ℕ
 record_at b used = block * b + cond (leb 64 used) 0 used
 
-unfoldable pub compact_plan : Step → Step → ℕ → ℕ → List Op
+unfoldable pub compact_plan : Step → Step → ℕ → ℕ → List Step
 compact_plan spare work b used =
-    op spare
-    ∷ op work
-    ∷ op (clear_step b used)
-    ∷ op (Mark (record_at b used) 0xFE)
-    ∷ op (Program (block * b + block) 0 (block * b))
-    ∷ op (Mark (record_at b used) 0xFC)
-    ∷ op (Erase 0 b)
-    ∷ op (Program 0 0 (block * b))
-    ∷ op (Mark (record_at b used) 0xF8)
-    ∷ op (Erase (b + 1) b)
+    spare
+    ∷ work
+    ∷ (clear_step b used)
+    ∷ (Mark (record_at b used) 0xFE)
+    ∷ (Program (block * b + block) 0 (block * b))
+    ∷ (Mark (record_at b used) 0xFC)
+    ∷ (Erase 0 b)
+    ∷ (Program 0 0 (block * b))
+    ∷ (Mark (record_at b used) 0xF8)
+    ∷ (Erase (b + 1) b)
     ∷ nones 2
 
-unfoldable pub resume_plan : ℕ → ℕ → List Op
+unfoldable pub resume_plan : ℕ → ℕ → List Step
 resume_plan b place =
-    op (Erase 0 b)
-    ∷ op (Program 0 0 (block * b))
-    ∷ op (Mark (block * b + place) 0xF8)
-    ∷ op (Erase (b + 1) b)
+    (Erase 0 b)
+    ∷ (Program 0 0 (block * b))
+    ∷ (Mark (block * b + place) 0xF8)
+    ∷ (Erase (b + 1) b)
     ∷ nones 8

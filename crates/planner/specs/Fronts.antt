@@ -1,14 +1,12 @@
 -- The front of a plan, and the places without an operation after it.
 use Rattle.std.specs.Prelude.{ℕ, List, ◌∷◌, replicate}
-use Rattle.plan.specs.declared.Op.{Op}
 use Rattle.plan.specs.declared.Step.{Step}
 use Rattle.plan.specs.declared.Step.TheVariants.{Nothing}
-use Rattle.plan.specs.Plan.{op}
 
 -- so many places without an operation
-abbrev pub nones : ℕ → List Op
-nones n = replicate n (op Nothing)
+abbrev pub nones : ℕ → List Step
+nones n = replicate n Nothing
 
 -- two operations, and none after them
-unfoldable pub begun_plan : Step → Step → List Op
-begun_plan first second = op first ∷ op second ∷ nones 10
+unfoldable pub begun_plan : Step → Step → List Step
+begun_plan first second = first ∷ second ∷ nones 10

@@ -3,7 +3,7 @@ ghost use Rattle.std.specs.Prelude.{◌≡◌, cond, ◌*◌, ◌-◌, ◌≤◌
 ghost use Rattle.output.specs.Text.{Wrote};
 ghost use Rattle.planner.specs.Compactions.{clear_step, compact_plan, resume_plan};
 
-use plan::{Op, Plan, Step};
+use plan::{Plan, Step};
 
 // The number of the next record: the first, where all 64 are used and the work block is erased.
 fn next_record(used: usize) -> usize
@@ -17,9 +17,10 @@ fn clear_full(b: usize, used: usize) -> Step
     ensures { result ≡ clear_step b used }
 {
     if used < records::RECORDS {
-        return Step::Nothing;
+        Step::Nothing
+    } else {
+        Step::Erase(b, 1)
     }
-    Step::Erase(b, 1)
 }
 
 // A compaction, after what a start-up erases first: ".. next record FE; header and values .. stored into the spare; record FC (deciding); erase the region's
@@ -31,30 +32,14 @@ fn compact(spare: Step, work: Step, b: usize, used: usize) -> Plan
     let size = layout::BLOCK * b;
     let at = size + next_record(used);
     let mut plan = crate::begun(spare, work);
-    plan[2] = Op {
-        step: clear_full(b, used),
-    };
-    plan[3] = Op {
-        step: Step::Mark(at, 0xFE),
-    };
-    plan[4] = Op {
-        step: Step::Program(size + layout::BLOCK, 0, size),
-    };
-    plan[5] = Op {
-        step: Step::Mark(at, 0xFC),
-    };
-    plan[6] = Op {
-        step: Step::Erase(0, b),
-    };
-    plan[7] = Op {
-        step: Step::Program(0, 0, size),
-    };
-    plan[8] = Op {
-        step: Step::Mark(at, 0xF8),
-    };
-    plan[9] = Op {
-        step: Step::Erase(b + 1, b),
-    };
+    plan[2] = clear_full(b, used);
+    plan[3] = Step::Mark(at, 0xFE);
+    plan[4] = Step::Program(size + layout::BLOCK, 0, size);
+    plan[5] = Step::Mark(at, 0xFC);
+    plan[6] = Step::Erase(0, b);
+    plan[7] = Step::Program(0, 0, size);
+    plan[8] = Step::Mark(at, 0xF8);
+    plan[9] = Step::Erase(b + 1, b);
     plan
 }
 
@@ -82,11 +67,7 @@ pub fn resume(b: usize, place: usize) -> Plan
 {
     let size = layout::BLOCK * b;
     let mut plan = crate::begun(Step::Erase(0, b), Step::Program(0, 0, size));
-    plan[2] = Op {
-        step: Step::Mark(size + place, 0xF8),
-    };
-    plan[3] = Op {
-        step: Step::Erase(b + 1, b),
-    };
+    plan[2] = Step::Mark(size + place, 0xF8);
+    plan[3] = Step::Erase(b + 1, b);
     plan
 }

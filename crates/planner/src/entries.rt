@@ -3,17 +3,18 @@ ghost use Rattle.std.specs.Prelude.{◌≡◌, ◌+◌, ◌^◌, ◌<◌};
 ghost use Rattle.planner.specs.Entries.{Below, mark_found_def, leftover_step, remove_step, retire_step, delete_plan, tail_plan};
 
 use model::Layout;
-use plan::{Op, Plan, Step};
-use values::{Found, Places, lookup};
+use plan::{Plan, Step};
+use region::Placed;
+use values::{Places, lookup};
 
 // The state of an entry becomes v, where one was found.
-fn mark_found(found: Found, v: u8) -> Step
+fn mark_found(found: Option<Placed>, v: u8) -> Step
     requires { Below (2 ^ 62) found }
     ensures { result ≡ mark_found_def found v }
 {
     match found {
-        Found::At(at, _) => Step::Mark(at + Layout::STATE, v),
-        Found::Nothing => Step::Nothing,
+        Some(placed) => Step::Mark(placed.at + Layout::STATE, v),
+        None => Step::Nothing,
     }
 }
 
@@ -22,11 +23,9 @@ fn leftover(places: Places) -> Step
     requires { Below (2 ^ 62) places.replacing }
     ensures { result ≡ leftover_step places }
 {
-    let added = places.added;
-    let replacing = places.replacing;
-    match added {
-        Found::At(_, _) => mark_found(replacing, 0x3C),
-        Found::Nothing => Step::Nothing,
+    match places.added {
+        Some(_) => mark_found(places.replacing, 0x3C),
+        None => Step::Nothing,
     }
 }
 
@@ -35,11 +34,9 @@ fn remove(places: Places) -> Step
     requires { Below (2 ^ 62) places.added × Below (2 ^ 62) places.replacing }
     ensures { result ≡ remove_step places }
 {
-    let added = places.added;
-    let replacing = places.replacing;
-    match added {
-        Found::At(_, _) => mark_found(added, 0x3D),
-        Found::Nothing => mark_found(replacing, 0x3C),
+    match places.added {
+        Some(_) => mark_found(places.added, 0x3D),
+        None => mark_found(places.replacing, 0x3C),
     }
 }
 
@@ -48,8 +45,7 @@ fn retire(places: Places) -> Step
     requires { Below (2 ^ 62) places.added × Below (2 ^ 62) places.replacing }
     ensures { result ≡ retire_step places }
 {
-    let old = lookup::standing(places);
-    mark_found(old, 0x3C)
+    mark_found(lookup::standing(places), 0x3C)
 }
 
 // "Delete: leftover first, then bit 0x02 of the state cleared".
@@ -66,25 +62,12 @@ pub fn tail_write(places: Places, at: usize, name: usize, size: usize) -> Plan
     requires { Below (2 ^ 62) places.added × Below (2 ^ 62) places.replacing × (at + name + size < 2 ^ 62) }
     ensures { result ≡ tail_plan places at name size }
 {
-    let added = places.added;
-    let mut plan = crate::begun(leftover(places), mark_found(added, 0x3E));
-    plan[2] = Op {
-        step: Step::Header(at, 0),
-    };
-    plan[3] = Op {
-        step: Step::Mark(at + Layout::STATE, 0x7F),
-    };
-    plan[4] = Op {
-        step: Step::Program(at + Layout::HEADER, Layout::HEADER, name),
-    };
-    plan[5] = Op {
-        step: Step::Program(at + Layout::HEADER + name, Layout::HEADER + name, size),
-    };
-    plan[6] = Op {
-        step: Step::Mark(at + Layout::STATE, 0x3F),
-    };
-    plan[7] = Op {
-        step: retire(places),
-    };
+    let mut plan = crate::begun(leftover(places), mark_found(places.added, 0x3E));
+    plan[2] = Step::Header(at, 0);
+    plan[3] = Step::Mark(at + Layout::STATE, 0x7F);
+    plan[4] = Step::Program(at + Layout::HEADER, Layout::HEADER, name);
+    plan[5] = Step::Program(at + Layout::HEADER + name, Layout::HEADER + name, size);
+    plan[6] = Step::Mark(at + Layout::STATE, 0x3F);
+    plan[7] = retire(places);
     plan
 }

@@ -1,5 +1,5 @@
 // The plan of a format, of an image of a right length: "Formatting meets 1 only".
-ghost use Rattle.std.specs.Prelude.{◌≡◌, ◌≤◌, length};
+ghost use Rattle.std.specs.Prelude.{◌≡◌, Some, Ok, ◌≤◌, length};
 ghost use Rattle.model.specs.StartUp.{format_plan};
 ghost use Rattle.image.specs.Check.{blocks_of};
 ghost use Rattle.plan.specs.Planned.{Plans};
@@ -21,10 +21,14 @@ fn wipe(b: usize) -> Plan
 
 // The header is composed in the content, and stored from there.
 pub fn plan(image: &[u8], b: usize, content: &mut [u8]) -> Planned
-    requires { (b ≡ blocks_of image.now) × (1 ≤ b) × (b ≤ 7) × (length content.old ≡ 28672) }
-    ensures { Plans (format_plan image.now) image.now content.old content.new result }
+    requires { (blocks_of image.now ≡ Some b) × (1 ≤ b) × (b ≤ 7) × (length content.old ≡ 28672) }
+    ensures { Plans (format_plan image.now) image.now content.old content.new (Ok result) }
 {
     let header = layout::fixed::region_header(Layout::AUTHENTICATED, layout::BLOCK * b);
     output::put_bytes(content, 0, &header);
-    plan::accept(wipe(b), plan::NONE_DECIDES)
+    let plan = wipe(b);
+    Planned {
+        plan,
+        deciding: None,
+    }
 }

@@ -1,5 +1,5 @@
 // The plan of a profile that changes something: one compaction, with all its items folded in.
-ghost use Rattle.std.specs.Prelude.{◌≡◌, ◌++◌, ◌^◌, ◌≤◌, ◌<◌, length};
+ghost use Rattle.std.specs.Prelude.{◌≡◌, Ok, ◌++◌, ◌^◌, ◌≤◌, ◌<◌, length};
 ghost use Rattle.model.specs.Image.{region_header_def};
 ghost use Rattle.model.specs.Region.{values_of};
 ghost use Rattle.model.specs.Compact.{joined};
@@ -45,10 +45,8 @@ fn put_items(out: &mut [u8], at: usize, file: &[u8], p: Settings, stores: [bool;
 {
     let list = p.list;
     let mut next = at;
-    let mut i: usize = 0;
-    while i < p.count {
+    for i in 0..p.count {
         next = put_item(out, next, file, list[i], stores[i]);
-        i += 1;
     }
     next
 }
@@ -68,7 +66,7 @@ fn put_after(
         (region_header_def (length region.now) ++ joined (values_but leave region.now ++ stored_by (requests_in file.now p) stores)) 0
         out.old out.new result }
 {
-    let next = compose::put_values(out, region, leave);
+    let next = compose::put_values(out, region, &leave);
     put_items(out, next, file, p, stores)
 }
 
@@ -84,7 +82,7 @@ pub fn fold(
     content: &mut [u8],
 ) -> Planned
     requires { Foldable image.now b used (requests_in file.now p) leave stores × (p.count ≤ 8) × (length content.old ≡ 28672) }
-    ensures { FoldPlanned image.now (changes_alone (requests_in file.now p) (values_of image.now)) content.new result }
+    ensures { FoldPlanned image.now (changes_alone (requests_in file.now p) (values_of image.now)) content.new (Ok result) }
 {
     let n = put_after(
         content,
@@ -94,8 +92,9 @@ pub fn fold(
         leave,
         stores,
     );
-    plan::accept(
-        compaction::compact_front(content, n, Step::Nothing, Step::Nothing, b, used),
-        5,
-    )
+    let plan = compaction::compact_front(content, n, Step::Nothing, Step::Nothing, b, used);
+    Planned {
+        plan,
+        deciding: Some(5),
+    }
 }

@@ -1,5 +1,5 @@
 // The plan of a change of PK and one of PlatMode together: one compaction, with both folded in.
-ghost use Rattle.std.specs.Prelude.{◌≡◌, ◌++◌, ◌^◌, ◌≤◌, ◌<◌, length};
+ghost use Rattle.std.specs.Prelude.{◌≡◌, Ok, ◌++◌, ◌^◌, ◌≤◌, ◌<◌, length};
 ghost use Rattle.model.specs.Image.{region_header_def};
 ghost use Rattle.model.specs.Compact.{joined};
 ghost use Rattle.output.specs.Text.{Wrote};
@@ -53,7 +53,7 @@ fn put_mode(out: &mut [u8], at: usize, byte: u8) -> usize
 fn put_after(
     out: &mut [u8],
     region: &[u8],
-    leave: [usize; 8],
+    leave: &[usize],
     comes: bool,
     name: &[u8],
     vendor: &[u8; 16],
@@ -66,10 +66,10 @@ fn put_after(
     requires { (length region.now ≤ 28672)
         × (length
         (region_header_def (length region.now) ++ joined
-        (values_but leave region.now ++ (stored_pk comes (valued name.now vendor.now attributes stamp.now (old.now ++ own.now)) ++ stored_mode byte))) ≤ 28672) }
+        (values_but leave.now region.now ++ (stored_pk comes (valued name.now vendor.now attributes stamp.now (old.now ++ own.now)) ++ stored_mode byte))) ≤ 28672) }
     ensures { Wrote
         (region_header_def (length region.now) ++ joined
-        (values_but leave region.now
+        (values_but leave.now region.now
         ++ (stored_pk comes (valued name.now vendor.now attributes stamp.now (old.now ++ own.now))
         ++ stored_mode byte))) 0
         out.old out.new result }
@@ -79,13 +79,13 @@ fn put_after(
     put_mode(out, last, byte)
 }
 
-// "where mode and PK change together it is one compaction", "rest FF". The entries at two offsets are left out, that of PK's value and that of PlatMode's.
+// "where mode and PK change together it is one compaction", "rest FF". The entries at two offsets are left out, that of PK's value and that of PlatMode's; 0 is the offset of none.
 pub fn fold(
     image: &[u8],
     b: usize,
     used: usize,
-    pk: usize,
-    mode: usize,
+    pk: Option<usize>,
+    mode: Option<usize>,
     comes: bool,
     name: &[u8],
     vendor: &[u8; 16],
@@ -100,12 +100,12 @@ pub fn fold(
         × (length content.old ≡ 28672) }
     ensures { FoldPlanned image.now
         (joint_changes comes (valued name.now vendor.now attributes stamp.now (old.now ++ own.now)) byte)
-        content.new result }
+        content.new (Ok result) }
 {
     let n = put_after(
         content,
         slices::cut(image, 0, layout::BLOCK * b),
-        [pk, mode, 0, 0, 0, 0, 0, 0],
+        &[pk.unwrap_or(0), mode.unwrap_or(0)],
         comes,
         name,
         vendor,
@@ -115,8 +115,9 @@ pub fn fold(
         own,
         byte,
     );
-    plan::accept(
-        compaction::compact_front(content, n, Step::Nothing, Step::Nothing, b, used),
-        5,
-    )
+    let plan = compaction::compact_front(content, n, Step::Nothing, Step::Nothing, b, used);
+    Planned {
+        plan,
+        deciding: Some(5),
+    }
 }

@@ -5,7 +5,8 @@
 ghost use Rattle.std.specs.Prelude.{◌≡◌};
 ghost use Rattle.planner.specs.Fronts.{begun_plan};
 
-use plan::{Op, Plan, Step};
+use image::Ready;
+use plan::{Plan, Step};
 use values::Places;
 
 pub mod compaction;
@@ -16,12 +17,10 @@ pub mod joint;
 pub mod put;
 pub mod startup;
 
-// What stands in an image that is ready: its number of blocks, the offset of its tail, the number of used records, and where the entries of the name are.
+// What stands in an image that is ready, and where the entries of the name are.
 #[derive(Clone, Copy)]
 pub struct Standing {
-    pub b: usize,
-    pub tail: usize,
-    pub used: usize,
+    pub ready: Ready,
     pub places: Places,
 }
 
@@ -30,7 +29,7 @@ pub(crate) fn begun(first: Step, second: Step) -> Plan
     ensures { result ≡ begun_plan first second }
 {
     let mut plan = plan::nothing();
-    plan[0] = Op { step: first };
-    plan[1] = Op { step: second };
+    plan[0] = first;
+    plan[1] = second;
     plan
 }

@@ -1,5 +1,5 @@
 // The plan of a put: the value that a set asks for is stored in the tail, or with a compaction. What is to be stored is composed in the content.
-ghost use Rattle.std.specs.Prelude.{◌≡◌, true, false, ◌++◌, ◌^◌, ◌≤◌, ◌<◌, length};
+ghost use Rattle.std.specs.Prelude.{◌≡◌, Ok, true, false, ◌++◌, ◌^◌, ◌≤◌, ◌<◌, length};
 ghost use Rattle.model.specs.Name.{keyed};
 ghost use Rattle.model.specs.Image.{region_header_def, region};
 ghost use Rattle.model.specs.Region.{entries, standing, sound, values};
@@ -11,6 +11,7 @@ ghost use Rattle.output.specs.Text.{Wrote};
 ghost use Rattle.planner.specs.Asked.{valued, Asked, PutPlanned};
 
 use crate::{Standing, compaction, entries};
+use image::Ready;
 use model::Layout;
 use plan::{Planned, Step};
 use values::{Places, lookup};
@@ -43,7 +44,7 @@ fn put_after(
         × (length vendor.now ≡ 16) }
 {
     let leave = compose::left_out(lookup::standing(places));
-    let next = compose::put_values(out, region, leave);
+    let next = compose::put_values(out, region, &leave);
     compose::put_entry(0x3F, out, next, attributes, stamp, name, vendor, old, own)
 }
 
@@ -59,18 +60,17 @@ fn fold(
     own: &[u8],
     content: &mut [u8],
 ) -> Planned
-    requires { Asked image.now standing.b standing.tail standing.used standing.places (valued name.now vendor.now attributes stamp.now (old.now ++ own.now))
+    requires { Asked image.now standing.ready.blocks standing.ready.tail standing.ready.used standing.places (valued name.now vendor.now attributes stamp.now (old.now ++ own.now))
         × (fits_tail (region image.now) (valued name.now vendor.now attributes stamp.now (old.now ++ own.now)) ≡ false)
         × (length content.old ≡ 28672) }
     ensures { PutPlanned image.now
-        (valued name.now vendor.now attributes stamp.now (old.now ++ own.now)) content.new result }
+        (valued name.now vendor.now attributes stamp.now (old.now ++ own.now)) content.new (Ok result) }
 {
-    let b = standing.b;
-    let places = standing.places;
+    let Ready { blocks, used, .. } = standing.ready;
     let n = put_after(
         content,
-        slices::cut(image, 0, layout::BLOCK * b),
-        places,
+        slices::cut(image, 0, layout::BLOCK * blocks),
+        standing.places,
         name,
         vendor,
         attributes,
@@ -78,10 +78,11 @@ fn fold(
         old,
         own,
     );
-    plan::accept(
-        compaction::compact_front(content, n, Step::Nothing, Step::Nothing, b, standing.used),
-        5,
-    )
+    let plan = compaction::compact_front(content, n, Step::Nothing, Step::Nothing, blocks, used);
+    Planned {
+        plan,
+        deciding: Some(5),
+    }
 }
 
 // "In the tail": the entry is composed at the content's front, with FF in the place of its state.
@@ -96,18 +97,19 @@ fn in_tail(
     own: &[u8],
     content: &mut [u8],
 ) -> Planned
-    requires { Asked image.now standing.b standing.tail standing.used standing.places (valued name.now vendor.now attributes stamp.now (old.now ++ own.now))
+    requires { Asked image.now standing.ready.blocks standing.ready.tail standing.ready.used standing.places (valued name.now vendor.now attributes stamp.now (old.now ++ own.now))
         × (fits_tail (region image.now) (valued name.now vendor.now attributes stamp.now (old.now ++ own.now)) ≡ true)
         × (length content.old ≡ 28672) }
     ensures { PutPlanned image.now
-        (valued name.now vendor.now attributes stamp.now (old.now ++ own.now)) content.new result }
+        (valued name.now vendor.now attributes stamp.now (old.now ++ own.now)) content.new (Ok result) }
 {
-    let places = standing.places;
     compose::put_entry(0xFF, content, 0, attributes, stamp, name, vendor, old, own);
-    plan::accept(
-        entries::tail_write(places, standing.tail, name.len(), old.len() + own.len()),
-        6,
-    )
+    let tail = standing.ready.tail;
+    let plan = entries::tail_write(standing.places, tail, name.len(), old.len() + own.len());
+    Planned {
+        plan,
+        deciding: Some(6),
+    }
 }
 
 // The plan of a value that is put: "In the tail, if the rounded entry fits". Its data are those kept, then those given.
@@ -122,13 +124,13 @@ pub fn put_value(
     own: &[u8],
     content: &mut [u8],
 ) -> Planned
-    requires { Asked image.now standing.b standing.tail standing.used standing.places (valued name.now vendor.now attributes stamp.now (old.now ++ own.now))
+    requires { Asked image.now standing.ready.blocks standing.ready.tail standing.ready.used standing.places (valued name.now vendor.now attributes stamp.now (old.now ++ own.now))
         × (length content.old ≡ 28672) }
     ensures { PutPlanned image.now
-        (valued name.now vendor.now attributes stamp.now (old.now ++ own.now)) content.new result }
+        (valued name.now vendor.now attributes stamp.now (old.now ++ own.now)) content.new (Ok result) }
 {
     let size = layout::entry_size(Layout::AUTHENTICATED, name.len(), old.len() + own.len());
-    if standing.tail + size <= layout::BLOCK * standing.b {
+    if standing.ready.tail + size <= layout::BLOCK * standing.ready.blocks {
         return in_tail(
             image, standing, name, vendor, attributes, stamp, old, own, content,
         );

@@ -7,6 +7,6 @@ pub returns-then-used-lt-RECORDS : goal.returns-then-used-lt-RECORDS
 unfolding clear_step
 returns-then-used-lt-RECORDS c = rw (lt-leb 64 c.args.used c.if-used-lt-RECORDS.true)
 
-pub returns : goal.returns
+pub returns-else-used-lt-RECORDS : goal.returns-else-used-lt-RECORDS
 unfolding clear_step
-returns c = rw (le-leb 64 c.args.used c.if-used-lt-RECORDS.false)
+returns-else-used-lt-RECORDS c = rw (le-leb 64 c.args.used c.if-used-lt-RECORDS.false)

@@ -2,10 +2,10 @@
 use Rattle.planner.specs.Entries.{leftover_step}
 use Rattle.planner.proofs.entries.leftover.Goals as goal
 
-pub returns-in-At : goal.returns-in-At
+pub returns-in-Some : goal.returns-in-Some
 unfolding leftover_step
-returns-in-At c = rw c.in-At.is c.mark_found.ensures
+returns-in-Some c = rw c.in-Some.is c.mark_found.ensures
 
-pub returns-in-Nothing : goal.returns-in-Nothing
+pub returns-in-None : goal.returns-in-None
 unfolding leftover_step
-returns-in-Nothing c = rw c.in-Nothing.is
+returns-in-None c = rw c.in-None.is

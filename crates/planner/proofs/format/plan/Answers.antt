@@ -4,4 +4,4 @@ use Rattle.planner.proofs.format.plan.Goals as goal
 
 pub returns : goal.returns
 returns c =
-    format-plans c.args.image.now c.args.b c.requires.0 c.requires.1 c.region_header-header.ensures c.put_bytes.ensures c.requires.3 c.wipe.ensures c.accept.ensures
+    format-plans c.args.image.now c.args.b c.requires.0 c.region_header-header.ensures c.put_bytes.ensures c.requires.3 c.wipe-plan.ensures

@@ -10,11 +10,11 @@ put_after-n-requires c =
     let ve : length c.args.vendor.now ≡ 16 = search rules in
     fold-room c.requires.0 ve c.cut.ensures
 
-pub compact_front-requires : goal.compact_front-requires
-compact_front-requires c =
+pub compact_front-plan-requires : goal.compact_front-plan-requires
+compact_front-plan-requires c =
     let ve : length c.args.vendor.now ≡ 16 = search rules in
     fold-asked c.requires.0 ve c.cut.ensures c.put_after-n.ensures.0 c.requires.2
 
 pub returns : goal.returns
 returns c =
-    fold-planned c.requires.0 c.put_after-n.ensures.1 c.cut.ensures c.put_after-n.ensures.0 c.requires.2 c.compact_front.ensures.1 c.requires.1 c.compact_front.ensures.0 c.accept.ensures
+    fold-planned c.requires.0 c.put_after-n.ensures.1 c.cut.ensures c.put_after-n.ensures.0 c.requires.2 c.compact_front-plan.ensures.1 c.requires.1 c.compact_front-plan.ensures.0

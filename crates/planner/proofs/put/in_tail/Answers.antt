@@ -15,8 +15,8 @@ put_entry-requires c =
     let ve : length c.args.vendor.now ≡ 16 = search rules in
     (omega arith, omega arith, omega arith, omega arith, omega arith, omega arith)
 
-pub tail_write-requires : goal.tail_write-requires
-tail_write-requires c =
+pub tail_write-plan-requires : goal.tail_write-plan-requires
+tail_write-plan-requires c =
     let l = length-append c.args.old.now c.args.own.now in
     let t = tail-asked c.requires.0 c.requires.1 in
     (t.0, t.1, omega (arith, t.2))
@@ -24,4 +24,4 @@ tail_write-requires c =
 pub returns : goal.returns
 returns c =
     let ve : length c.args.vendor.now ≡ 16 = search rules in
-    tail-planned c.requires.0 c.requires.1 ve c.put_entry.ensures c.requires.2 (sym (length-append c.args.old.now c.args.own.now)) c.tail_write.ensures c.accept.ensures
+    tail-planned c.requires.0 c.requires.1 ve c.put_entry.ensures c.requires.2 (sym (length-append c.args.old.now c.args.own.now)) c.tail_write-plan.ensures

@@ -26,9 +26,9 @@ overflow_add-standing c =
 pub in_tail-requires : goal.in_tail-requires
 in_tail-requires c =
     let e = c.entry_size-size.ensures ∙ size_is c.args.name.now c.args.old.now c.args.own.now in
-    (c.requires.0, fits c.requires.0 (subst (λ (k : ℕ). c.args.standing.tail + k ≤ 4096 * c.args.standing.b) e c.if-standing-size.true), c.requires.1)
+    (c.requires.0, fits c.requires.0 (subst (λ (k : ℕ). c.args.standing.ready.tail + k ≤ 4096 * c.args.standing.ready.blocks) e c.if-standing-size.true), c.requires.1)
 
 pub fold-requires : goal.fold-requires
 fold-requires c =
     let e = c.entry_size-size.ensures ∙ size_is c.args.name.now c.args.old.now c.args.own.now in
-    (c.requires.0, fits_not c.requires.0 (subst (λ (k : ℕ). 4096 * c.args.standing.b < c.args.standing.tail + k) e c.if-standing-size.false), c.requires.1)
+    (c.requires.0, fits_not c.requires.0 (subst (λ (k : ℕ). 4096 * c.args.standing.ready.blocks < c.args.standing.ready.tail + k) e c.if-standing-size.false), c.requires.1)

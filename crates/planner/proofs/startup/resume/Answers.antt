@@ -30,8 +30,8 @@ overflow_sub-looked c =
     let z = sized i c.args.b true f in
     some-used i c.args.b z.0 z.1 z.2 (looks i c.args.b c.args.looked false true c.requires.0) f.waits
 
-pub resume-requires : goal.resume-requires
-resume-requires c =
+pub resume-plan-requires : goal.resume-plan-requires
+resume-plan-requires c =
     let i = c.args.image.now in
     let f = accepts i c.args.b c.args.looked false true c.requires.0 in
     let z = sized i c.args.b true f in
@@ -43,4 +43,4 @@ returns c =
     let f = accepts i c.args.b c.args.looked false true c.requires.0 in
     let k = c.type_inv.image in
     resume-plans i c.args.b f (bytes_of i (λ j. let x : get_or i j 0 ≤ 0xFF = omega (arith, k j) in x)) (looks i c.args.b c.args.looked false true c.requires.0)
-    c.cut.ensures c.put_bytes.ensures c.requires.1 c.resume.ensures c.accept.ensures
+    c.cut.ensures c.put_bytes.ensures c.requires.1 c.resume-plan.ensures

@@ -10,7 +10,7 @@ unfolding spare_step_def block
 returns-then-is_blank c =
     rw (blank-told c.args.image.now c.args.b c.requires.0 c.requires.1 c.requires.2 c.cut.ensures c.is_blank.ensures ∙ c.if-is_blank.true)
 
-pub returns : goal.returns
+pub returns-else-is_blank : goal.returns-else-is_blank
 unfolding spare_step_def block
-returns c =
+returns-else-is_blank c =
     rw (blank-told c.args.image.now c.args.b c.requires.0 c.requires.1 c.requires.2 c.cut.ensures c.is_blank.ensures ∙ c.if-is_blank.false)

@@ -22,7 +22,7 @@ returns-then-clean c =
     let l = looks i c.args.b c.args.looked c.args.clean false c.requires.0 in
     let k = cleans i c.args.b c.args.looked c.args.clean false c.requires.0 refl in
     let z = sized i c.args.b false f in
-    rest-plans i c.args.b f _ _ (tail-told i c.args.b f k c.if-clean.true) (rest-as c.begun.ensures c.spare_step-spare.ensures (left_step i c.args.b z.0 z.1 z.2 l c.work_left-left.ensures.0)) c.accept.ensures
+    rest-plans i c.args.b f _ _ (tail-told i c.args.b f k c.if-clean.true) (rest-as c.begun-plan.ensures c.spare_step-spare.ensures (left_step i c.args.b z.0 z.1 z.2 l c.work_left-work.ensures.0))
 
 pub overflow_mul-b : goal.overflow_mul-b
 overflow_mul-b c =
@@ -37,9 +37,9 @@ put_values-n-requires c =
     let z = sized i c.args.b false (accepts i c.args.b c.args.looked c.args.clean false c.requires.0) in
     omega (arith, z.1, ap length (c.cut.ensures ∙ its-region i c.args.b z.0 z.1 z.2) ∙ region-long i c.args.b z.0 z.1 z.2)
 
-pub compact_front-requires : goal.compact_front-requires
+pub compact_front-plan-requires : goal.compact_front-plan-requires
 unfolding block
-compact_front-requires c =
+compact_front-plan-requires c =
     let i = c.args.image.now in
     let f = accepts i c.args.b c.args.looked c.args.clean false c.requires.0 in
     let z = sized i c.args.b false f in
@@ -54,6 +54,6 @@ returns c =
     let k = cleans i c.args.b c.args.looked c.args.clean false c.requires.0 refl in
     let z = sized i c.args.b false f in
     let g = c.type_inv.image in
-    let x = tidy-composed i c.args.b z.0 z.1 z.2 (sounds i c.args.b f) c.cut.ensures c.put_values-n.ensures c.requires.1 c.compact_front.ensures.1 in
+    let x = tidy-composed i c.args.b z.0 z.1 z.2 (sounds i c.args.b f) c.cut.ensures c.put_values-n.ensures c.requires.1 c.compact_front-plan.ensures.1 in
     tidy-plans i c.args.b f (bytes_of i (λ j. let x : get_or i j 0 ≤ 0xFF = omega (arith, g j) in x)) _ _ (tail-told i c.args.b f k c.if-clean.false) x.0 x.1
-    (compact-as c.args.b c.compact_front.ensures.0 c.spare_step-spare.ensures (left_step i c.args.b z.0 z.1 z.2 l c.work_left-left.ensures.0) (left-used i c.args.b z.0 z.1 z.2 l c.work_left-left.ensures.1)) c.accept-2.ensures
+    (compact-as c.args.b c.compact_front-plan.ensures.0 c.spare_step-spare.ensures (left_step i c.args.b z.0 z.1 z.2 l c.work_left-work.ensures.0) (left-used i c.args.b z.0 z.1 z.2 l c.work_left-work.ensures.1))

@@ -7,6 +7,6 @@ pub returns-then-is_idle : goal.returns-then-is_idle
 unfolding work_step_def
 returns-then-is_idle c = let h = sym c.is_idle.ensures ∙ c.if-is_idle.true in (rw h, rw h)
 
-pub returns : goal.returns
+pub returns-else-is_idle : goal.returns-else-is_idle
 unfolding work_step_def
-returns c = let h = sym c.is_idle.ensures ∙ c.if-is_idle.false in (rw h, rw h)
+returns-else-is_idle c = let h = sym c.is_idle.ensures ∙ c.if-is_idle.false in (rw h, rw h)
