@@ -109,6 +109,9 @@ pub front-vendor : (y : Layout) (s : List ℕ) (e : numbers.Entry) → (header_f
 unfolding entry_as walk.placed
 front-vendor y s e = refl
 
+-- what the tests of a live entry decide, at the front of a part
+pub ruleset rights = (right-dead, right-empty, right-large, right-plain, right-other, front-name)
+
 shifted : (at k n : ℕ) → at ≤ n → leb (0 + k) (n - at) ≡ leb (at + k) n
 shifted at k n h = go (leb (at + k) n) refl
   where

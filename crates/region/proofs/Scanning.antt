@@ -82,11 +82,11 @@ module _ (y : Layout) (r : List ℕ) where
 -- ---- doubled names
 
 module _ (y : Layout) (r : List ℕ) (at : ℕ) (e : numbers.Entry) (es : List walk.Entry) where
-  pub doubled-live : live_state_def e.state ≡ true
+  pub doubled_live : live_state_def e.state ≡ true
       → doubled_in (entry_as y r at e) es ≡ any (is_entry_def e.state (keyed (entry_as y r at e).name (vendor_as y r at))) es
   unfolding doubled_in entry_as walk.placed vendor_as
-  doubled-live l = rw l
+  doubled_live l = rw l
 
-  pub doubled-dead : live_state_def e.state ≡ false → doubled_in (entry_as y r at e) es ≡ false
+  pub doubled_dead : live_state_def e.state ≡ false → doubled_in (entry_as y r at e) es ≡ false
   unfolding doubled_in entry_as walk.placed
-  doubled-dead l = rw l
+  doubled_dead l = rw l

@@ -24,38 +24,25 @@ const WALKED: usize = 32768;
 fn known_state(state: u8) -> bool
     ensures { result ≡ among states state }
 {
-    match state {
-        0xFF => true,
-        0x7F => true,
-        0x3F => true,
-        0x3E => true,
-        0x3D => true,
-        0x3C => true,
-        _ => false,
-    }
+    matches!(state, 0xFF | 0x7F | 0x3F | 0x3E | 0x3D | 0x3C)
 }
 
 // Whether attributes are among those that are stored, an error record's apart.
 fn plain_attributes(attributes: u32) -> bool
     ensures { result ≡ among plain_attributes_def attributes }
 {
-    match attributes {
-        0x03 => true,
-        0x07 => true,
-        0x23 => true,
-        0x27 => true,
-        _ => false,
-    }
+    matches!(attributes, 0x03 | 0x07 | 0x23 | 0x27)
 }
 
 // Whether a state is 3F or 3E.
 pub fn is_live(state: u8) -> bool
     ensures { result ≡ live_state_def state }
 {
-    if state == 0x3F { true } else { state == 0x3E }
+    matches!(state, 0x3F | 0x3E)
 }
 
 // Whether the entry at the front of `s` has the attributes of an error record, and a well-formed name that is a record's.
+#[tactic(auto, unfolding(crate::specs::Walk::entry_as, layout::specs::Head::name_in, model::specs::Walk::placed))]
 fn right_record(y: Layout, s: &[u8], e: Entry) -> bool
     ensures { result ≡ right_record_def e.attributes (entry_key (entry_as y s.now 0 e)) }
 {
@@ -63,48 +50,38 @@ fn right_record(y: Layout, s: &[u8], e: Entry) -> bool
         return false;
     }
     let name = layout::name_of(y, s, e);
-    if slices::is_named(name) {
-        return layout::fixed::is_record_name(name, layout::vendor_of(y, s));
-    }
-    false
+    slices::is_named(name) && layout::fixed::is_record_name(name, layout::vendor_of(y, s))
 }
 
 // Whether the entry at the front of `s`, if it is live, has a right name, data of a right size, and attributes that are stored.
+#[tactic(auto, using(crate::proofs::Judging::rights))]
 fn right_live(y: Layout, s: &[u8], e: Entry) -> bool
     ensures { result ≡ right_live_def (entry_as y s.now 0 e) }
 {
-    if is_live(e.state) {
-        if e.size < 1 {
-            return false;
-        }
-        if layout::LARGEST_DATA < e.size {
-            return false;
-        }
-        if plain_attributes(e.attributes) {
-            slices::is_named(layout::name_of(y, s, e))
-        } else {
-            right_record(y, s, e)
-        }
+    if !is_live(e.state) {
+        return true;
+    }
+    if e.size < 1 || layout::LARGEST_DATA < e.size {
+        return false;
+    }
+    if plain_attributes(e.attributes) {
+        slices::is_named(layout::name_of(y, s, e))
     } else {
-        true
+        right_record(y, s, e)
     }
 }
 
 // Whether the entry at the front of `s` is sound by itself: a known state, an end within the region, and right if it is live.
+#[tactic(auto, unfolding(crate::specs::Judge::entry_sound_def, crate::specs::Walk::entry_as, model::specs::Walk::placed))]
 pub(crate) fn entry_sound(y: Layout, s: &[u8], e: Entry) -> bool
     ensures { result ≡ entry_sound_def (length s.now) (entry_as y s.now 0 e) }
 {
     if e.state == 0xFF {
         return true;
     }
-    if known_state(e.state) {
-        if s.len() < y.header() + e.name as usize + e.size as usize {
-            return false;
-        }
-        right_live(y, s, e)
-    } else {
-        false
-    }
+    known_state(e.state)
+        && y.header() + e.name as usize + e.size as usize <= s.len()
+        && right_live(y, s, e)
 }
 
 // The offset of the first entry before an offset that has this state, name and GUID.
@@ -132,20 +109,16 @@ fn first_before(
 }
 
 // Whether an entry is live and its state, name and GUID came before. They are looked for only where that may be.
+#[tactic(auto, using(crate::proofs::Scanning::doubled_live, crate::proofs::Scanning::doubled_dead, crate::proofs::Meetings::any_met))]
 pub(crate) fn is_doubled(y: Layout, region: &[u8], at: usize, e: Entry, suspect: bool) -> bool
     ensures { result ≡ (suspect && doubled_in (entry_as y region.now at e) (up_to at (entries_in y region.now))) }
 {
-    if suspect {
-        if is_live(e.state) {
-            let name = walk::name_of(y, region, at, e);
-            let vendor = walk::vendor_of(y, region, at);
-            first_before(y, region, at, e.state, name, vendor).is_some()
-        } else {
-            false
-        }
-    } else {
-        false
+    if suspect && is_live(e.state) {
+        let name = walk::name_of(y, region, at, e);
+        let vendor = walk::vendor_of(y, region, at);
+        return first_before(y, region, at, e.state, name, vendor).is_some();
     }
+    false
 }
 
 // Whether a header begins as that of a usual entry: start id, state 3F, a zero byte, and attributes that are stored, an error record's apart. All are in one number,
@@ -175,17 +148,11 @@ fn characters(n: u32) -> u32
 fn right_sizes(name: u32, size: u32) -> bool
     ensures { result ≡ true → RightSizes name size }
 {
-    if size < 1 {
-        return false;
-    }
-    if layout::LARGEST_DATA < size {
+    if size < 1 || layout::LARGEST_DATA < size {
         return false;
     }
     let count = characters(name);
-    if count < 2 {
-        return false;
-    }
-    count <= 64
+    2 <= count && count <= 64
 }
 
 // The entry at the front of `s`, if it is *usual*: in state 3F, no error record, sound by itself. Only the yes is proved, here and in the tests above: an entry that is not
@@ -235,25 +202,10 @@ fn usual_at(y: Layout, region: &[u8], last: usize, at: usize) -> Option<Usual>
 
 // What is left of WALKED once an entry that may be doubled, and is live, is looked for among those before it.
 fn left_after(left: usize, at: usize, e: Entry, suspect: bool) -> usize {
-    if suspect {
-        if is_live(e.state) {
-            if left < at {
-                return 0;
-            }
-            return left - at;
-        }
+    if suspect && is_live(e.state) {
+        return left.saturating_sub(at);
     }
     left
-}
-
-// A name that is not met.
-fn nowhere() -> Met
-    ensures { result ≡ nowhere }
-{
-    Met {
-        added: None,
-        replacing: None,
-    }
 }
 
 // Whether an entry is live and has the sought name and GUID. They are compared only where that may be.
@@ -261,10 +213,8 @@ fn is_sought(y: Layout, region: &[u8], at: usize, e: Entry, key: &[u8], suspect:
     requires { at + header_length y ≤ length region.now }
     ensures { result ≡ (suspect && is_sought_def (key_from key.now) (entry_as y region.now at e)) }
 {
-    if suspect {
-        if is_live(e.state) {
-            return slices::equal(layout::key_of(y, slices::from(region, at), e), key);
-        }
+    if suspect && is_live(e.state) {
+        return slices::equal(layout::key_of(y, slices::from(region, at), e), key);
     }
     false
 }
@@ -305,27 +255,27 @@ fn scan_by_marks(y: Layout, region: &[u8], key: &[u8]) -> Result<Option<Survey>,
     let last = last_header(y, region);
     let mut noted = marks::no_marks();
     let own = marks::mark_of_key(key);
-    let p = own.place;
-    noted[p] = own.sign;
-    let mut met = nowhere();
+    noted[own.place] = own.sign;
+    let mut met = Met {
+        added: None,
+        replacing: None,
+    };
     let mut left = WALKED;
-    let mut at: usize = layout::REGION_HEADER;
+    let mut at = layout::REGION_HEADER;
     loop {
         while let Some(u) = usual_at(y, region, last, at) {
             let v = at + y.vendor();
-            let k = 16 + u.name;
-            let m = marks::mark_of_key(&region[v..v + k]);
-            let i = m.place;
-            let old = noted[i];
+            let m = marks::mark_of_key(&region[v..v + (16 + u.name)]);
+            let old = noted[m.place];
             if old == 0 {
-                noted[i] = m.sign;
+                noted[m.place] = m.sign;
                 at += layout::rounded(u.end);
                 continue;
             }
             if marks::is_noted(old, m.sign) {
                 break;
             }
-            noted[i] = marks::note(old, m.sign);
+            noted[m.place] = marks::note(old, m.sign);
             at += layout::rounded(u.end);
         }
         let Some((e, next)) = walk::turn(y, region, at) else {
@@ -335,8 +285,7 @@ fn scan_by_marks(y: Layout, region: &[u8], key: &[u8]) -> Result<Option<Survey>,
             return Ok(None);
         }
         let m = marks::mark_of(y, &region[at..], e);
-        let i = m.place;
-        let old = noted[i];
+        let old = noted[m.place];
         let suspect = marks::is_noted(old, m.sign);
         if is_sought(y, region, at, e, key, suspect) {
             if is_met(met, e.state) {
@@ -353,7 +302,7 @@ fn scan_by_marks(y: Layout, region: &[u8], key: &[u8]) -> Result<Option<Survey>,
         if is_doubled(y, region, at, e, suspect) {
             return Ok(None);
         }
-        noted[i] = marks::note(old, m.sign);
+        noted[m.place] = marks::note(old, m.sign);
         at = next;
     }
 }

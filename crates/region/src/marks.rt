@@ -17,17 +17,11 @@ const SIGNS: u64 = 128;
 const SEVERAL: u8 = 1;
 
 // A table in which no mark is noted: 0 at every place.
+#[tactic(auto, unfolding(crate::specs::Marks::no_marks_def))]
 pub fn no_marks() -> [u8; 1280]
     ensures { result ≡ no_marks_def }
 {
     [0; 1280]
-}
-
-// A sum that goes round at 2^64.
-fn plus(a: u64, b: u64) -> u64
-    ensures { result ≡ plus a b }
-{
-    std::num::wrapping_add_u64(a, b)
 }
 
 // Words of a longer name between its first and the last three. They begin seven bytes apart, so that every character is in one of them, and one that is in two counts
@@ -36,43 +30,38 @@ fn middle_words(key: &[u8]) -> u64
     requires { 45 ≤ length key.now }
     ensures { result ≡ middle_words_def key.now }
 {
-    let mut left = (key.len() - 38) / 7;
-    let mut i: usize = 22;
     let mut sum: u64 = 0;
-    while 0 < left {
-        sum = plus(sum, slices::standing_eight(key, i));
-        i += 7;
-        left -= 1;
+    for i in 0..(key.len() - 38) / 7 {
+        sum = sum.wrapping_add(slices::standing_eight(key, 22 + 7 * i));
     }
     sum
 }
 
 // The words of the GUID and the last of the name.
+#[tactic(auto, unfolding(crate::specs::Marks::outer_words_def, crate::specs::Marks::plus))]
 fn outer_words(key: &[u8]) -> u64
     requires { 16 ≤ length key.now }
     ensures { result ≡ outer_words_def key.now }
 {
-    let vendor = plus(
-        slices::standing_eight(key, 0),
-        slices::standing_eight(key, 8),
-    );
-    plus(vendor, slices::standing_eight(key, key.len() - 8))
+    slices::standing_eight(key, 0)
+        .wrapping_add(slices::standing_eight(key, 8))
+        .wrapping_add(slices::standing_eight(key, key.len() - 8))
 }
 
 // The first word of the name, and two before its last. These begin seven bytes apart, too.
+#[tactic(auto, unfolding(crate::specs::Marks::inner_words_def, crate::specs::Marks::plus))]
 fn inner_words(key: &[u8]) -> u64
     requires { 24 ≤ length key.now }
     ensures { result ≡ inner_words_def key.now }
 {
     let n = key.len();
-    let late = plus(
-        slices::standing_eight(key, n - 22),
-        slices::standing_eight(key, n - 15),
-    );
-    plus(slices::standing_eight(key, 16), late)
+    let late = slices::standing_eight(key, n - 22);
+    let later = slices::standing_eight(key, n - 15);
+    slices::standing_eight(key, 16).wrapping_add(late.wrapping_add(later))
 }
 
 // The number that the mark of a key is made from: the words that it is long enough for.
+#[tactic(auto, unfolding(crate::specs::Marks::weighed, crate::specs::Marks::plus))]
 fn weighed(key: &[u8]) -> u64
     ensures { result ≡ weighed key.now }
 {
@@ -84,14 +73,15 @@ fn weighed(key: &[u8]) -> u64
     if n < 24 {
         return outer;
     }
-    let most = plus(outer, inner_words(key));
+    let most = outer.wrapping_add(inner_words(key));
     if n < 45 {
         return most;
     }
-    plus(most, middle_words(key))
+    most.wrapping_add(middle_words(key))
 }
 
 // The mark of a GUID with the name after it.
+#[tactic(auto, unfolding(crate::specs::Marks::key_mark))]
 pub fn mark_of_key(key: &[u8]) -> Mark
     ensures { (result ≡ key_mark key.now) × (result.place < 1280) }
 {
@@ -103,6 +93,7 @@ pub fn mark_of_key(key: &[u8]) -> Mark
 }
 
 // The mark of the entry at the front of `s`: that of its GUID and name if it is live, else one at a place that no name has.
+#[tactic(auto, unfolding(crate::specs::Marks::mark_in, crate::specs::Marks::mark_of, crate::specs::Marks::dead_mark))]
 pub fn mark_of(y: Layout, s: &[u8], e: Entry) -> Mark
     ensures { (result ≡ mark_in y s.now e) × (result.place < 1280) }
 {
@@ -116,27 +107,21 @@ pub fn mark_of(y: Layout, s: &[u8], e: Entry) -> Mark
 }
 
 // Whether, by what is noted at its place, a name of this sign may have been met.
+#[tactic(auto, unfolding(crate::specs::Marks::is_noted_def))]
 pub(crate) fn is_noted(noted: u8, sign: u8) -> bool
     ensures { result ≡ is_noted_def noted sign }
 {
-    if noted == 0 {
-        return false;
-    }
-    if noted == sign {
-        return true;
-    }
-    noted == SEVERAL
+    noted != 0 && (noted == sign || noted == SEVERAL)
 }
 
 // What is noted once a name of this sign is met.
+#[tactic(auto, unfolding(crate::specs::Marks::note))]
 pub(crate) fn note(noted: u8, sign: u8) -> u8
     ensures { result ≡ note noted sign }
 {
-    if noted == 0 {
-        return sign;
+    if noted == 0 || noted == sign {
+        sign
+    } else {
+        SEVERAL
     }
-    if noted == sign {
-        return sign;
-    }
-    SEVERAL
 }

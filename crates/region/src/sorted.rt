@@ -16,19 +16,11 @@ const PLACES: usize = 720;
 // What is at a place where none is entered. No entry of seven blocks begins there.
 const NOWHERE: u16 = 0xFFFF;
 
-// A table in which none is entered.
-fn no_offsets() -> [u16; 720] {
-    [NOWHERE; 720]
-}
-
 // The offset at a place of the table.
 fn offset_at(table: &[u16], i: usize) -> u16
     ensures { result ≡ slice_index_or table.now i 65535 }
 {
-    if i < table.len() {
-        return table[i];
-    }
-    NOWHERE
+    table.get(i).copied().unwrap_or(NOWHERE)
 }
 
 // Whether a GUID with the name after it comes before another of the same length, by words of eight bytes from the front on. The last of them may overlap.
@@ -37,16 +29,12 @@ fn key_before(a: &[u8], b: &[u8]) -> bool
     ensures { result ≡ key_before_def a.now b.now }
 {
     let n = b.len();
-    let mut left = n / 8;
-    let mut i: usize = 0;
-    while 0 < left {
-        let x = slices::standing_eight(a, i);
-        let y = slices::standing_eight(b, i);
+    for i in 0..n / 8 {
+        let x = slices::standing_eight(a, 8 * i);
+        let y = slices::standing_eight(b, 8 * i);
         if x != y {
             return x < y;
         }
-        i += 8;
-        left -= 1;
     }
     slices::standing_eight(a, n - 8) < slices::standing_eight(b, n - 8)
 }
@@ -57,7 +45,7 @@ fn is_before(y: Layout, region: &[u8], at: u16, state: u8, key: &[u8]) -> bool
     requires { (16 ≤ length key.now) × (length key.now ≤ 65536) }
     ensures { result ≡ is_before_def y region.now at state key.now }
 {
-    let from = at as usize;
+    let from = usize::from(at);
     if region.len() < from + (y.vendor() + key.len()) {
         return false;
     }
@@ -76,50 +64,39 @@ fn is_before(y: Layout, region: &[u8], at: u16, state: u8, key: &[u8]) -> bool
 }
 
 // The place of a state, GUID and name in a sorted table: how many of its entries come before them.
+#[tactic(auto, unfolding(crate::specs::Sorted::place_of_def))]
 fn place_of(y: Layout, region: &[u8], table: &[u16], state: u8, key: &[u8]) -> usize
     ensures { result ≡ place_of_def y region.now table.now state key.now }
 {
-    if key.len() < 16 {
+    if key.len() < 16 || 65536 < key.len() {
         return 0;
     }
-    if 65536 < key.len() {
-        return 0;
-    }
-    let mut left: usize = 10;
     let mut step: usize = 511;
     let mut low: usize = 0;
-    while 0 < left {
+    for _ in 0..10_usize {
         if is_before(y, region, offset_at(table, low + step), state, key) {
-            low = low + step + 1;
+            low += step + 1;
         }
-        step = step / 2;
-        left -= 1;
+        step /= 2;
     }
     low
 }
 
 // Enters an offset at a place, after so many others; those from there on move up.
-fn insert(table: &mut [u16; 720], count: usize, place: usize, at: usize)
+fn insert(table: &mut [u16; PLACES], count: usize, place: usize, at: usize)
     requires { count < 720 }
 {
-    let mut i = count;
-    while place < i {
-        table[i] = table[i - 1];
-        i -= 1;
-    }
-    table[i] = (at % 65536) as u16;
+    let place = place.min(count);
+    table.copy_within(place..count, place + 1);
+    table[place] = (at % 65536) as u16;
 }
 
 // Whether the entry at an offset has this state, GUID and name.
 fn is_same(y: Layout, region: &[u8], at: usize, state: u8, key: &[u8]) -> bool {
-    let t = walk::turn(y, region, at);
-    let Some((e, _)) = t else {
+    let Some((e, _)) = walk::turn(y, region, at) else {
         return false;
     };
-    if e.state == state {
-        return slices::equal(layout::key_of(y, slices::from(region, at), e), key);
-    }
-    false
+    e.state == state && slices::equal(layout::key_of(y, slices::from(region, at), e), key)
 }
 
 // Enters an entry in a table of so many if it is live, and answers how many there are then. Of a doubled name the first stays. A name that ends past the region, which is not
@@ -127,7 +104,7 @@ fn is_same(y: Layout, region: &[u8], at: usize, state: u8, key: &[u8]) -> bool {
 fn enter(
     y: Layout,
     region: &[u8],
-    table: &mut [u16; 720],
+    table: &mut [u16; PLACES],
     count: usize,
     at: usize,
     e: Entry,
@@ -135,45 +112,45 @@ fn enter(
     requires { count < 720 }
     ensures { result ≤ 720 }
 {
-    if judge::is_live(e.state) {
-        let key = layout::key_of(y, slices::from(region, at), e);
-        if key.len() != 16 + e.name as usize {
-            return count;
-        }
-        let p = place_of(y, region, table, e.state, key);
-        if is_same(y, region, offset_at(table, p) as usize, e.state, key) {
-            return count;
-        }
-        insert(table, count, p, at);
-        return count + 1;
+    if !judge::is_live(e.state) {
+        return count;
     }
-    count
+    let key = layout::key_of(y, slices::from(region, at), e);
+    if key.len() != 16 + e.name as usize {
+        return count;
+    }
+    let p = place_of(y, region, table, e.state, key);
+    if is_same(y, region, usize::from(offset_at(table, p)), e.state, key) {
+        return count;
+    }
+    insert(table, count, p, at);
+    count + 1
 }
 
 // Enters the live entries of a region, as many as there is place for.
-fn sort(y: Layout, region: &[u8], table: &mut [u16; 720]) {
-    let mut count: usize = 0;
-    let mut at: usize = layout::REGION_HEADER;
-    while count < PLACES {
-        let t = walk::turn(y, region, at);
-        let Some((e, next)) = t else {
+fn sort(y: Layout, region: &[u8], table: &mut [u16; PLACES]) {
+    let mut count = 0;
+    let mut at = layout::REGION_HEADER;
+    while let Some((e, next)) = walk::turn(y, region, at) {
+        if count == PLACES {
             return;
-        };
+        }
         count = enter(y, region, table, count, at, e);
         at = next;
     }
 }
 
 // Whether an entry, if it is live, finds itself in the table.
+#[tactic(auto, unfolding(crate::specs::Sorted::owns_place_def, crate::specs::Walk::entry_as, model::specs::Walk::placed, layout::specs::Head::name_in))]
 fn owns_place(y: Layout, region: &[u8], table: &[u16], at: usize, e: Entry) -> bool
     ensures { result ≡ owns_place_def y region.now table.now (entry_as y region.now at e) }
 {
-    if judge::is_live(e.state) {
-        let key = layout::key_of(y, slices::from(region, at), e);
-        let p = place_of(y, region, table, e.state, key);
-        return offset_at(table, p) as usize == at;
+    if !judge::is_live(e.state) {
+        return true;
     }
-    true
+    let key = layout::key_of(y, slices::from(region, at), e);
+    let p = place_of(y, region, table, e.state, key);
+    usize::from(offset_at(table, p)) == at
 }
 
 // One pass over the entries by a table: where the tail begins, if they are sound and no name is doubled.
@@ -186,7 +163,7 @@ fn scan_by_table(y: Layout, region: &[u8], table: &[u16]) -> Option<usize>
         if !judge::entry_sound(y, &region[at..], e) {
             return None;
         }
-        settled = settled & owns_place(y, region, table, at, e);
+        settled &= owns_place(y, region, table, at, e);
         if judge::is_doubled(y, region, at, e, !settled) {
             return None;
         }
@@ -195,18 +172,11 @@ fn scan_by_table(y: Layout, region: &[u8], table: &[u16]) -> Option<usize>
     Some(at)
 }
 
-// The pass by a table that is sorted first.
-fn scan_with(y: Layout, region: &[u8], table: &mut [u16; 720]) -> Option<usize>
-    ensures { result ≡ scan_of y region.now }
-{
-    sort(y, region, table);
-    scan_by_table(y, region, table)
-}
-
-// The same with a table of its own.
+// The same by a table of its own, which is sorted first.
 pub(crate) fn scan_sorted(y: Layout, region: &[u8]) -> Option<usize>
     ensures { result ≡ scan_of y region.now }
 {
-    let mut table = no_offsets();
-    scan_with(y, region, &mut table)
+    let mut table = [NOWHERE; PLACES];
+    sort(y, region, &mut table);
+    scan_by_table(y, region, &table)
 }

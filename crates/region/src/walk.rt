@@ -29,6 +29,7 @@ pub fn turn(y: Layout, region: &[u8], at: usize) -> Option<(Entry, usize)>
 }
 
 // The name of the entry at an offset, by its numbers: the part of the region from its first byte on is handed to the reader of entries.
+#[tactic(auto, unfolding(crate::specs::Walk::entry_as, layout::specs::Head::name_in, model::specs::Walk::placed))]
 pub fn name_of(y: Layout, region: &[u8], at: usize, e: Entry) -> &[u8]
     ensures { result.now ≡ (entry_as y region.now at e).name }
 {
@@ -36,6 +37,7 @@ pub fn name_of(y: Layout, region: &[u8], at: usize, e: Entry) -> &[u8]
 }
 
 // Its data.
+#[tactic(auto, unfolding(crate::specs::Walk::entry_as, layout::specs::Head::data_in, model::specs::Walk::placed))]
 pub fn data_of(y: Layout, region: &[u8], at: usize, e: Entry) -> &[u8]
     ensures { result.now ≡ (entry_as y region.now at e).bytes }
 {
@@ -43,6 +45,7 @@ pub fn data_of(y: Layout, region: &[u8], at: usize, e: Entry) -> &[u8]
 }
 
 // Its GUID.
+#[tactic(auto, unfolding(crate::specs::Walk::vendor_as))]
 pub fn vendor_of(y: Layout, region: &[u8], at: usize) -> &[u8]
     ensures { result.now ≡ vendor_as y region.now at }
 {
@@ -50,6 +53,7 @@ pub fn vendor_of(y: Layout, region: &[u8], at: usize) -> &[u8]
 }
 
 // Its stamp: a move reads none.
+#[tactic(auto, unfolding(crate::specs::Walk::stamp_at))]
 pub fn stamp_of(region: &[u8], at: usize) -> &[u8]
     ensures { result.now ≡ stamp_at region.now at }
 {
@@ -58,6 +62,7 @@ pub fn stamp_of(region: &[u8], at: usize) -> &[u8]
 
 // Whether an entry has this state, name and GUID. What is cheap to compare comes first, and the name before the GUID: variables of one vendor differ in their
 // names, and most of them in the eight bytes at the end, with which their comparison begins.
+#[tactic(auto, unfolding(crate::specs::Walk::entry_as, crate::specs::Walk::vendor_as, model::specs::Walk::placed))]
 pub fn is_entry(
     y: Layout,
     region: &[u8],
@@ -73,12 +78,7 @@ pub fn is_entry(
         return false;
     }
     let own = name_of(y, region, at, e);
-    if own.len() != name.len() {
-        return false;
-    }
-    if slices::equal(own, name) {
-        slices::equal(vendor_of(y, region, at), vendor)
-    } else {
-        false
-    }
+    own.len() == name.len()
+        && slices::equal(own, name)
+        && slices::equal(vendor_of(y, region, at), vendor)
 }

@@ -6,23 +6,22 @@ use Rattle.layout.specs.Head.{name_in}
 use Rattle.region.specs.Met.{key_from}
 use Rattle.region.proofs.Meetings.{sought-named, sought-dead}
 use Rattle.region.proofs.judge.is_sought.Goals as goal
+use Rattle.region.proofs.judge.is_sought.Goals.{else-suspect-via-then-suspect+else-is_live, else-suspect-via-else-suspect}
 
 pub returns-then-is_live : goal.returns-then-is_live
 returns-then-is_live c =
-    let s = c in
-    let a = s.args in
-    let b = c in
-    rw b.if-suspect.true
+    let a = c.args in
+    rw c.if-suspect.true
     (c.equal.ensures
     ∙ ap (λ (x : List ℕ). same x a.key.now) c.key_of.ensures
     ∙ ap (λ (x : List ℕ). same ((header_fields_in a.y x).vendor ++ name_in a.y x a.e) a.key.now) c.from.ensures
-    ∙ sought-named a.y a.region.now a.at a.e a.key.now s.requires (sym b.is_live.ensures ∙ b.if-is_live.true))
+    ∙ sought-named a.y a.region.now a.at a.e a.key.now c.requires (sym c.is_live.ensures ∙ c.if-is_live.true))
 
-pub returns-else-is_live : goal.returns-else-is_live
-returns-else-is_live c =
+pub returns : goal.returns
+returns c =
     let a = c.args in
-    rw c.if-suspect.true
-    (sym (sought-dead a.y a.region.now a.at a.e (key_from a.key.now) (sym c.is_live.ensures ∙ c.if-is_live.false)))
-
-pub returns-else-suspect : goal.returns-else-suspect
-returns-else-suspect c = rw c.if-suspect.false
+    elim c.else-suspect.branch [
+      | else-suspect-via-then-suspect+else-is_live w ↦
+          rw w.if-suspect.true (sym (sought-dead a.y a.region.now a.at a.e (key_from a.key.now) (sym w.is_live.ensures ∙ w.if-is_live.false)))
+      | else-suspect-via-else-suspect w ↦ rw w.if-suspect.false
+    ]

@@ -20,7 +20,7 @@ pub loop-u-init : goal.loop-u-init
 loop-u-init c =
     let a = c.args in
     let m = c.mark_of_key-own in
-    (scan-begin a.y a.region.now, rw (c.nowhere-met.ensures, c.no_marks-noted.ensures) (begin a.y a.region.now a.key.now m.result m.ensures.0 m.ensures.1))
+    (scan-begin a.y a.region.now, rw c.no_marks-noted.ensures (begin a.y a.region.now a.key.now m.result m.ensures.0 m.ensures.1))
 
 pub loop-u-2-init : goal.loop-u-2-init
 loop-u-2-init c = (c.loop-u.invariant.0, c.loop-u.invariant.1, omega arith)
@@ -31,14 +31,14 @@ overflow_add-v c =
     let m = room-usual a.region.now c.loop-u-2.at c.in-Some.ensures in
     omega (arith, m.0, c.vendor.ensures.0, c.well_formed.1.0)
 
-pub overflow_add-k : goal.overflow_add-k
-overflow_add-k c =
+pub overflow_add-v-in-Some : goal.overflow_add-v-in-Some
+overflow_add-v-in-Some c =
     let a = c.args in
     let m = room-usual a.region.now c.loop-u-2.at c.in-Some.ensures in
     omega (arith, m.0, c.vendor.ensures.0, c.well_formed.1.0)
 
-pub overflow_add-v-in-Some : goal.overflow_add-v-in-Some
-overflow_add-v-in-Some c =
+pub overflow_add-u : goal.overflow_add-u
+overflow_add-u c =
     let a = c.args in
     let m = room-usual a.region.now c.loop-u-2.at c.in-Some.ensures in
     omega (arith, m.0, c.vendor.ensures.0, c.well_formed.1.0)

@@ -1,11 +1,7 @@
--- `region::marks::middle_words` meets its contract. The loop's invariant: with the words left the sum comes to that of all; they begin within the key.
--- Assumes nothing.
-use Rattle.std.proofs.Common.{◌≡◌, ◌+◌, ◌*◌, ◌≤◌, length}
+-- `region::marks::middle_words` meets its contract. The loop's invariant: with the words left the sum comes to that of all. Assumes nothing.
+use Rattle.std.proofs.Common.{◌≡◌, ◌+◌, ◌-◌, ◌*◌}
 use Rattle.region.specs.Marks.{words_from, middle_words_def}
 use Rattle.region.proofs.marks.middle_words.Given as goal
 
-abbrev pub invariant-loop-left : goal.invariant-loop-left
-invariant-loop-left l = (l.i + 7 * l.left + 16 ≤ length l.key) × (middle_words_def l.key ≡ words_from l.key l.left l.i l.sum)
-
-abbrev pub decreases-loop-left : goal.decreases-loop-left
-decreases-loop-left l = l.left
+abbrev pub invariant-loop-i : goal.invariant-loop-i
+invariant-loop-i l = middle_words_def l.key ≡ words_from l.key (l.i-end - l.i) (22 + 7 * l.i) l.sum

@@ -39,31 +39,33 @@ returns-then-region-from c =
 
 pub returns-then-size-n : goal.returns-then-size-n
 returns-then-size-n c =
-    let v = c in
-    let a = v.args in
+    let a = c.args in
     let r = a.region.now in
-    let size = c.word-size.ensures.0 ∙ ap₂ u32_at (rest r a.at) c.name_size.ensures.0 in
+    let from = c.from-from.result in
+    let lent : take (length r - from) (drop from r) ≡ drop a.at r = rest r from ∙ ap (λ (k : ℕ). drop k r) c.from-from.ensures in
+    let size = c.word-size.ensures.0 ∙ ap₂ u32_at lent c.name_size.ensures.0 in
     ap (ltb (length a.key.now - 16)) size
-    ∙ sym (by_size a.y r a.at a.state a.key.now (omega (arith, v.vendor.ensures.0)) (λ q. c.if-size-n.true (size ∙ q)))
+    ∙ sym (by_size a.y r a.at a.state a.key.now (omega (arith, c.vendor.ensures.0)) (λ q. c.if-size-n.true (size ∙ q)))
 
 pub returns-then-own-state : goal.returns-then-own-state
 returns-then-own-state c =
-    let v = c in
-    let a = v.args in
+    let a = c.args in
     let r = a.region.now in
-    let size = c.word-size.ensures.0 ∙ ap₂ u32_at (rest r a.at) c.name_size.ensures.0 in
-    let own = ap (λ (l : List ℕ). get_or l 2 0) (rest r a.at) in
+    let from = c.from-from.result in
+    let lent : take (length r - from) (drop from r) ≡ drop a.at r = rest r from ∙ ap (λ (k : ℕ). drop k r) c.from-from.ensures in
+    let size = c.word-size.ensures.0 ∙ ap₂ u32_at lent c.name_size.ensures.0 in
+    let own = ap (λ (l : List ℕ). get_or l 2 0) lent in
     ap (λ (s : ℕ). ltb s a.state) own
-    ∙ sym (by_state a.y r a.at a.state a.key.now (omega (arith, v.vendor.ensures.0)) (sym size ∙ c.if-size-n.false) (λ q. c.if-own-state.true (own ∙ q)))
+    ∙ sym (by_state a.y r a.at a.state a.key.now (omega (arith, c.vendor.ensures.0)) (sym size ∙ c.if-size-n.false) (λ q. c.if-own-state.true (own ∙ q)))
 
 pub returns : goal.returns
 returns c =
-    let v = c in
-    let a = v.args in
+    let a = c.args in
     let r = a.region.now in
-    let s = take (length r - a.at) (drop a.at r) in
-    let size = c.word-size.ensures.0 ∙ ap₂ u32_at (rest r a.at) c.name_size.ensures.0 in
-    let own = ap (λ (l : List ℕ). get_or l 2 0) (rest r a.at) in
+    let from = c.from-from.result in
+    let lent : take (length r - from) (drop from r) ≡ drop a.at r = rest r from ∙ ap (λ (k : ℕ). drop k r) c.from-from.ensures in
+    let size = c.word-size.ensures.0 ∙ ap₂ u32_at lent c.name_size.ensures.0 in
+    let own = ap (λ (l : List ℕ). get_or l 2 0) lent in
     c.key_before.ensures
-    ∙ ap (λ (l : List ℕ). key_before_def l a.key.now) (rest s c.vendor-v.result ∙ ap₂ drop c.vendor-v.ensures.0 (rest r a.at))
-    ∙ sym (by_bytes a.y r a.at a.state a.key.now (omega (arith, v.vendor.ensures.0)) (sym size ∙ c.if-size-n.false) (sym own ∙ c.if-own-state.false))
+    ∙ ap (λ (l : List ℕ). key_before_def l a.key.now) (rest (take (length r - from) (drop from r)) c.vendor-v.result ∙ ap₂ drop c.vendor-v.ensures.0 lent)
+    ∙ sym (by_bytes a.y r a.at a.state a.key.now (omega (arith, c.vendor.ensures.0)) (sym size ∙ c.if-size-n.false) (sym own ∙ c.if-own-state.false))
