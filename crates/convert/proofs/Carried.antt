@@ -18,7 +18,7 @@ use Rattle.layout.specs.declared.Entry as numbers
 use Rattle.region.specs.Walk.{entry_as, vendor_as}
 use Rattle.values.proofs.Listed.{listed_in, listed-all}
 use Rattle.values.proofs.Sizes.{lengths, short}
-use Rattle.values.proofs.Stands.{None}
+use Rattle.values.proofs.Stands.{NoneLeft}
 use Rattle.values.proofs.Next.{Next}
 use Rattle.output.specs.Text.{Wrote}
 use Rattle.output.proofs.Writing.{wrote-append, wrote-length, wrote-front}
@@ -55,7 +55,7 @@ module _ (y z : Layout) where
   unfolding joined_in
   next-to-come x = ap (λ (vs : List Value). joined_in z (map unstamped vs)) x.list
 
-  pub none-to-come : {r : List ℕ} {here : ℕ} → None y r here → to_come y z r here ≡ []
+  pub none-to-come : {r : List ℕ} {here : ℕ} → NoneLeft y r here → to_come y z r here ≡ []
   unfolding joined_in
   none-to-come x = ap (λ (vs : List Value). joined_in z (map unstamped vs)) x.list
 

@@ -4,9 +4,10 @@
 use Prim.Native.Nat.{ℕ, ◌+◌, ◌*◌, ◌-◌, ◌≤◌}
 use native.Mathlib.Omega.{arith}
 use mathlib.Core.Path.{◌≡◌, refl, sym, ap, ◌∙◌}
-use mathlib.Core.Bool.{Bool, true, false, cond}
+use mathlib.Core.Bool.{Bool, true, false, cond, false≢true}
 use mathlib.Core.List.{List, ◌++◌, map, append_assoc}
-use mathlib.Core.Option.{Option, none, some}
+use mathlib.Core.Option.{Option as Maybe, none, some}
+use Rattle.std.specs.Prelude.{Some, None, Result, Ok, Err, is_err}
 use lib.ListN.{length, replicate, length-append, replicate-append-replicate}
 use lib.Dec.{ltb}
 use Rattle.model.specs.declared.Layout.{Layout}
@@ -27,30 +28,26 @@ use Rattle.model.proofs.Chunks.{header-length}
 use Rattle.model.proofs.Encode.{AllValid, joined_length}
 use Rattle.model.proofs.Moving.{moved-valid, source-length, target-length, source-ready, values-fit}
 use Rattle.image.specs.Check.{blocks_of, call_in}
-use Rattle.image.specs.declared.Check.TheVariants as call
-use Rattle.image.proofs.Ready.{refused-rule as image-rule}
+use Rattle.image.specs.declared.Ready.{Ready}
+use Rattle.image.proofs.Readiness.{is-ready, refused-rule as image-rule}
 use Rattle.convert.specs.Bare.{content_in, checked_of}
-use Rattle.convert.specs.declared.Checked.TheVariants.{Fits, Broken}
 
 pub content-length : (z : Layout) (n : ℕ) (vs : List Value) → AllValid z vs → length (content_in z n vs) ≡ space_in z vs
 unfolding content_in space_in
 content-length z n vs h = simp (length-append, header-length z n, joined_length z vs h)
 
-zero-wrong : (img : List ℕ) → blocks_of img ≡ 0 → right_length img ≡ false
+zero-wrong : (img : List ℕ) → blocks_of img ≡ None → right_length img ≡ false
 unfolding blocks_of
 zero-wrong img h = go (right_length img) refl h
   where
-    go : (t : Bool) → right_length img ≡ t → cond t (blocks img) 0 ≡ 0 → right_length img ≡ false
-    go true e f =
-        let i = right-parts img e in
-        let k : blocks img ≡ i.b = ap blocks i.whole ∙ parts-blocks i.parts in
-        absurd (omega (arith, i.parts.low))
+    go : (t : Bool) → right_length img ≡ t → cond t (Some (blocks img)) None ≡ None → right_length img ≡ false
+    go true e f = let w : ◌≡◌ {A = ℕ} 0 1 = cc in absurd (omega arith)
     go false e f = e
 
 -- of an image of a right length, a check that refuses it tells rule 2
-pub told-unready : (y : Layout) (img : List ℕ) (rule : Rule) → right_length img ≡ true → call_in y img ≡ call.Refused rule → ready_in y img ≡ false
+told-broken : (y : Layout) (img : List ℕ) (rule : Rule) → right_length img ≡ true → call_in y img ≡ Err rule → ready_in y img ≡ false
 unfolding first_broken image_rules_in rule1 rule2_in
-told-unready y img rule r p = go (ready_in y img) refl
+told-broken y img rule r p = go (ready_in y img) refl
   where
     go : (t : Bool) → ready_in y img ≡ t → ready_in y img ≡ false
     go false e = e
@@ -59,32 +56,47 @@ told-unready y img rule r p = go (ready_in y img) refl
         let w : ◌≡◌ {A = ℕ} 0 1 = cc in
         absurd (omega arith)
 
+pub told-unready : (y : Layout) (img : List ℕ) → right_length img ≡ true → is_err (call_in y img) ≡ true → ready_in y img ≡ false
+told-unready y img r p = go (call_in y img) refl p
+  where
+    go : (o : Result Ready Rule) → call_in y img ≡ o → is_err o ≡ true → ready_in y img ≡ false
+    go (Ok x) q e = absurd (false≢true e)
+    go (Err rule) q e = told-broken y img rule r q
+
+-- one that it does not refuse is ready
+pub told-ready : (y : Layout) (img : List ℕ) → is_err (call_in y img) ≡ false → ready_in y img ≡ true
+told-ready y img p = go (call_in y img) refl p
+  where
+    go : (o : Result Ready Rule) → call_in y img ≡ o → is_err o ≡ false → ready_in y img ≡ true
+    go (Ok x) q e = (is-ready y q).ready
+    go (Err rule) q e = absurd (false≢true (sym e))
+
 module _ (y z : Layout) (img target : List ℕ) where
-  pub source-wrong : blocks_of img ≡ 0 → checked_of y z img target ≡ Broken Length
+  pub source-wrong : blocks_of img ≡ None → checked_of y z img target ≡ Err Length
   unfolding checked_of move_broken first_broken rule1 rule19 rule2_in rule13_move
   source-wrong h = rw (zero-wrong img h)
 
-  pub target-wrong : right_length img ≡ true → blocks_of target ≡ 0 → checked_of y z img target ≡ Broken Length
+  pub target-wrong : right_length img ≡ true → blocks_of target ≡ None → checked_of y z img target ≡ Err Length
   unfolding checked_of move_broken first_broken rule1 rule19 rule2_in rule13_move
   target-wrong r h = rw (r, zero-wrong target h)
 
   module _ (r : right_length img ≡ true) (t : right_length target ≡ true) where
-    pub unready : ready_in y img ≡ false → checked_of y z img target ≡ Broken Source
+    pub unready : ready_in y img ≡ false → checked_of y z img target ≡ Err Source
     unfolding checked_of move_broken first_broken rule1 rule19 rule2_in rule13_move
     unready h = rw (r, t, h)
 
     module _ (d : ready_in y img ≡ true) where
-      pub too-stamped : rule20 z (values_in y img) ≡ true → checked_of y z img target ≡ Broken TimeBased
+      pub too-stamped : rule20 z (values_in y img) ≡ true → checked_of y z img target ≡ Err TimeBased
       unfolding checked_of move_broken first_broken rule1 rule19 rule2_in rule13_move
       too-stamped h = rw (r, t, d, h)
 
       pub too_large : rule20 z (values_in y img) ≡ false → ltb (region_size target) (space_in z (moved_values y img)) ≡ true → checked_of y z img target
-          ≡ Broken Room
+          ≡ Err Room
       unfolding checked_of move_broken first_broken rule1 rule19 rule2_in rule13_move
       too_large u h = rw (r, t, d, u, h)
 
       pub fitting : rule20 z (values_in y img) ≡ false → ltb (region_size target) (space_in z (moved_values y img)) ≡ false
-          → checked_of y z img target ≡ Fits (blocks img) (blocks target)
+          → checked_of y z img target ≡ Ok (blocks img, blocks target)
       unfolding checked_of move_broken first_broken rule1 rule19 rule2_in rule13_move
       fitting u h = rw (r, t, d, u, h)
 
@@ -124,13 +136,15 @@ module _ (y z : Layout) (img target : List ℕ) (b t : ℕ) where
     source : blocks img ≡ b
     size : blocks target ≡ t
 
-  found : checked_of y z img target ≡ Fits b t → Found
+  found : checked_of y z img target ≡ Ok (b, t) → Found
   unfolding checked_of
   found p = go (move_broken y z img target) refl p
     where
-      go : (o : Option Rule) → move_broken y z img target ≡ o → on_some o Broken (Fits (blocks img) (blocks target)) ≡ Fits b t → Found
+      go : (o : Maybe Rule) → move_broken y z img target ≡ o → on_some {B = Result (ℕ × ℕ) Rule} o Err (Ok (blocks img, blocks target)) ≡ Ok (b, t) → Found
       go (some rule) q p = let w : ◌≡◌ {A = ℕ} 0 1 = cc in absurd (omega arith)
-      go none q p = record { accepted = q; source = cc; size = cc }
+      go none q p =
+          let same : ◌≡◌ {A = ℕ × ℕ} (blocks img, blocks target) (b, t) = cc in
+          record { accepted = q; source = ap (λ (x : ℕ × ℕ). x.0) same; size = ap (λ (x : ℕ × ℕ). x.1) same }
 
   pub record Goes (r : List ℕ) : Type 0 where
     pub few : b ≤ 7
@@ -141,7 +155,7 @@ module _ (y z : Layout) (img target : List ℕ) (b t : ℕ) where
         ++ replicate (length target - length (content_in z (4096 * t) (map unstamped (values (entries_in y r))))) 0xFF
         ≡ image_moved y z img target
 
-  pub goes : checked_of y z img target ≡ Fits b t → (r : List ℕ) → r ≡ part 0 (4096 * b) img → Goes r
+  pub goes : checked_of y z img target ≡ Ok (b, t) → (r : List ℕ) → r ≡ part 0 (4096 * b) img → Goes r
   unfolding region region_size block move_answer image_moved moved
   goes p r cut =
       let f = found p in
@@ -169,12 +183,12 @@ module _ (y z : Layout) (img target : List ℕ) (b t : ℕ) where
             ∙ rw f.accepted (ap (λ (k : ℕ). encode_in z (4096 * k) vs ++ replicate (length target - 4096 * k) 0xFF) (sym f.size));
       }
 
-pub refused-rule : (y z : Layout) (img target : List ℕ) (rule : Rule) → checked_of y z img target ≡ Broken rule
+pub refused-rule : (y z : Layout) (img target : List ℕ) (rule : Rule) → checked_of y z img target ≡ Err rule
     → (move_answer y z img target ≡ refused (rule_number rule)) × (image_moved y z img target ≡ target)
 unfolding checked_of move_answer image_moved
 refused-rule y z img target rule p = go (move_broken y z img target) refl p
   where
-    go : (o : Option Rule) → move_broken y z img target ≡ o → on_some o Broken (Fits (blocks img) (blocks target)) ≡ Broken rule
+    go : (o : Maybe Rule) → move_broken y z img target ≡ o → on_some {B = Result (ℕ × ℕ) Rule} o Err (Ok (blocks img, blocks target)) ≡ Err rule
         → (move_answer y z img target ≡ refused (rule_number rule)) × (image_moved y z img target ≡ target)
     go (some x) q p = let same : x ≡ rule = cc in rw q (ap (λ (u : Rule). refused (rule_number u)) same, refl)
     go none q p = let w : ◌≡◌ {A = ℕ} 0 1 = cc in absurd (omega arith)

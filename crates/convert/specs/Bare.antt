@@ -1,13 +1,12 @@
 -- An entry with the zero stamp by its fields, what a move writes before the FF bytes, and what it finds before it begins.
-use Rattle.std.specs.Prelude.{ℕ, ◌*◌, List, [], ◌∷◌, ◌++◌, replicate}
+use Rattle.std.specs.Prelude.{ℕ, ◌*◌, List, [], ◌∷◌, ◌++◌, replicate, Result, Ok, Err}
 use Rattle.model.specs.declared.Layout.{Layout}
 use Rattle.model.specs.Lists.{bytes32, on_some}
 use Rattle.model.specs.Image.{blocks, region_header_in}
 use Rattle.model.specs.Entry.{Value, header_front, no_stamp_def}
 use Rattle.model.specs.Compact.{joined_in}
 use Rattle.model.specs.Move.{move_broken}
-use Rattle.convert.specs.declared.Checked.{Checked}
-use Rattle.convert.specs.declared.Checked.TheVariants.{Fits, Broken}
+use Rattle.model.specs.declared.Rule.{Rule}
 
 -- up to what a form has more: start id, state 3F, zero, attributes
 unfoldable pub bare_front : ℕ → List ℕ
@@ -30,6 +29,6 @@ bare attributes name vendor bytes = record { name = name; vendor = vendor; attri
 unfoldable pub content_in : Layout → ℕ → List Value → List ℕ
 content_in y size vs = region_header_in y size ++ joined_in y vs
 
--- the first rule broken, or b of source and target
-unfoldable pub checked_of : Layout → Layout → List ℕ → List ℕ → Checked
-checked_of from to img target = on_some (move_broken from to img target) Broken (Fits (blocks img) (blocks target))
+-- b of source and target, or the first rule broken
+unfoldable pub checked_of : Layout → Layout → List ℕ → List ℕ → Result (ℕ × ℕ) Rule
+checked_of from to img target = on_some (move_broken from to img target) Err (Ok (blocks img, blocks target))

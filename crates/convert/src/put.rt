@@ -10,10 +10,9 @@ ghost use Rattle.region.specs.Walk.{entry_as};
 ghost use Rattle.output.specs.Text.{Wrote};
 ghost use Rattle.convert.specs.Bare.{bare_front, bare_sizes, bare_header, bare, content_in};
 
-use layout::Entry;
 use model::Layout;
-use region::walk;
-use values::{NextValue, list};
+use region::{Placed, walk};
+use values::list;
 
 // Start id, state 3F, zero, attributes.
 fn front(attributes: u32) -> [u8; 8]
@@ -81,18 +80,18 @@ fn put_value(
     out: &mut [u8],
     at: usize,
     region: &[u8],
-    place: usize,
-    e: Entry,
+    placed: Placed,
 ) -> usize
     requires { (at < 2 ^ 62) × (length region.now ≤ 28672) }
-    ensures { Wrote (entry_bytes_in to 0x3F (unstamped (entry_value_def (entry_as from region.now place e)))) at
+    ensures { Wrote (entry_bytes_in to 0x3F (unstamped (entry_value_def (entry_as from region.now placed.at placed.entry)))) at
         out.old out.new result
         × (result ≤ at + 34359738368) }
 {
-    let name = walk::name_of(from, region, place, e);
+    let Placed { at: place, entry } = placed;
+    let name = walk::name_of(from, region, place, entry);
     let vendor = walk::vendor_of(from, region, place);
-    let data = walk::data_of(from, region, place, e);
-    put_entry(to, out, at, e.attributes, name, vendor, data)
+    let data = walk::data_of(from, region, place, entry);
+    put_entry(to, out, at, entry.attributes, name, vendor, data)
 }
 
 // The values in flash order.
@@ -101,15 +100,12 @@ fn put_values(from: Layout, to: Layout, out: &mut [u8], at: usize, region: &[u8]
     ensures { Wrote (joined_in to (map unstamped (values (entries_in from region.now)))) at out.old out.new result }
 {
     let mut next = at;
-    let mut here: usize = layout::REGION_HEADER;
-    loop {
-        let v = list::next_value(from, region, here);
-        let NextValue::At(place, e, after) = v else {
-            return next;
-        };
-        next = put_value(from, to, out, next, region, place, e);
+    let mut here = layout::REGION_HEADER;
+    while let Some((placed, after)) = list::next_value(from, region, here) {
+        next = put_value(from, to, out, next, region, placed);
         here = after;
     }
+    next
 }
 
 // The front of a region of `size` bytes: its header, and the values.

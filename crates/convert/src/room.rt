@@ -17,8 +17,7 @@ pub(crate) fn is_unstampable(from: Layout, to: Layout, region: &[u8]) -> bool
         return false;
     }
     let any = [0u8; 16];
-    let t = list::tally(from, region, &any, false);
-    t.stamped
+    list::tally(from, region, &any, false).stamped
 }
 
 // The bytes of header and values in another form. They are composed in no room, where they are only counted.

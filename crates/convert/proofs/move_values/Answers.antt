@@ -12,35 +12,35 @@ use Rattle.convert.proofs.move_values.Goals as goal
 pub overflow_mul-t : goal.overflow_mul-t
 overflow_mul-t c = let a = c.args in
     let img = a.image.now in
-    let told = sym c.check-c.ensures ∙ c.in-Fits.is in
-    let g = goes a.from a.to img a.target.now c.in-Fits.b c.in-Fits.t told (part 0 (4096 * c.in-Fits.b) img) refl in
+    let told = sym c.check.ensures ∙ c.in-Ok.is in
+    let g = goes a.from a.to img a.target.now c.in-Ok.b c.in-Ok.t told (part 0 (4096 * c.in-Ok.b) img) refl in
     record { fits = omega (arith, g.few-target) }
 
 pub overflow_mul-b : goal.overflow_mul-b
 overflow_mul-b c = let a = c.args in
     let img = a.image.now in
-    let told = sym c.check-c.ensures ∙ c.in-Fits.is in
-    let g = goes a.from a.to img a.target.now c.in-Fits.b c.in-Fits.t told (part 0 (4096 * c.in-Fits.b) img) refl in
+    let told = sym c.check.ensures ∙ c.in-Ok.is in
+    let g = goes a.from a.to img a.target.now c.in-Ok.b c.in-Ok.t told (part 0 (4096 * c.in-Ok.b) img) refl in
     record { fits = omega (arith, g.few) }
 
 pub put_image-requires : goal.put_image-requires
 put_image-requires c = let a = c.args in
     let img = a.image.now in
-    let told = sym c.check-c.ensures ∙ c.in-Fits.is in
-    let g = goes a.from a.to img a.target.now c.in-Fits.b c.in-Fits.t told c.cut.result.now c.cut.ensures in
-    let s = (part-fits img 0 (4096 * c.in-Fits.b)).0 in
+    let told = sym c.check.ensures ∙ c.in-Ok.is in
+    let g = goes a.from a.to img a.target.now c.in-Ok.b c.in-Ok.t told c.cut.result.now c.cut.ensures in
+    let s = (part-fits img 0 (4096 * c.in-Ok.b)).0 in
     let e = ap length c.cut.ensures in
     (omega (arith, s, e, g.few), g.room)
 
-pub returns-in-Fits : goal.returns-in-Fits
-returns-in-Fits c = let a = c.args in
+pub returns-in-Ok : goal.returns-in-Ok
+returns-in-Ok c = let a = c.args in
     let img = a.image.now in
-    let told = sym c.check-c.ensures ∙ c.in-Fits.is in
-    let g = goes a.from a.to img a.target.now c.in-Fits.b c.in-Fits.t told c.cut.result.now
+    let told = sym c.check.ensures ∙ c.in-Ok.is in
+    let g = goes a.from a.to img a.target.now c.in-Ok.b c.in-Ok.t told c.cut.result.now
     c.cut.ensures in
     (g.answer, c.put_image.ensures ∙ g.image)
 
-pub returns-in-Broken : goal.returns-in-Broken
-returns-in-Broken c = let a = c.args in
-    let f = refused-rule a.from a.to a.image.now a.target.now c.in-Broken.rule (sym c.check-c.ensures ∙ c.in-Broken.is) in
+pub returns-in-Err : goal.returns-in-Err
+returns-in-Err c = let a = c.args in
+    let f = refused-rule a.from a.to a.image.now a.target.now c.in-Err.rule (sym c.check.ensures ∙ c.in-Err.is) in
     (sym f.0, sym f.1)

@@ -12,10 +12,10 @@ use Rattle.output.proofs.Writing.{Partly}
 use Rattle.convert.proofs.Carried.{to_come}
 use Rattle.convert.proofs.put.put_values.Given as goal
 
-abbrev pub invariant-loop-place : goal.invariant-loop-place
-invariant-loop-place l =
+abbrev pub invariant-loop-placed : goal.invariant-loop-placed
+invariant-loop-placed l =
     (l.next ≤ l.at + l.here * 34359738368) × (length l.out ≡ length l.initial.out)
     × Partly (joined_in l.to (map unstamped (values (entries_in l.from l.region)))) (to_come l.from l.to l.region l.here) l.at l.initial.out l.out l.next
 
-abbrev pub decreases-loop-place : goal.decreases-loop-place
-decreases-loop-place l = length l.region - l.here
+abbrev pub decreases-loop-placed : goal.decreases-loop-placed
+decreases-loop-placed l = length l.region - l.here

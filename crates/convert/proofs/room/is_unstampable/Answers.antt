@@ -10,4 +10,4 @@ returns-then-is_stamped c = rw (sym c.is_stamped.ensures ∙ c.if-is_stamped.tru
 
 pub returns : goal.returns
 unfolding rule20
-returns c = c.tally-t.ensures.0.stamped ∙ rw (sym c.is_stamped.ensures ∙ c.if-is_stamped.false)
+returns c = c.tally.ensures.0.stamped ∙ rw (sym c.is_stamped.ensures ∙ c.if-is_stamped.false)
