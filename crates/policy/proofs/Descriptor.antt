@@ -1,18 +1,16 @@
 -- A descriptor is right where its size, its kind and its zero bytes are. Of the stamp the data may lack some bytes: with what they have in front of
 -- zeros, 16 in all, it is what is left of zeros when these bytes are laid over them.
 -- Assumes nothing.
-use Prim.Native.Nat.{ℕ, zero, suc, ◌+◌, ◌≤◌, ◌<◌}
-use native.Mathlib.Numerals.{add-one}
-use native.Mathlib.Nat.{min-le_left, zero-add}
+use Prim.Native.Nat.{ℕ, zero, suc, ◌+◌, ◌≤◌}
+use native.Mathlib.Nat.{min-le_left}
 use native.Mathlib.Omega.{arith}
 use mathlib.Core.Path.{◌≡◌, refl, sym, ap, ◌∙◌}
-use mathlib.Core.Logic.{◌≢◌}
 use mathlib.Core.Bool.{Bool, true, false, not, cond, ◌&&◌, and-true, and-false, true≢false}
 use mathlib.Core.List.{List, [], ◌∷◌, ◌++◌}
-use lib.ListN.{length, take, drop, set, get_or, replicate, length-take, length-drop}
-use lib.Seq.{take_all, paste-suc, length-paste, take-length, take-append-le, take-take}
+use lib.ListN.{length, take, drop, replicate, length-take, length-drop}
+use lib.Seq.{take_all, take-append-le, take-take}
 use lib.Dec.{eqb, leb}
-use borrow.Author.Tests.{leb-true, le-leb, lt-leb, eq-eqb, ne_eqb}
+use borrow.Author.Tests.{leb-true}
 use Rattle.model.specs.Lists.{part, same, u16_at_def}
 use Rattle.model.specs.Request.{Request, stamp_to_store, time_based_def, stamp_size, certificate, descriptor_length, proper_at, right_descriptor, proper_of}
 use Rattle.model.specs.Rules.{rule8}
@@ -56,16 +54,6 @@ right-long bytes h =
     let t = and_split (leb 24 (descriptor_length bytes)) (leb (proper_at bytes) (length bytes)) q.1 in
     omega (arith, leb-true 24 (descriptor_length bytes) t.0, leb-true (proper_at bytes) (length bytes) t.1)
 
--- the size by the length read
-module _ (bytes : List ℕ) (n : ℕ) (e : n ≡ descriptor_length bytes) where
-  pub size-short : n < 24 → right_size bytes ≡ false
-  unfolding right_size
-  size-short h = rw (lt-leb 24 (descriptor_length bytes) (rw e at h))
-
-  pub size-long : 24 ≤ n → right_size bytes ≡ leb (16 + n) (length bytes)
-  unfolding right_size
-  size-long h = rw (le-leb 24 (descriptor_length bytes) (rw e at h)) (ap (λ (k : ℕ). leb (16 + k) (length bytes)) (sym e))
-
 -- the data proper, by where they begin
 pub proper-drop : (a : ℕ) (bytes : List ℕ) → drop (cond (time_based_def a) (proper_at bytes) 0) bytes ≡ proper_of a bytes
 unfolding proper_of
@@ -75,36 +63,7 @@ proper-drop a bytes = go (time_based_def a)
     go true = refl
     go false = refl
 
--- the kind by its three tests
-pub kind-revision : (bytes : List ℕ) → u16_at_def bytes 20 ≢ 0x0200 → right_kind bytes ≡ false
-unfolding right_kind
-kind-revision bytes h = rw (ne_eqb (u16_at_def bytes 20) 0x0200 h)
-
-pub kind-type : (bytes : List ℕ) → u16_at_def bytes 22 ≢ 0x0EF1 → right_kind bytes ≡ false
-unfolding right_kind
-kind-type bytes h = rw (ne_eqb (u16_at_def bytes 22) 0x0EF1 h, and-false (eqb (u16_at_def bytes 20) 0x0200))
-
-pub kind-certificate : (bytes : List ℕ) → u16_at_def bytes 20 ≡ 0x0200 → u16_at_def bytes 22 ≡ 0x0EF1 → right_kind bytes ≡ same (part 24 16 bytes) certificate
-unfolding right_kind
-kind-certificate bytes h k = rw (eq-eqb (u16_at_def bytes 20) 0x0200 h, eq-eqb (u16_at_def bytes 22) 0x0EF1 k)
-
--- the first i bytes of a list, laid over zeros
-unfoldable pub laid : List ℕ → ℕ → List ℕ
-laid s i = take i s ++ drop i no_stamp_def
-
-pub laid_none : (s : List ℕ) → no_stamp_def ≡ laid s 0
-unfolding laid
-laid_none s = refl
-
-pub laid_next : (s : List ℕ) (i : ℕ) → i < length s → length s ≤ 16 → set (laid s i) i (get_or s i 0) ≡ laid s (i + 1)
-unfolding laid no_stamp_def
-laid_next s i h k = rw add-one (simp zero-add at (paste-suc (replicate stamp_size 0) 0 s i 0 (omega arith) h))
-
-pub laid-length : (s : List ℕ) (i : ℕ) → i ≤ length s → length s ≤ 16 → length (laid s i) ≡ 16
-unfolding laid no_stamp_def
-laid-length s i h k = simp zero-add at (length-paste (replicate stamp_size 0) 0 s i (omega arith) h)
-
-pub front-short : (bytes : List ℕ) → length (take stamp_size bytes) ≤ 16
+front-short : (bytes : List ℕ) → length (take stamp_size bytes) ≤ 16
 front-short bytes = rw length-take (min-le_left 16 (length bytes))
 
 abbrev zeros : ℕ → List ℕ
@@ -120,11 +79,10 @@ filled-up n m [] h k = few-zeros n m k
 filled-up zero m (x ∷ s) h k = absurd (omega arith)
 filled-up (suc n) m (x ∷ s) h k = ap (λ (l : List ℕ). x ∷ l) (filled-up n m s (omega arith) (omega arith))
 
-pub laid-all : (bytes : List ℕ) → laid (take stamp_size bytes) (length (take stamp_size bytes)) ≡ stamp_in_def bytes
-unfolding stamp_in_def laid no_stamp_def
-laid-all bytes =
-    let front = take stamp_size bytes in
-    rw (take-length front) (sym (filled-up 16 16 front (front-short bytes) (omega arith)))
+-- the front of some bytes, laid over zeros
+pub front-laid : (bytes : List ℕ) → take stamp_size bytes ++ drop (length (take stamp_size bytes)) no_stamp_def ≡ stamp_in_def bytes
+unfolding stamp_in_def no_stamp_def
+front-laid bytes = let front = take stamp_size bytes in sym (filled-up 16 16 front (front-short bytes) (omega arith))
 
 -- bytes that have a whole stamp in front have that one
 pub stamp-whole : (bytes : List ℕ) → stamp_size ≤ length bytes → stamp_in_def bytes ≡ take stamp_size bytes

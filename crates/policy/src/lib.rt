@@ -1,7 +1,7 @@
 // What the rules say of the call itself: attributes, descriptor and stamp, verdict, and what a set asks for. No image is looked at.
 #![tactic(auto)]
 
-ghost use Rattle.std.specs.Prelude.{◌≡◌, not, cond, ◌∷◌, ◌<◌, length};
+ghost use Rattle.std.specs.Prelude.{◌≡◌, ◌==◌, ◌/◌, ◌%◌, not, cond, ◌∷◌, ◌<◌, length};
 ghost use Rattle.model.specs.Lists.{among, is_empty};
 ghost use Rattle.model.specs.Name.{keyed};
 ghost use Rattle.model.specs.Region.{stored_attributes};
@@ -21,92 +21,83 @@ pub enum Wanted {
     Either,
 }
 
-// Attribute bits: 0x04 runtime access, 0x20 time-based authentication, 0x40 append.
+// Whether one of the attribute bits is set: 0x04 runtime access, 0x20 time-based authentication, 0x40 append.
+fn has(attributes: u32, bit: u32) -> bool
+    requires { 0 < bit }
+    ensures { result ≡ (attributes / bit % 2 == 1) }
+{
+    attributes / bit % 2 == 1
+}
+
 pub fn runtime_access(attributes: u32) -> bool
     ensures { result ≡ runtime_access_def attributes }
 {
-    attributes / 0x04 % 2 == 1
+    has(attributes, 0x04)
 }
 
 pub fn time_based(attributes: u32) -> bool
     ensures { result ≡ time_based_def attributes }
 {
-    attributes / 0x20 % 2 == 1
+    has(attributes, 0x20)
 }
 
 pub fn appends(attributes: u32) -> bool
     ensures { result ≡ appends attributes }
 {
-    attributes / 0x40 % 2 == 1
+    has(attributes, 0x40)
 }
 
 pub fn without_append(attributes: u32) -> u32
     ensures { result ≡ without_append_def attributes }
 {
-    if attributes / 0x40 % 2 == 1 {
-        return attributes - 0x40;
+    if appends(attributes) {
+        attributes - 0x40
+    } else {
+        attributes
     }
-    attributes
 }
 
 // Attributes without 0x40 that a set may ask for.
 fn is_known(attributes: u32) -> bool
     ensures { result ≡ among (0 ∷ stored_attributes) attributes }
 {
-    match attributes {
-        0 => true,
-        0x03 => true,
-        0x07 => true,
-        0x23 => true,
-        0x27 => true,
-        0x0F => true,
-        _ => false,
-    }
+    matches!(attributes, 0 | 0x03 | 0x07 | 0x23 | 0x27 | 0x0F)
 }
 
 // Rule 4: attributes without 0x40 are none of these, or are exactly 0x40, or at runtime are not 0 and lack RT.
+#[tactic(auto, unfolding(model::specs::Rules::rule4))]
 pub fn attributes_broken(runtime: bool, attributes: u32) -> bool
     ensures { result ≡ rule4 runtime attributes }
 {
-    if attributes == 0x40 {
+    if attributes == 0x40 || !is_known(without_append(attributes)) {
         return true;
     }
-    if is_known(without_append(attributes)) {
-        if runtime {
-            if attributes != 0 {
-                return !runtime_access(attributes);
-            }
-        }
-        return false;
-    }
-    true
+    runtime && attributes != 0 && !runtime_access(attributes)
 }
 
 // Rule 5: a key name has other attributes than 0x27 or 0x67.
+#[tactic(auto, unfolding(model::specs::Rules::rule5))]
 pub fn key_attributes_broken(name: &[u8], vendor: &[u8; 16], attributes: u32) -> bool
     ensures { result ≡ rule5 (keyed name.now vendor.now) attributes }
 {
-    if attributes == 0x27 {
-        return false;
-    }
-    if attributes == 0x67 {
-        return false;
-    }
-    fixed::is_key_name(name, vendor)
+    !matches!(attributes, 0x27 | 0x67) && fixed::is_key_name(name, vendor)
 }
 
 // Rule 17: attributes other than 0 have 0x08 without a record's name and GUID, or lack it with both.
+#[tactic(auto, unfolding(model::specs::Rules::rule17))]
 pub fn record_broken(name: &[u8], vendor: &[u8; 16], attributes: u32) -> bool
     ensures { result ≡ rule17 (keyed name.now vendor.now) attributes }
 {
     let named = fixed::is_record_name(name, vendor);
     if layout::is_error_record(attributes) {
-        return !named;
+        !named
+    } else {
+        named && attributes != 0
     }
-    if named { attributes != 0 } else { false }
 }
 
 // Whether attributes without 0x40 are neither 0 nor the stored ones, or are 0 over a stored 0x20.
+#[tactic(auto, unfolding(model::specs::Rules::unlike_stored))]
 fn unlike(asked: u32, stored: u32) -> bool
     ensures { result ≡ unlike_stored asked stored }
 {
@@ -117,64 +108,46 @@ fn unlike(asked: u32, stored: u32) -> bool
 }
 
 // Rule 7 over a value that stands; at runtime the stored attributes may not lack RT.
+#[tactic(auto, unfolding(model::specs::Rules::rule7))]
 pub fn standing_broken(runtime: bool, attributes: u32, stored: u32) -> bool
     ensures { result ≡ rule7 runtime attributes stored }
 {
-    if unlike(without_append(attributes), stored) {
-        return true;
-    }
-    if runtime {
-        return !runtime_access(stored);
-    }
-    false
+    unlike(without_append(attributes), stored) || (runtime && !runtime_access(stored))
 }
 
 // The descriptor's length is 24 or more, counted from behind the stamp, and the data hold it.
+#[tactic(auto, unfolding(crate::specs::Descriptor::right_size))]
 fn size_right(bytes: &[u8]) -> bool
     ensures { result ≡ right_size bytes.now }
 {
     let length = layout::u32_at(bytes, 16);
-    if length < 24 {
-        return false;
-    }
-    16 + length as usize <= bytes.len()
+    24 <= length && 16 + length as usize <= bytes.len()
 }
 
 // Revision 0x0200, type 0x0EF1 and the certificate GUID.
+#[tactic(auto, unfolding(crate::specs::Descriptor::right_kind))]
 fn kind_right(bytes: &[u8]) -> bool
     ensures { result ≡ right_kind bytes.now }
 {
-    if layout::u16_at(bytes, 20) != 0x0200 {
-        return false;
-    }
-    if layout::u16_at(bytes, 22) != 0x0EF1 {
-        return false;
-    }
-    let guid = fixed::certificate();
-    slices::equal(slices::cut(bytes, 24, 16), &guid)
+    layout::u16_at(bytes, 20) == 0x0200
+        && layout::u16_at(bytes, 22) == 0x0EF1
+        && slices::equal(slices::cut(bytes, 24, 16), &fixed::certificate())
 }
 
 // Whether a descriptor fits the form and the data; nine bytes of its stamp are zero.
 fn descriptor_right(bytes: &[u8]) -> bool
     ensures { result ≡ right_descriptor bytes.now }
 {
-    if size_right(bytes) {
-        if kind_right(bytes) {
-            let zeros = [0u8; 9];
-            return slices::equal(slices::cut(bytes, 7, 9), &zeros);
-        }
-    }
-    false
+    let zeros = [0u8; 9];
+    size_right(bytes) && kind_right(bytes) && slices::equal(slices::cut(bytes, 7, 9), &zeros)
 }
 
 // Rule 8: a descriptor is wanted and does not fit the form or the data.
+#[tactic(auto, unfolding(model::specs::Rules::rule8))]
 pub fn descriptor_broken(attributes: u32, bytes: &[u8]) -> bool
     ensures { result ≡ rule8 attributes bytes.now }
 {
-    if time_based(attributes) {
-        return !descriptor_right(bytes);
-    }
-    false
+    time_based(attributes) && !descriptor_right(bytes)
 }
 
 // Where the data proper begin: after the descriptor, or at once without one.
@@ -188,6 +161,7 @@ pub fn proper_from(attributes: u32, bytes: &[u8]) -> usize
 }
 
 // The data proper.
+#[tactic(auto, unfolding(model::specs::Request::proper_of))]
 pub fn proper(attributes: u32, bytes: &[u8]) -> &[u8]
     ensures { result.now ≡ proper_of attributes bytes.now }
 {
@@ -195,6 +169,7 @@ pub fn proper(attributes: u32, bytes: &[u8]) -> &[u8]
 }
 
 // No stamp is 16 zeros.
+#[tactic(auto, unfolding(crate::specs::Descriptor::no_stamp_def))]
 fn no_stamp() -> [u8; 16]
     ensures { result ≡ no_stamp_def }
 {
@@ -207,15 +182,12 @@ pub fn stamp_in(bytes: &[u8]) -> [u8; 16]
 {
     let mut stamp = no_stamp();
     let front = slices::cut(bytes, 0, 16);
-    let mut i = 0;
-    while i < front.len() {
-        stamp[i] = front[i];
-        i += 1;
-    }
+    stamp[..front.len()].copy_from_slice(front);
     stamp
 }
 
 // The stamp to store: the descriptor's; zeros without one.
+#[tactic(auto, unfolding(crate::specs::Descriptor::stamp_of_def))]
 pub fn stamp(attributes: u32, bytes: &[u8]) -> [u8; 16]
     ensures { result ≡ stamp_of_def attributes bytes.now }
 {
@@ -234,17 +206,11 @@ pub fn later(a: &[u8; 16], b: &[u8; 16]) -> bool
     if year != other {
         return other < year;
     }
-    let mut i = 2;
-    while i < 7 {
-        if a[i] != b[i] {
-            return b[i] < a[i];
-        }
-        i += 1;
-    }
-    false
+    a[2..7] > b[2..7]
 }
 
 // The later of two stamps, the old one if neither is later.
+#[tactic(auto, unfolding(model::specs::Change::later_of_def))]
 pub fn later_of(given: &[u8; 16], old: &[u8; 16]) -> [u8; 16]
     ensures { result ≡ later_of_def given.now old.now }
 {
@@ -255,6 +221,7 @@ pub fn later_of(given: &[u8; 16], old: &[u8; 16]) -> [u8; 16]
 }
 
 // Key names want no verdict in custom mode with presence: both are needed.
+#[tactic(auto, unfolding(model::specs::Request::in_person_def))]
 pub fn in_person(custom: bool, presence: u32) -> bool
     ensures { result ≡ in_person_def custom presence }
 {
@@ -262,6 +229,7 @@ pub fn in_person(custom: bool, presence: u32) -> bool
 }
 
 // PK wants 3 in setup and 1 in user mode; KEK none in setup, 1 in user; db, dbx, dbt none in setup, 1 or 2 in user.
+#[tactic(auto, unfolding(model::specs::Request::key_verdicts_def))]
 pub fn key_verdicts(user: bool, name: &[u8], vendor: &[u8; 16]) -> Wanted
     ensures { verdicts_of result ≡ key_verdicts_def user (keyed name.now vendor.now) }
 {
@@ -278,6 +246,7 @@ pub fn key_verdicts(user: bool, name: &[u8], vendor: &[u8; 16]) -> Wanted
 }
 
 // Other names with 0x20 want 3 if absent, else 4; without 0x20 none is wanted.
+#[tactic(auto, unfolding(model::specs::Request::other_verdicts_def))]
 pub fn other_verdicts(attributes: u32, stands: bool) -> Wanted
     ensures { verdicts_of result ≡ other_verdicts_def attributes stands }
 {
@@ -294,64 +263,44 @@ pub fn other_verdicts(attributes: u32, stands: bool) -> Wanted
 pub fn verdict_wanted(wanted: Wanted) -> bool
     ensures { result ≡ not (is_empty (verdicts_of wanted)) }
 {
-    match wanted {
-        Wanted::Free => false,
-        Wanted::One(_) => true,
-        Wanted::Either => true,
-    }
+    !matches!(wanted, Wanted::Free)
 }
 
 // Rule 9: a wanted verdict is absent.
+#[tactic(auto, unfolding(model::specs::Rules::rule9))]
 pub fn verdict_broken(wanted: Wanted, verdict: u32) -> bool
     ensures { result ≡ rule9 (verdicts_of wanted) verdict }
 {
     match wanted {
         Wanted::Free => false,
         Wanted::One(one) => verdict != one,
-        Wanted::Either => {
-            if verdict == 1 {
-                return false;
-            }
-            verdict != 2
-        }
+        Wanted::Either => verdict != 1 && verdict != 2,
     }
 }
 
 // Attributes 0, or empty data proper without append, delete.
+#[tactic(auto, unfolding(model::specs::Change::deletes))]
 pub fn deletes(attributes: u32, size: usize) -> bool
     ensures { result ≡ deletes attributes size }
 {
-    if attributes == 0 {
-        return true;
-    }
-    if size == 0 {
-        return !appends(attributes);
-    }
-    false
+    attributes == 0 || (size == 0 && !appends(attributes))
 }
 
 // An empty append changes nothing.
+#[tactic(auto, unfolding(model::specs::Change::empty_append_def))]
 pub fn empty_append(attributes: u32, size: usize) -> bool
     ensures { result ≡ empty_append_def attributes size }
 {
-    if size == 0 {
-        return appends(attributes);
-    }
-    false
+    size == 0 && appends(attributes)
 }
 
 // Equal data and attributes, neither 0x20 nor 0x40 among them; what is cheap to compare comes first.
+#[tactic(auto, unfolding(model::specs::Change::equal_to))]
 pub fn equal(attributes: u32, proper: &[u8], stored: u32, old: &[u8]) -> bool
     ensures { result ≡ equal_to attributes proper.now stored old.now }
 {
-    if attributes != stored {
-        return false;
-    }
-    if time_based(attributes) {
-        return false;
-    }
-    if appends(attributes) {
-        return false;
-    }
-    slices::equal(proper, old)
+    attributes == stored
+        && !time_based(attributes)
+        && !appends(attributes)
+        && slices::equal(proper, old)
 }
