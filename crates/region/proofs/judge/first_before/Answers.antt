@@ -1,6 +1,3 @@
--- `region::judge::first_before` meets its contract. The loop's invariant: what is met first from here up to the offset is met first before it. What is left of the
--- region falls.
--- Assumes nothing.
 use Rattle.std.proofs.Common.{sym, refl, ap, ◌∙◌, arith}
 use Rattle.model.specs.Name.{keyed}
 use Rattle.model.specs.Region.{is_entry_def}

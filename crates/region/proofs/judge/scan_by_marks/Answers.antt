@@ -1,7 +1,3 @@
--- `region::judge::scan_by_marks` meets its contract. The loop's invariant: what the whole walk tells of each entry by itself is what the walk from here on tells; of every
--- entry passed the mark is noted, and no name is doubled in the whole walk just if none from here on is, neither among themselves nor with those passed; the sought
--- name is met among them where that is told. What is left of the region falls; in the inner loop it is no more than where that began.
--- Assumes nothing.
 use Rattle.std.proofs.Common.{ℕ, ◌+◌, true, sym, ap, ◌∙◌, arith}
 use Rattle.model.specs.Walk.{walk_end_def}
 use Rattle.model.proofs.Tests.{and_split}

@@ -5,18 +5,16 @@ use Rattle.region.proofs.judge.usual_front.Goals as goal
 
 pub returns-then-front-eq30068921770 : goal.returns-then-front-eq30068921770
 returns-then-front-eq30068921770 c =
-    let k = c in
-    let s = k.args.s.now in
-    let is : k.standing_eight-front.result ≡ 0x7003F55AA = c.if-front-eq30068921770.true in
-    λ t. front-fields s (λ i. omega (arith, k.type_inv.s i)) k.standing_eight-front.result k.standing_eight-front.ensures (omega arith) (rw is)
+    let s = c.args.s.now in
+    let is : c.standing_eight-front.result ≡ 0x7003F55AA = c.if-front-eq30068921770.true in
+    λ t. front-fields s (λ i. omega (arith, c.type_inv.s i)) c.standing_eight-front.result c.standing_eight-front.ensures (omega arith) (rw is)
 
 pub returns-then-front-ne4150698 : goal.returns-then-front-ne4150698
 returns-then-front-ne4150698 c = λ e. absurd (true≢false (sym e))
 
 pub returns : goal.returns
 returns c =
-    let k = c in
-    let s = k.args.s.now in
+    let s = c.args.s.now in
     λ t.
-    front-fields s (λ i. omega (arith, k.type_inv.s i)) k.standing_eight-front.result k.standing_eight-front.ensures (omega arith)
+    front-fields s (λ i. omega (arith, c.type_inv.s i)) c.standing_eight-front.result c.standing_eight-front.ensures (omega arith)
     (sym c.plain_attributes.ensures ∙ t)

@@ -1,4 +1,3 @@
--- `region::marks::middle_words` meets its contract. The loop's invariant: with the words left the sum comes to that of all. Assumes nothing.
 use Rattle.std.proofs.Common.{◌≡◌, ℕ, suc, ◌+◌, ◌-◌, ◌*◌, ◌<◌, ◌/◌, List, length, sym, ap, ◌∙◌, arith}
 use Rattle.slices.specs.Agree.{u64_at}
 use Rattle.region.specs.Marks.{plus, words_from, middle_words_def}

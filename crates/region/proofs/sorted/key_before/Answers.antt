@@ -1,4 +1,3 @@
--- `region::sorted::key_before` meets its contract. The loop's invariant: the words left, and then the last, decide as all do. Assumes nothing.
 use Rattle.std.proofs.Common.{◌≡◌, ℕ, suc, ◌+◌, ◌-◌, ◌*◌, ◌/◌, ◌<◌, ltb, ◌≢◌, List, length, sym, ap, ◌∙◌, ap₂, arith, eq-eqb, ne_eqb}
 use Rattle.slices.specs.Agree.{u64_at}
 use Rattle.region.specs.Sorted.{words_before, key_before_def}

@@ -1,4 +1,3 @@
--- `region::sorted::place_of` meets its contract. The loop's invariant: the halvings left come to what all come to. Assumes nothing.
 use Rattle.std.proofs.Common.{◌≡◌, ℕ, suc, ◌+◌, ◌-◌, ◌/◌, ◌<◌, Bool, cond, List, length, get_or, sym, refl, ap, ◌∙◌, arith, le-leb}
 use Rattle.model.specs.declared.Layout.{Layout}
 use Rattle.region.specs.Sorted.{is_before_def, halving, place_of_def}

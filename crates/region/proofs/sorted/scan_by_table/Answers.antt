@@ -1,7 +1,3 @@
--- `region::sorted::scan_by_table` meets its contract. The loop's invariant: what the whole walk tells of each entry by itself is what the walk from here on tells; while all
--- are settled, every entry passed is at its place; no name is doubled in the whole walk just if none from here on is, neither among themselves nor with those passed.
--- What is left of the region falls.
--- Assumes nothing.
 use Rattle.std.proofs.Common.{Bool, not, ◌&&◌, sym, ap, ◌∙◌, arith}
 use Rattle.model.specs.Walk.{walk_end_def}
 use Rattle.region.proofs.Judging.{front-sound}
@@ -17,10 +13,9 @@ loop-e-init c = let a = c.args in (scan-begin a.y a.region.now, start a.y a.regi
 pub returns : goal.returns
 unfolding walk_end_def
 returns c =
-    let l = c in
-    let a = l.args in
+    let a = c.args in
     let z = at-end c.turn.ensures c.in_default.is in
-    sym (scan-right a.y a.region.now _ (l.loop-e.invariant.0 ∙ ap (scanned _ _) z.walk) (ended l.loop-e.invariant.1 z))
+    sym (scan-right a.y a.region.now _ (c.loop-e.invariant.0 ∙ ap (scanned _ _) z.walk) (ended c.loop-e.invariant.1 z))
 
 pub slice_bounds-entry_sound-count : goal.slice_bounds-entry_sound-count
 slice_bounds-entry_sound-count c = (at_entry c.turn.ensures c.in-Some.is).inside
@@ -33,34 +28,27 @@ slice_bounds-entry_sound-end c = let w = at_entry c.turn.ensures c.in-Some.is in
 
 pub returns-then-not-entry_sound : goal.returns-then-not-entry_sound
 returns-then-not-entry_sound c =
-    let t = c in
-    let l = t in
-    let a = l.args in
-    let w = at_entry t.turn.ensures t.in-Some.is in
+    let a = c.args in
+    let w = at_entry c.turn.ensures c.in-Some.is in
     let own = sym (front-sound w) ∙ sym c.entry_sound.ensures in
-    sym (scan-wrong a.y a.region.now (l.loop-e.invariant.0 ∙ scan-stop w.walk _ _ (own ∙ c.if-not-entry_sound.true)))
+    sym (scan-wrong a.y a.region.now (c.loop-e.invariant.0 ∙ scan-stop w.walk _ _ (own ∙ c.if-not-entry_sound.true)))
 
 pub returns-then-is_doubled : goal.returns-then-is_doubled
 returns-then-is_doubled c =
-    let t = c in
-    let l = t in
-    let a = l.args in
-    let w = at_entry t.turn.ensures t.in-Some.is in
-    let d = c in
+    let a = c.args in
+    let w = at_entry c.turn.ensures c.in-Some.is in
     sym (scan-doubled a.y a.region.now
-    (doubled l.loop-e.invariant.1 w (not (l.loop-e.settled && d.owns_place-settled.result)) (sym d.is_doubled.ensures ∙ c.if-is_doubled.true)))
+    (doubled c.loop-e.invariant.1 w (not (c.loop-e.settled && c.owns_place-settled.result)) (sym c.is_doubled.ensures ∙ c.if-is_doubled.true)))
 
 pub loop-e-smaller : goal.loop-e-smaller
-loop-e-smaller c = let t = c in (at_entry t.turn.ensures t.in-Some.is).less
+loop-e-smaller c = (at_entry c.turn.ensures c.in-Some.is).less
 
 pub loop-e-preserved : goal.loop-e-preserved
 loop-e-preserved c =
-    let t = c in
-    let l = t in
-    let a = l.args in
-    let w = at_entry t.turn.ensures t.in-Some.is in
+    let a = c.args in
+    let w = at_entry c.turn.ensures c.in-Some.is in
     let own = sym (front-sound w) ∙ sym c.entry_sound.ensures in (
-      l.loop-e.invariant.0 ∙ scan-next w.walk _ _ _ (own ∙ c.if-not-entry_sound.false) w.next,
-      next a.table.now l.loop-e.settled l.loop-e.invariant.1 w _ (ap (λ (b : Bool). l.loop-e.settled && b) c.owns_place-settled.ensures)
+      c.loop-e.invariant.0 ∙ scan-next w.walk _ _ _ (own ∙ c.if-not-entry_sound.false) w.next,
+      next a.table.now c.loop-e.settled c.loop-e.invariant.1 w _ (ap (λ (b : Bool). c.loop-e.settled && b) c.owns_place-settled.ensures)
           (sym c.is_doubled.ensures ∙ c.if-is_doubled.false),
     )
