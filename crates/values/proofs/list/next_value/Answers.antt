@@ -1,11 +1,8 @@
-use mathlib.Core.Path.{refl, sym, ap, ◌∙◌}
+use mathlib.Core.Path.{sym, ap, ◌∙◌}
 use Rattle.region.proofs.Turns.{at_entry, at-end}
 use Rattle.values.specs.Found.{next_of}
 use Rattle.values.proofs.Finds.{first-none, first-here, first_next, next-at}
 use Rattle.values.proofs.list.next_value.Goals as goal
-
-pub loop-entry-init : goal.loop-entry-init
-loop-entry-init c = refl
 
 pub returns : goal.returns
 returns c =

@@ -13,10 +13,3 @@ entry_size-requires c =
     let n = ap length c.name_of-name.ensures in
     let d = ap length c.data_of-data.ensures in
     omega arith
-
-pub returns : goal.returns
-returns c =
-    let n = ap length c.name_of-name.ensures in
-    let d = ap length c.data_of-data.ensures in
-    let e = c.entry_size.ensures in
-    omega arith

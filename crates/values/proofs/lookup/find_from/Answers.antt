@@ -1,10 +1,7 @@
-use mathlib.Core.Path.{refl, sym, ◌∙◌}
+use mathlib.Core.Path.{sym, ◌∙◌}
 use Rattle.region.proofs.Turns.{at_entry, at-end}
 use Rattle.values.proofs.Finds.{found_none, found_here, found-next}
 use Rattle.values.proofs.lookup.find_from.Goals as goal
-
-pub loop-entry-init : goal.loop-entry-init
-loop-entry-init c = refl
 
 pub returns : goal.returns
 returns c =

@@ -1,28 +1,16 @@
 use native.Mathlib.Omega.{arith}
-use mathlib.Core.Path.{refl, ◌∙◌}
+use mathlib.Core.Path.{◌∙◌}
 use Rattle.model.specs.Name.{keyed}
 use Rattle.model.specs.Region.{is_entry_def}
 use Rattle.region.proofs.Turns.{at_entry}
 use Rattle.values.proofs.Finds.{entry-unlike, first_next}
 use Rattle.values.proofs.lookup.like_from.Goals as goal
 
-pub loop-next-init : goal.loop-next-init
-loop-next-init c = (λ s v. refl, omega arith)
-
-pub returns : goal.returns
-returns c = c.loop-next.invariant
-
 pub slice_bounds-may_be-count : goal.slice_bounds-may_be-count
 slice_bounds-may_be-count c = (at_entry c.turn.ensures c.in-Some.is).inside
 
 pub slice_bounds-may_be-start : goal.slice_bounds-may_be-start
 slice_bounds-may_be-start c = let w = at_entry c.turn.ensures c.in-Some.is in omega arith
-
-pub slice_bounds-may_be-end : goal.slice_bounds-may_be-end
-slice_bounds-may_be-end c = let w = at_entry c.turn.ensures c.in-Some.is in omega arith
-
-pub returns-then-may_be : goal.returns-then-may_be
-returns-then-may_be c = c.loop-next.invariant
 
 pub loop-next-smaller : goal.loop-next-smaller
 loop-next-smaller c = (at_entry c.turn.ensures c.in-Some.is).less
