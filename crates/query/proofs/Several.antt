@@ -1,14 +1,14 @@
 -- Many names sought in one walk: the table leads to every name that an entry may have, since equal names with equal GUIDs have equal marks; and with one entry more a
 -- name is met where it was, or there.
 -- Assumes nothing.
-use Prim.Native.Nat.{ℕ, ◌+◌, ◌-◌, ◌*◌, ◌≤◌, ◌<◌}
+use Prim.Native.Nat.{ℕ, zero, suc, ◌+◌, ◌-◌, ◌*◌, ◌≤◌, ◌<◌}
 use native.Mathlib.Omega.{arith}
 use mathlib.Core.Path.{◌≡◌, refl, sym, ap, ap₂, ◌∙◌}
 use mathlib.Core.Bool.{Bool, true, false, cond, ◌&&◌, ◌||◌, or-true, and-true, and-false, true≢false}
 use mathlib.Core.List.{List, [], ◌∷◌}
 use Rattle.std.specs.Prelude.{Option, Some, None}
 use Rattle.std.specs.Option.{option_or}
-use lib.ListN.{length, get_or, set, get_or-replicate}
+use lib.ListN.{drop, length-take, length-drop, length, get_or, set, get_or-replicate}
 use lib.Seq.{get_or-set_same, get_or-set_other}
 use lib.Dec.{eqb, leb, ltb}
 use borrow.Author.Tests.{eqb-true, eqb-false, eq-eqb, ne_eqb, le-leb, lt-leb, lt-ltb, le-ltb, leb-true, ltb-true, ltb-false}
@@ -41,17 +41,18 @@ module _ (keys : List ℕ) (k size : ℕ) where
   unfolding asked_bytes
   asked-long h = sym (rw (lt-leb size 144 h))
 
-  pub asked-whole : size ≤ 144 → {place : List ℕ} → place ≡ part (144 * k) size keys → length place ≡ size → place ≡ asked_bytes keys k size
+  pub asked-whole : size ≤ 144 → 144 * k + size ≤ length keys → {place : List ℕ} → place ≡ part (144 * k) size keys → place ≡ asked_bytes keys k size
   unfolding asked_bytes
-  asked-whole h {place} p l =
-      let n : length (part (144 * k) size keys) ≡ size = ap length (sym p) ∙ l in
+  asked-whole h l {place} p =
+      let n : length (part (144 * k) size keys) ≡ size = simp (length-take, length-drop) (omega arith) in
       p ∙ sym (rw (le-leb size 144 h, eq-eqb (length (part (144 * k) size keys)) size n))
 
-  pub asked-short : {place : List ℕ} → place ≡ part (144 * k) size keys → (length place ≡ size → ⊥) → [] ≡ asked_bytes keys k size
-  unfolding asked_bytes
-  asked-short {place} p l =
-      let n : eqb (length (part (144 * k) size keys)) size ≡ false = ne_eqb (length (part (144 * k) size keys)) size (λ e. l (ap length p ∙ e)) in
-      sym (rw (n, and-false (leb size 144)))
+pub asked-past : (keys : List ℕ) (k size : ℕ) → length keys < 144 * k + size → [] ≡ asked_bytes keys k size
+unfolding asked_bytes
+asked-past keys k zero h = refl
+asked-past keys k (suc size) h =
+    let n : length (part (144 * k) (suc size) keys) ≡ suc size → ⊥ = λ e. omega (arith, length-take (suc size) (drop (144 * k) keys), length-drop (144 * k) keys, e) in
+    sym (rw (ne_eqb (length (part (144 * k) (suc size) keys)) (suc size) n, and-false (leb (suc size) 144)))
 
 -- ---- the table
 

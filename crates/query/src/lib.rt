@@ -10,7 +10,6 @@ ghost use Rattle.region.specs.Walk.{entry_at};
 ghost use Rattle.region.specs.Met.{met_of};
 ghost use Rattle.query.specs.Query.{entry_in, visible, is_seen_def, is_sought_def, is_shown_def, is_passed_def, entry_to_get, entry_to_name, standing_at};
 
-use layout::Entry;
 use model::Layout;
 use region::{Met, Placed, judge, walk};
 use values::list;
@@ -25,19 +24,31 @@ fn is_visible(runtime: bool, attributes: u32) -> bool
 }
 
 // Whether an entry is a value that is seen.
-fn is_seen(region: &[u8], at: usize, e: Entry, runtime: bool) -> bool
-    ensures { result ≡ is_seen_def runtime (entries region.now) (entry_at region.now at e) }
+fn is_seen(region: &[u8], placed: Placed, runtime: bool) -> bool
+    ensures { result ≡ is_seen_def runtime (entries region.now) (entry_at region.now placed.at placed.entry) }
 {
-    is_visible(runtime, e.attributes) && list::is_value(Layout::AUTHENTICATED, region, at, e)
+    let Placed { at, entry } = placed;
+    is_visible(runtime, entry.attributes)
+        && list::is_value(Layout::AUTHENTICATED, region, at, entry)
 }
 
 // Whether an entry is a value that is seen, of this name and GUID; what is cheap to look at comes first.
-fn is_sought(region: &[u8], at: usize, e: Entry, runtime: bool, name: &[u8], vendor: &[u8]) -> bool
-    ensures { result ≡ is_sought_def runtime (keyed name.now vendor.now) (entries region.now) (entry_at region.now at e) }
+fn is_sought(region: &[u8], placed: Placed, runtime: bool, name: &[u8], vendor: &[u8]) -> bool
+    ensures { result ≡ is_sought_def runtime (keyed name.now vendor.now) (entries region.now) (entry_at region.now placed.at placed.entry) }
 {
-    judge::is_live(e.state)
-        && walk::is_entry(Layout::AUTHENTICATED, region, at, e, e.state, name, vendor)
-        && is_seen(region, at, e, runtime)
+    let Placed { at, entry } = placed;
+    let state = entry.state;
+    judge::is_live(state)
+        && walk::is_entry(
+            Layout::AUTHENTICATED,
+            region,
+            at,
+            entry,
+            state,
+            name,
+            vendor,
+        )
+        && is_seen(region, placed, runtime)
 }
 
 // Where the entry begins that holds a name's value: its 3F entry, else its 3E entry.
@@ -60,8 +71,9 @@ fn walk_to_get(
 {
     let mut at = standing(met)?;
     while let Some((entry, next)) = walk::turn(Layout::AUTHENTICATED, region, at) {
-        if is_sought(region, at, entry, runtime, name, vendor) {
-            return Some(Placed { at, entry });
+        let placed = Placed { at, entry };
+        if is_sought(region, placed, runtime, name, vendor) {
+            return Some(placed);
         }
         at = next;
     }
@@ -95,18 +107,18 @@ pub fn is_empty_name(name: &[u8]) -> bool
 }
 
 // Whether an entry is a value that is seen, and a side's own.
-fn is_shown(region: &[u8], at: usize, e: Entry, runtime: bool, guid: &[u8; 16], modem: bool) -> bool
-    ensures { result ≡ is_shown_def guid.now modem runtime (entries region.now) (entry_at region.now at e) }
+fn is_shown(region: &[u8], placed: Placed, runtime: bool, guid: &[u8; 16], modem: bool) -> bool
+    ensures { result ≡ is_shown_def guid.now modem runtime (entries region.now) (entry_at region.now placed.at placed.entry) }
 {
-    is_seen(region, at, e, runtime)
-        && list::is_own(Layout::AUTHENTICATED, region, at, e, guid, modem)
+    let Placed { at, entry } = placed;
+    is_seen(region, placed, runtime)
+        && list::is_own(Layout::AUTHENTICATED, region, at, entry, guid, modem)
 }
 
 // And of this name and GUID.
 fn is_passed(
     region: &[u8],
-    at: usize,
-    e: Entry,
+    placed: Placed,
     runtime: bool,
     guid: &[u8; 16],
     modem: bool,
@@ -114,10 +126,11 @@ fn is_passed(
     vendor: &[u8],
 ) -> bool
     ensures { result ≡ is_passed_def guid.now modem runtime (keyed name.now vendor.now)
-        (entries region.now) (entry_at region.now at e) }
+        (entries region.now) (entry_at region.now placed.at placed.entry) }
 {
-    is_sought(region, at, e, runtime, name, vendor)
-        && list::is_own(Layout::AUTHENTICATED, region, at, e, guid, modem)
+    let Placed { at, entry } = placed;
+    is_sought(region, placed, runtime, name, vendor)
+        && list::is_own(Layout::AUTHENTICATED, region, at, entry, guid, modem)
 }
 
 // Where the walk for the next name begins: at the name, or behind the empty name at the first entry.
@@ -148,12 +161,13 @@ pub fn to_name(
     let mut passed = is_empty_name(name);
     let mut here = begin(passed, met)?;
     while let Some((entry, next)) = walk::turn(Layout::AUTHENTICATED, region, here) {
+        let placed = Placed { at: here, entry };
         if passed {
-            if is_shown(region, here, entry, runtime, guid, modem) {
-                return Some(Placed { at: here, entry });
+            if is_shown(region, placed, runtime, guid, modem) {
+                return Some(placed);
             }
         } else {
-            passed = is_passed(region, here, entry, runtime, guid, modem, name, vendor);
+            passed = is_passed(region, placed, runtime, guid, modem, name, vendor);
         }
         here = next;
     }

@@ -8,9 +8,8 @@ ghost use Rattle.region.specs.Met.{is_sought_def, key_from};
 ghost use Rattle.model.specs.Beside.{asked_bytes, asked_at};
 ghost use Rattle.query.specs.Many.{key_bytes, leads, Indexed, within, noted_at, none_met_def, met_as, NotedIn, Noted, AllMet};
 
-use layout::Entry;
 use model::Layout;
-use region::{Met, judge, marks, walk};
+use region::{Met, Placed, judge, marks, walk};
 use std::ops::Range;
 
 // How many bytes a place has.
@@ -46,11 +45,10 @@ pub fn asked(keys: &[u8], k: usize, size: u32) -> &[u8]
     if PLACE < n {
         return &keys[..0];
     }
-    let place = slices::cut(keys, PLACE * k, n);
-    if place.len() == n {
-        return place;
+    match keys.get(PLACE * k..PLACE * k + n) {
+        Some(place) => place,
+        None => &keys[..0],
     }
-    &keys[..0]
 }
 
 // What the table tells of a mark's place once a name is there: its number and one more, or that there are several.
@@ -106,13 +104,14 @@ fn with(found: Offsets, state: u8, at: u16) -> Offsets
 }
 
 // Whether a live entry has the name and GUID of a place.
-fn is_asked(region: &[u8], at: usize, e: Entry, keys: &[u8], k: usize, size: u32) -> bool
-    requires { (k < 64) × (live_state_def e.state ≡ true) × (at + 60 ≤ length region.now) }
-    ensures { result ≡ same_key_def (entry_key (entry_at region.now at e)) (asked_at keys.now k size) }
+fn is_asked(region: &[u8], placed: Placed, keys: &[u8], k: usize, size: u32) -> bool
+    requires { (k < 64) × (live_state_def placed.entry.state ≡ true) × (placed.at + 60 ≤ length region.now) }
+    ensures { result ≡ same_key_def (entry_key (entry_at region.now placed.at placed.entry)) (asked_at keys.now k size) }
 {
     let key = asked(keys, k, size);
+    let rest = slices::from(region, placed.at);
     slices::equal(
-        layout::key_of(Layout::AUTHENTICATED, slices::from(region, at), e),
+        layout::key_of(Layout::AUTHENTICATED, rest, placed.entry),
         key,
     )
 }
@@ -120,20 +119,19 @@ fn is_asked(region: &[u8], at: usize, e: Entry, keys: &[u8], k: usize, size: u32
 // A live entry noted for those of some names that are its own.
 fn note(
     region: &[u8],
-    at: usize,
-    e: Entry,
+    placed: Placed,
     keys: &[u8],
     sizes: &[u32],
     names: Range<usize>,
     found: &mut [Offsets],
 )
-    requires { (at < 65536) × (names.start ≤ names.end) × (names.end ≤ length sizes.now) × (length sizes.now ≤ 64) × (length found.old ≡ 64)
-        × (live_state_def e.state ≡ true) × (at + 60 ≤ length region.now) }
-    ensures { NotedIn keys.now sizes.now region.now at e names.start names.end found.old found.new }
+    requires { (placed.at < 65536) × (names.start ≤ names.end) × (names.end ≤ length sizes.now) × (length sizes.now ≤ 64) × (length found.old ≡ 64)
+        × (live_state_def placed.entry.state ≡ true) × (placed.at + 60 ≤ length region.now) }
+    ensures { NotedIn keys.now sizes.now region.now placed.at placed.entry names.start names.end found.old found.new }
 {
     for k in names.start..names.end {
-        if is_asked(region, at, e, keys, k, sizes[k]) {
-            found[k] = with(found[k], e.state, at as u16);
+        if is_asked(region, placed, keys, k, sizes[k]) {
+            found[k] = with(found[k], placed.entry.state, placed.at as u16);
         }
     }
 }
@@ -141,19 +139,18 @@ fn note(
 // An entry noted for all names, of which the table leads to those that it may have.
 fn note_entry(
     region: &[u8],
-    at: usize,
-    e: Entry,
+    placed: Placed,
     told: u8,
     keys: &[u8],
     sizes: &[u32],
     found: &mut [Offsets],
 )
-    requires { (at < 65536) × (length sizes.now ≤ 64) × (length found.old ≡ 64) × (at + 60 ≤ length region.now)
-        × ((k : ℕ) → k < length sizes.now → is_sought_def (key_from (key_bytes keys.now sizes.now k)) (entry_at region.now at e) ≡ true → leads told k ≡ true) }
-    ensures { Noted keys.now sizes.now region.now at e found.old found.new }
+    requires { (placed.at < 65536) × (length sizes.now ≤ 64) × (length found.old ≡ 64) × (placed.at + 60 ≤ length region.now)
+        × ((k : ℕ) → k < length sizes.now → is_sought_def (key_from (key_bytes keys.now sizes.now k)) (entry_at region.now placed.at placed.entry) ≡ true → leads told k ≡ true) }
+    ensures { Noted keys.now sizes.now region.now placed.at placed.entry found.old found.new }
 {
-    if judge::is_live(e.state) {
-        note(region, at, e, keys, sizes, names(told, sizes.len()), found);
+    if judge::is_live(placed.entry.state) {
+        note(region, placed, keys, sizes, names(told, sizes.len()), found);
     }
 }
 
@@ -180,7 +177,7 @@ pub fn find(region: &[u8], keys: &[u8], sizes: &[u32], found: &mut [Offsets])
         let mark = marks::mark_of(Layout::AUTHENTICATED, &region[at..], entry);
         let told = table[mark.place];
         if told != 0 {
-            note_entry(region, at, entry, told, keys, sizes, found);
+            note_entry(region, Placed { at, entry }, told, keys, sizes, found);
         }
         at = next;
     }

@@ -18,7 +18,7 @@ returns c =
     let key = asked_bytes a.keys.now a.k a.size in
     c.equal.ensures
     ∙ ap₂ same
-    (c.key_of.ensures ∙ ap (λ (x : List ℕ). (header_fields_in authenticated x).vendor ++ name_in authenticated x a.e) c.from.ensures)
+    (c.key_of.ensures ∙ ap (λ (x : List ℕ). (header_fields_in authenticated x).vendor ++ name_in authenticated x a.placed.entry) c.from-rest.ensures)
     c.asked-key.ensures
-    ∙ sought-named authenticated r a.at a.e key c.requires.2 c.requires.1
-    ∙ sought-entry r a.at a.e key c.requires.1
+    ∙ sought-named authenticated r a.placed.at a.placed.entry key c.requires.2 c.requires.1
+    ∙ sought-entry r a.placed.at a.placed.entry key c.requires.1

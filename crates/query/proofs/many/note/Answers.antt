@@ -10,7 +10,7 @@ use Rattle.query.proofs.many.note.Goals.{then-is_asked, else-is_asked}
 pub loop-k-init : goal.loop-k-init
 loop-k-init c =
     let a = c.args in
-    (c.requires.4, noted-none a.keys.now a.sizes.now a.region.now a.at a.e a.names.start a.found.now)
+    (c.requires.4, noted-none a.keys.now a.sizes.now a.region.now a.placed.at a.placed.entry a.names.start a.found.now)
 
 pub loop-k-preserved : goal.loop-k-preserved
 loop-k-preserved c =
@@ -18,15 +18,15 @@ loop-k-preserved c =
     let k = c.loop-k.k in
     elim c.if-is_asked.branch [
       | then-is_asked w ↦
-          let named = asked-named a.keys.now a.sizes.now a.region.now a.at a.e k (sym c.is_asked.ensures ∙ w.if-is_asked.true) in
+          let named = asked-named a.keys.now a.sizes.now a.region.now a.placed.at a.placed.entry k (sym c.is_asked.ensures ∙ w.if-is_asked.true) in
           rw w.found-is (
             length-set c.loop-k.found k w.with.result ∙ c.loop-k.invariant.0,
-            noted-next a.keys.now a.sizes.now a.region.now a.at a.e c.loop-k.invariant.1 (omega arith) (omega arith)
-                (w.with.ensures ∙ ap₂ (λ (t u : Bool). noted_at t u a.at (get_or c.loop-k.found k unmet)) (sym (named 0x3F)) (sym (named 0x3E))),
+            noted-next a.keys.now a.sizes.now a.region.now a.placed.at a.placed.entry c.loop-k.invariant.1 (omega arith) (omega arith)
+                (w.with.ensures ∙ ap₂ (λ (t u : Bool). noted_at t u a.placed.at (get_or c.loop-k.found k unmet)) (sym (named 0x3F)) (sym (named 0x3E))),
           )
       | else-is_asked w ↦
-          let other = asked-other a.keys.now a.sizes.now a.region.now a.at a.e k (sym c.is_asked.ensures ∙ w.if-is_asked.false) in
-          rw w.found-is (c.loop-k.invariant.0, noted-pass a.keys.now a.sizes.now a.region.now a.at a.e c.loop-k.invariant.1 (omega arith) (other 0x3F) (other 0x3E))
+          let other = asked-other a.keys.now a.sizes.now a.region.now a.placed.at a.placed.entry k (sym c.is_asked.ensures ∙ w.if-is_asked.false) in
+          rw w.found-is (c.loop-k.invariant.0, noted-pass a.keys.now a.sizes.now a.region.now a.placed.at a.placed.entry c.loop-k.invariant.1 (omega arith) (other 0x3F) (other 0x3E))
     ]
 
 pub returns : goal.returns

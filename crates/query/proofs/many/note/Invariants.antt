@@ -5,4 +5,4 @@ use Rattle.query.specs.Many.{NotedIn}
 use Rattle.query.proofs.many.note.Given as goal
 
 abbrev pub invariant-loop-k : goal.invariant-loop-k
-invariant-loop-k l = (length l.found ≡ 64) × NotedIn l.keys l.sizes l.region l.at l.e l.fn.names.start l.k l.initial.found l.found
+invariant-loop-k l = (length l.found ≡ 64) × NotedIn l.keys l.sizes l.region l.placed.at l.placed.entry l.fn.names.start l.k l.initial.found l.found

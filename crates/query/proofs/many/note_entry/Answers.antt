@@ -12,9 +12,9 @@ note-requires c =
 pub returns-then-is_live : goal.returns-then-is_live
 returns-then-is_live c =
     let a = c.args in
-    noted-all a.keys.now a.sizes.now a.region.now a.at a.e _ _ a.told c.requires.4 c.names.ensures.2 c.note.ensures
+    noted-all a.keys.now a.sizes.now a.region.now a.placed.at a.placed.entry _ _ a.told c.requires.4 c.names.ensures.2 c.note.ensures
 
 pub returns-else-is_live : goal.returns-else-is_live
 returns-else-is_live c =
     let a = c.args in
-    noted_other a.keys.now a.sizes.now a.region.now a.at a.e (sym c.is_live.ensures ∙ c.if-is_live.false) a.found.now
+    noted_other a.keys.now a.sizes.now a.region.now a.placed.at a.placed.entry (sym c.is_live.ensures ∙ c.if-is_live.false) a.found.now
