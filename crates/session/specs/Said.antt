@@ -1,5 +1,5 @@
 -- What a session says to a call, by its parts.
-use Rattle.std.specs.Prelude.{ℕ, Bool, false, not, cond, ◌&&◌, List, [], ◌∷◌, eqb}
+use Rattle.std.specs.Prelude.{ℕ, Bool, false, not, cond, ◌&&◌, List, [], ◌∷◌, eqb, Result, Ok, Err}
 use Rattle.std.proofs.Math.Option.{Option}
 use Rattle.model.specs.declared.Tenant.{Tenant}
 use Rattle.model.specs.declared.Terms.{Terms}
@@ -10,7 +10,6 @@ use Rattle.model.specs.Lists.{on_some}
 use Rattle.model.specs.Name.{Key}
 use Rattle.model.specs.Session.{counted_phase, counted_reserve, is_yes}
 use Rattle.model.specs.Rules.{first_broken, rule3, rule22}
-use Rattle.model.specs.Answers.{Outcome, done, refused, rule_number}
 use Rattle.session.specs.Places.{held_from, full}
 
 -- rule 6, by the phase and the lock list: how many places are in use, the sizes of their names, and their bytes
@@ -51,7 +50,7 @@ terms_with t barred k = record {
 unfoldable pub view_by : Bool → ℕ → List ℕ → View
 view_by modem phase vendor = record { runtime = eqb (counted_phase phase) 2; modem = modem; vendor = vendor }
 
--- to a side's lock, by the phase, the lock list and the modem's GUID: the first rule that it breaks, what it answers, and whether the name enters the list
+-- to a side's lock, by the phase, the lock list and the modem's GUID: the first rule that it breaks
 unfoldable pub lock_broken_by : Bool → ℕ → ℕ → List ℕ → List ℕ → List ℕ → Key → Option Rule
 lock_broken_by modem phase used sizes locks guid k =
     first_broken
@@ -61,8 +60,7 @@ lock_broken_by modem phase used sizes locks guid k =
     ∷ (LockSpace, full guid modem sizes locks used && not (held_from sizes locks used k 0))
     ∷ [])
 
-unfoldable pub lock_outcome_by : Bool → ℕ → ℕ → List ℕ → List ℕ → List ℕ → Key → Outcome
-lock_outcome_by modem phase used sizes locks guid k = on_some (lock_broken_by modem phase used sizes locks guid k) (λ rule. refused (rule_number rule)) (done 0)
-
-unfoldable pub lock_enters : Bool → ℕ → ℕ → List ℕ → List ℕ → List ℕ → Key → Bool
-lock_enters modem phase used sizes locks guid k = on_some (lock_broken_by modem phase used sizes locks guid k) (λ rule. false) (not (held_from sizes locks used k 0))
+-- what it comes to: that rule, or whether the name enters the list
+unfoldable pub lock_judged : Bool → ℕ → ℕ → List ℕ → List ℕ → List ℕ → Key → Result Bool Rule
+lock_judged modem phase used sizes locks guid k =
+    on_some (lock_broken_by modem phase used sizes locks guid k) (λ rule. Err rule) (Ok (not (held_from sizes locks used k 0)))

@@ -8,11 +8,11 @@ ghost use Rattle.model.specs.Session.{is_yes, counted_reserve, place_bytes, fres
 ghost use Rattle.model.specs.Rules.{terms_of, terms_for_def, view_of};
 ghost use Rattle.model.specs.Answers.{answer_of, lock_outcome, lock_session};
 ghost use Rattle.model.specs.Lent.{session_of};
-ghost use Rattle.session.specs.Said.{barred_by, lock_outcome_by, lock_enters};
+ghost use Rattle.session.specs.Said.{barred_by, lock_judged};
 ghost use Rattle.session.specs.Written.{number_bytes, enlisted};
 
-use crate::{Locks, Upshot};
-use model::{Answer, Tenant, Terms, View};
+use crate::Locks;
+use model::{Answer, Rule, Tenant, Terms, View};
 
 // The bytes of a session, and the offsets of its fields: those of the modem are in the midst of what a start-up is given.
 pub const SESSION: usize = 9332;
@@ -67,19 +67,6 @@ fn sizes(s: &[u8]) -> [u32; 16]
     ]
 }
 
-fn count_of(s: &[u8]) -> usize
-    ensures { result ≡ length s.now }
-{
-    s.len()
-}
-
-// What a session's type tells: its length.
-fn long(s: &[u8; SESSION])
-    ensures { length s.now ≡ 9332 }
-{
-    count_of(s);
-}
-
 // Rule 6, of a name.
 fn is_barred(s: &[u8], name: &[u8], vendor: &[u8; 16]) -> bool
     ensures { result ≡ barred_by (u32_at s.now 0) (u32_at s.now 6960) (numbers_at s.now 6964 16) (part 7028 2304 s.now)
@@ -120,9 +107,8 @@ pub fn places(s: &[u8]) -> &[u8]
 fn guid(s: &[u8; SESSION]) -> [u8; 16]
     ensures { result ≡ part 28 16 s.now }
 {
-    long(s);
     let mut guid = [0; 16];
-    output::put_bytes(&mut guid, 0, slices::cut(s, MODEM_VENDOR, 16));
+    guid.copy_from_slice(slices::cut(s, MODEM_VENDOR, 16));
     guid
 }
 
@@ -204,7 +190,7 @@ fn put_number(s: &mut [u8; SESSION], at: usize, n: usize)
 fn keep_flag(s: &mut [u8; SESSION])
     ensures { s.new ≡ sets s.old 4 (number_bytes (cond (is_yes (u32_at s.old 4)) 1 0)) }
 {
-    let yes = crate::one(layout::u32_at(s, CUSTOM) != 0);
+    let yes = usize::from(layout::u32_at(s, CUSTOM) != 0);
     put_number(s, CUSTOM, yes);
 }
 
@@ -220,7 +206,6 @@ fn keep_reserve(s: &mut [u8; SESSION], at: usize)
 pub fn renew(s: &mut [u8; SESSION])
     ensures { session_of s.new ≡ fresh_session (session_of s.old).setup }
 {
-    long(s);
     put_number(s, PHASE, 0);
     keep_flag(s);
     keep_reserve(s, RESERVE);
@@ -229,11 +214,9 @@ pub fn renew(s: &mut [u8; SESSION])
 }
 
 // What a side's lock comes to.
-fn comes_to(s: &[u8; SESSION], modem: bool, name: &[u8], vendor: &[u8; 16]) -> Upshot
-    ensures { (answer_of result.answer ≡ lock_outcome_by modem (u32_at s.now 0) (u32_at s.now 6960) (numbers_at s.now 6964 16)
-        (part 7028 2304 s.now) (part 28 16 s.now) (keyed name.now vendor.now))
-        × (result.enters ≡ lock_enters modem (u32_at s.now 0) (u32_at s.now 6960) (numbers_at s.now 6964 16)
-        (part 7028 2304 s.now) (part 28 16 s.now) (keyed name.now vendor.now)) }
+fn comes_to(s: &[u8; SESSION], modem: bool, name: &[u8], vendor: &[u8; 16]) -> Result<bool, Rule>
+    ensures { result ≡ lock_judged modem (u32_at s.now 0) (u32_at s.now 6960) (numbers_at s.now 6964 16)
+        (part 7028 2304 s.now) (part 28 16 s.now) (keyed name.now vendor.now) }
 {
     let guid = guid(s);
     let sizes = sizes(s);
@@ -243,11 +226,10 @@ fn comes_to(s: &[u8; SESSION], modem: bool, name: &[u8], vendor: &[u8; 16]) -> U
     crate::judged(modem, phase, used, sizes, locks, &guid, name, vendor)
 }
 
-// A name in a place of the lock list: the name, zeros up to 128 bytes, the GUID. What the GUID's type tells is its length.
+// A name in a place of the lock list: the name, zeros up to 128 bytes, the GUID.
 fn put_place(s: &mut [u8; SESSION], at: usize, name: &[u8], vendor: &[u8; 16])
     requires { (at < 9332) × (length name.now ≤ 128) }
-    ensures { (s.new ≡ sets s.old at (place_bytes (keyed name.now vendor.now)))
-        × (length vendor.now ≡ 16) }
+    ensures { s.new ≡ sets s.old at (place_bytes (keyed name.now vendor.now)) }
 {
     let next = output::put_bytes(s, at, name);
     let next = output::put_fill(s, next, 0, slices::LONGEST_NAME - name.len());
@@ -257,8 +239,7 @@ fn put_place(s: &mut [u8; SESSION], at: usize, name: &[u8], vendor: &[u8; 16])
 // One more lock: all bytes of the next place, its size and the count.
 fn enlist(s: &mut [u8; SESSION], place: usize, name: &[u8], vendor: &[u8; 16])
     requires { (place < 16) × (length name.now ≤ 128) }
-    ensures { (s.new ≡ enlisted s.old place (keyed name.now vendor.now))
-        × (length vendor.now ≡ 16) }
+    ensures { s.new ≡ enlisted s.old place (keyed name.now vendor.now) }
 {
     put_place(s, LOCKS + 144 * place, name, vendor);
     put_number(s, SIZES + 4 * place, name.len());
@@ -270,12 +251,14 @@ pub fn lock(s: &mut [u8; SESSION], modem: bool, name: &[u8], vendor: &[u8; 16]) 
     ensures { (answer_of result ≡ lock_outcome modem (session_of s.old) (keyed name.now vendor.now))
         × (session_of s.new ≡ lock_session modem (session_of s.old) (keyed name.now vendor.now)) }
 {
-    long(s);
     let told = comes_to(s, modem, name, vendor);
-    if !told.enters {
-        return told.answer;
+    let enters = match told {
+        Ok(enters) => enters,
+        Err(rule) => return Answer::Refused(rule),
+    };
+    if enters {
+        let place = layout::u32_at(s, COUNT) as usize;
+        enlist(s, place, name, vendor);
     }
-    let place = layout::u32_at(s, COUNT) as usize;
-    enlist(s, place, name, vendor);
-    told.answer
+    Answer::Done(0)
 }

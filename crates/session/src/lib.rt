@@ -7,7 +7,7 @@ ghost use Rattle.model.specs.Session.{counted_phase, counted_reserve, is_modem_d
 ghost use Rattle.model.specs.Answers.{answer_of, lock_outcome, lock_session};
 ghost use Rattle.model.specs.Beside.{one_more_lock};
 ghost use Rattle.session.specs.Places.{holds, held_from, sides, count_from, full};
-ghost use Rattle.session.specs.Said.{barred_by, terms_by, terms_with, view_by, lock_outcome_by, lock_enters};
+ghost use Rattle.session.specs.Said.{barred_by, terms_by, terms_with, view_by, lock_judged};
 
 use layout::fixed;
 use model::{Answer, Listed, Rule, Session, Tenant, Terms, View};
@@ -42,10 +42,7 @@ fn reserved(phase: u32, reserve: u32) -> u32
     if phase < 2 {
         return 0;
     }
-    if model::LARGEST_RESERVE < reserve {
-        return model::LARGEST_RESERVE;
-    }
-    reserve
+    reserve.min(model::LARGEST_RESERVE)
 }
 
 // The phase and a lock list, but for its bytes: how many places are in use, and the sizes of their names.
@@ -78,15 +75,10 @@ fn is_locked(used: u32, sizes: [u32; 16], locks: &[u8], name: &[u8], vendor: &[u
     ensures { result ≡ held_from sizes locks.now used (keyed name.now vendor.now) 0 }
 {
     let count = used as usize;
-    let mut i = 0;
-    while i < 16 {
-        if count <= i {
-            return false;
-        }
+    for i in 0..count.min(16) {
         if is_place(locks, i, sizes[i] as usize, name, vendor) {
             return true;
         }
-        i += 1;
     }
     false
 }
@@ -122,29 +114,14 @@ fn is_sides(guid: &[u8; 16], modem: bool, locks: &[u8], place: usize, size: usiz
     fixed::is_own(guid, modem, name, vendor)
 }
 
-// 1 for yes, 0 for no.
-fn one(b: bool) -> usize
-    ensures { (result ≡ cond b 1 0) × (result ≤ 1) }
-{
-    if b {
-        return 1;
-    }
-    0
-}
-
 // How many places in use hold names of a side. A count above 16 is 16.
 fn locks_of(guid: &[u8; 16], modem: bool, used: u32, sizes: [u32; 16], locks: &[u8]) -> usize
     ensures { result ≡ count_from guid.now modem sizes locks.now used 0 }
 {
     let most = used as usize;
     let mut n = 0;
-    let mut place = 0;
-    while place < 16 {
-        if most <= place {
-            return n;
-        }
-        n += one(is_sides(guid, modem, locks, place, sizes[place] as usize));
-        place += 1;
+    for place in 0..most.min(16) {
+        n += usize::from(is_sides(guid, modem, locks, place, sizes[place] as usize));
     }
     n
 }
@@ -153,10 +130,7 @@ fn locks_of(guid: &[u8; 16], modem: bool, used: u32, sizes: [u32; 16], locks: &[
 fn is_full(guid: &[u8; 16], modem: bool, used: u32, sizes: [u32; 16], locks: &[u8]) -> bool
     ensures { result ≡ full guid.now modem sizes locks.now used }
 {
-    if 16 <= used {
-        return true;
-    }
-    8 <= locks_of(guid, modem, used, sizes, locks)
+    16 <= used || 8 <= locks_of(guid, modem, used, sizes, locks)
 }
 
 // Of a number for each side, a side's own.
@@ -202,11 +176,11 @@ pub fn terms_for(
 pub fn terms(t: Terms, barred: bool, name: &[u8], vendor: &[u8; 16]) -> Terms
     ensures { result ≡ terms_with t barred (keyed name.now vendor.now) }
 {
-    let guid = t.vendor;
-    let mut told = t;
-    told.foreign = !fixed::is_own(&guid, t.modem, name, vendor);
-    told.barred = barred;
-    told
+    Terms {
+        foreign: !fixed::is_own(&t.vendor, t.modem, name, vendor),
+        barred,
+        ..t
+    }
 }
 
 // What a session says to a side's get and next-name: the GUID is the modem's.
@@ -220,14 +194,8 @@ pub fn view(modem: bool, phase: u32, vendor: [u8; 16]) -> View
     }
 }
 
-// What a lock comes to: its answer, and whether the name enters the list.
-#[derive(Clone, Copy)]
-pub struct Upshot {
-    pub answer: Answer,
-    pub enters: bool,
-}
-
-// What a side's lock comes to: rules 3, 22, 15 and 16 in this order; a name already listed is accepted, and does not enter again.
+// What a side's lock comes to: the first rule that it breaks, of 3, 22, 15 and 16 in this order, or whether the name enters the list: one already listed is accepted, and does
+// not enter again.
 fn judged(
     modem: bool,
     phase: u32,
@@ -237,52 +205,32 @@ fn judged(
     guid: &[u8; 16],
     name: &[u8],
     vendor: &[u8; 16],
-) -> Upshot
-    ensures { (answer_of result.answer ≡ lock_outcome_by modem phase used sizes locks.now guid.now (keyed name.now vendor.now))
-        × (result.enters ≡ lock_enters modem phase used sizes locks.now guid.now (keyed name.now vendor.now)) }
+) -> Result<bool, Rule>
+    ensures { result ≡ lock_judged modem phase used sizes locks.now guid.now (keyed name.now vendor.now) }
 {
     let named = slices::is_named(name);
     let boot = in_boot(phase);
     if !named {
-        return Upshot {
-            answer: Answer::Refused(Rule::Name),
-            enters: false,
-        };
+        return Err(Rule::Name);
     }
     if !fixed::is_own(guid, modem, name, vendor) {
-        return Upshot {
-            answer: Answer::Refused(Rule::Side),
-            enters: false,
-        };
+        return Err(Rule::Side);
     }
     if !boot {
-        return Upshot {
-            answer: Answer::Refused(Rule::LockPhase),
-            enters: false,
-        };
+        return Err(Rule::LockPhase);
     }
     if is_locked(used, sizes, locks, name, vendor) {
-        return Upshot {
-            answer: Answer::Done(0),
-            enters: false,
-        };
+        return Ok(false);
     }
     if is_full(guid, modem, used, sizes, locks) {
-        return Upshot {
-            answer: Answer::Refused(Rule::LockSpace),
-            enters: false,
-        };
+        return Err(Rule::LockSpace);
     }
-    Upshot {
-        answer: Answer::Done(0),
-        enters: true,
-    }
+    Ok(true)
 }
 
 // The same, of a session by value. The list is copied here: with a reference into the session the compiler would keep one more copy of the session.
-fn comes_to(s: Session, modem: bool, name: &[u8], vendor: &[u8; 16]) -> Upshot
-    ensures { (answer_of result.answer ≡ lock_outcome_by modem s.phase s.count s.sizes s.locks s.setup.modem.vendor (keyed name.now vendor.now))
-        × (result.enters ≡ lock_enters modem s.phase s.count s.sizes s.locks s.setup.modem.vendor (keyed name.now vendor.now)) }
+fn comes_to(s: Session, modem: bool, name: &[u8], vendor: &[u8; 16]) -> Result<bool, Rule>
+    ensures { result ≡ lock_judged modem s.phase s.count s.sizes s.locks s.setup.modem.vendor (keyed name.now vendor.now) }
 {
     let guid = s.setup.modem.vendor;
     let sizes = s.sizes;
@@ -306,7 +254,14 @@ pub fn lock(s: Session, modem: bool, name: &[u8], vendor: &[u8; 16]) -> Listed
         × (result.session ≡ lock_session modem s (keyed name.now vendor.now)) }
 {
     let told = comes_to(s, modem, name, vendor);
-    let answer = told.answer;
-    let session = entered(s, told.enters, name, vendor);
-    Listed { answer, session }
+    match told {
+        Ok(enters) => Listed {
+            answer: Answer::Done(0),
+            session: entered(s, enters, name, vendor),
+        },
+        Err(rule) => Listed {
+            answer: Answer::Refused(rule),
+            session: s,
+        },
+    }
 }

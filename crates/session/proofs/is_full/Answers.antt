@@ -13,11 +13,12 @@ unfolding full
 returns-then-used-ge16 c =
     let a = c.args in
     let h : leb 16 (min a.used 16) ≡ true = le-leb 16 (min a.used 16) (omega arith) in
-    rw h (sym (or-true (leb 8 (count_from a.guid.now a.modem a.sizes a.locks.now a.used 0))))
+    let t : leb 16 a.used ≡ true = le-leb 16 a.used (omega arith) in
+    rw (h, t) (sym (or-true (leb 8 (count_from a.guid.now a.modem a.sizes a.locks.now a.used 0))))
 
-pub returns : goal.returns
+pub returns-else-used-ge16 : goal.returns-else-used-ge16
 unfolding full
-returns c =
+returns-else-used-ge16 c =
     let a = c.args in
     let h : leb 16 (min a.used 16) ≡ false = lt-leb 16 (min a.used 16) (omega arith) in
     rw (h, sym c.locks_of.ensures) (sym (or-false (leb 8 c.locks_of.result)))

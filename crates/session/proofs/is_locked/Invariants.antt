@@ -1,5 +1,4 @@
--- `session::is_locked` meets its contract. The loop's invariant: the name is held just if one of the places in use from `i` on holds it. Assumes nothing.
-use Prim.Native.Nat.{min, ◌-◌, ◌≤◌}
+use Prim.Native.Nat.{min}
 use mathlib.Core.Path.{◌≡◌}
 use lib.ListN.{get_or}
 use Rattle.model.specs.Name.{keyed}
@@ -9,9 +8,5 @@ use Rattle.session.proofs.is_locked.Given as goal
 
 abbrev pub invariant-loop-i : goal.invariant-loop-i
 invariant-loop-i l =
-    (l.i ≤ min l.count 16)
-    × (any_from (λ j. holds l.locks j (get_or l.sizes j 0) (keyed l.name l.vendor)) (min l.count 16) 0
-    ≡ any_from (λ j. holds l.locks j (get_or l.sizes j 0) (keyed l.name l.vendor)) (min l.count 16) l.i)
-
-abbrev pub decreases-loop-i : goal.decreases-loop-i
-decreases-loop-i l = 16 - l.i
+    any_from (λ j. holds l.locks j (get_or l.sizes j 0) (keyed l.name l.vendor)) (min l.count 16) 0
+    ≡ any_from (λ j. holds l.locks j (get_or l.sizes j 0) (keyed l.name l.vendor)) (min l.count 16) l.i

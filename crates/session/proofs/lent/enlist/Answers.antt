@@ -11,9 +11,6 @@ pub returns : goal.returns
 unfolding enlisted
 returns c =
     let a = c.args in
-    let e = c.put_place.ensures in (
-      c.put_number-2.ensures
-          ∙ ap (λ (l : List ℕ). sets l 6960 (number_bytes (a.place + 1)))
-          (c.put_number.ensures ∙ ap (λ (l : List ℕ). sets l (6964 + 4 * a.place) (number_bytes (length a.name.now))) e.0),
-      e.1,
-    )
+    c.put_number-2.ensures
+    ∙ ap (λ (l : List ℕ). sets l 6960 (number_bytes (a.place + 1)))
+    (c.put_number.ensures ∙ ap (λ (l : List ℕ). sets l (6964 + 4 * a.place) (number_bytes (length a.name.now))) c.put_place.ensures)

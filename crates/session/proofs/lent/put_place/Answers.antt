@@ -1,6 +1,5 @@
 -- `session::lent::put_place` meets its contract: what its three stores write is the bytes of the place, one part after the other. Assumes nothing.
 use Prim.Native.Nat.{ℕ, ◌-◌}
-use native.Mathlib.Omega.{arith}
 use mathlib.Core.Path.{◌≡◌}
 use mathlib.Core.List.{List}
 use lib.ListN.{length, replicate, length-replicate}
@@ -18,7 +17,4 @@ put_bytes-requires c =
 
 pub returns : goal.returns
 unfolding place_bytes
-returns c = (
-  (wrote-append (wrote-append c.put_bytes-next.ensures c.put_fill-next.ensures) c.put_bytes.ensures).buffer,
-  omega arith,
-)
+returns c = (wrote-append (wrote-append c.put_bytes-next.ensures c.put_fill-next.ensures) c.put_bytes.ensures).buffer
