@@ -13,6 +13,7 @@ ghost use Rattle.session.specs.Written.{number_bytes, enlisted};
 
 use crate::Locks;
 use model::{Answer, Rule, Tenant, Terms, View};
+use std::array;
 
 // The bytes of a session, and the offsets of its fields: those of the modem are in the midst of what a start-up is given.
 pub const SESSION: usize = 9332;
@@ -47,24 +48,7 @@ const LOCKS: usize = 7028;
 fn sizes(s: &[u8]) -> [u32; 16]
     ensures { result ≡ numbers_at s.now 6964 16 }
 {
-    [
-        layout::u32_at(s, SIZES),
-        layout::u32_at(s, SIZES + 4),
-        layout::u32_at(s, SIZES + 8),
-        layout::u32_at(s, SIZES + 12),
-        layout::u32_at(s, SIZES + 16),
-        layout::u32_at(s, SIZES + 20),
-        layout::u32_at(s, SIZES + 24),
-        layout::u32_at(s, SIZES + 28),
-        layout::u32_at(s, SIZES + 32),
-        layout::u32_at(s, SIZES + 36),
-        layout::u32_at(s, SIZES + 40),
-        layout::u32_at(s, SIZES + 44),
-        layout::u32_at(s, SIZES + 48),
-        layout::u32_at(s, SIZES + 52),
-        layout::u32_at(s, SIZES + 56),
-        layout::u32_at(s, SIZES + 60),
-    ]
+    array::from_fn(|i| layout::u32_at(s, SIZES + 4 * i))
 }
 
 // Rule 6, of a name.
