@@ -27,9 +27,9 @@ use Rattle.model.specs.Beside.{items_alone, changes_alone}
 use Rattle.model.proofs.Looking.{change-cases}
 use Rattle.model.proofs.Tests.{and_split}
 use Rattle.model.proofs.Requests.{broken-append, unbroken, set_rules}
-use Rattle.decision.specs.declared.Decision.{Decision}
-use Rattle.decision.specs.declared.Decision.TheVariants.{Nothing, Remove, Put}
-use Rattle.decision.specs.Decision.{kind_of, decided, item_of, tried_of, decision_of, broken_of}
+use Rattle.std.specs.Prelude.{Ok}
+use Rattle.decision.specs.declared.Change.TheVariants.{Nothing, Remove, Put}
+use Rattle.decision.specs.Decision.{Decision, kind_of, decided, item_of, tried_of, decision_of, broken_of}
 use Rattle.decision.specs.Profile.{weighed_of}
 
 -- ---- the rule named
@@ -65,17 +65,17 @@ decided-none (some rule) d k h b =
     absurd (omega arith)
 
 module _ (q : Request) (old : Option Value) where
-  kind-put : kind_of (change_of q old) ≡ Put → change_of q old ≡ put (new_value q old)
+  kind-put : kind_of (change_of q old) ≡ Ok Put → change_of q old ≡ put (new_value q old)
   kind-put =
-      change-cases (λ (c : Change). kind_of c ≡ Put → c ≡ put (new_value q old)) q old
+      change-cases (λ (c : Change). kind_of c ≡ Ok Put → c ≡ put (new_value q old)) q old
       (λ h. let z : ◌≡◌ {A = ℕ} 0 1 = cc in absurd (omega arith)) (λ h. let z : ◌≡◌ {A = ℕ} 0 1 = cc in absurd (omega arith)) (λ h. refl)
 
-  kind-remove : kind_of (change_of q old) ≡ Remove → change_of q old ≡ remove (request_key q)
+  kind-remove : kind_of (change_of q old) ≡ Ok Remove → change_of q old ≡ remove (request_key q)
   kind-remove =
-      change-cases (λ (c : Change). kind_of c ≡ Remove → c ≡ remove (request_key q)) q old
+      change-cases (λ (c : Change). kind_of c ≡ Ok Remove → c ≡ remove (request_key q)) q old
       (λ h. refl) (λ h. let z : ◌≡◌ {A = ℕ} 0 1 = cc in absurd (omega arith)) (λ h. let z : ◌≡◌ {A = ℕ} 0 1 = cc in absurd (omega arith))
 
-kind-nothing : (c : Change) → kind_of c ≡ Nothing → c ≡ nothing
+kind-nothing : (c : Change) → kind_of c ≡ Ok Nothing → c ≡ nothing
 kind-nothing nothing h = refl
 kind-nothing (remove k) h = let z : ◌≡◌ {A = ℕ} 0 1 = cc in absurd (omega arith)
 kind-nothing (put v) h = let z : ◌≡◌ {A = ℕ} 0 1 = cc in absurd (omega arith)
@@ -86,18 +86,18 @@ module _ (t : Terms) (q : Request) (vs : List Value) where
   new = new_value q (find (request_key q) vs)
 
   -- by rules 3 to 12, 17, 22 and 24
-  pub item-small : item_of t q vs ≡ Put → length new.bytes ≤ max_data
+  pub item-small : item_of t q vs ≡ Ok Put → length new.bytes ≤ max_data
   unfolding item_of item_rules request_rules standing_rules result_rules rule12 change_in
   item-small h =
-      let p = decided-none (first_broken (item_rules t q vs)) (kind_of (change_in q vs)) Put h refl in
+      let p = decided-none (first_broken (item_rules t q vs)) (kind_of (change_in q vs)) (Ok Put) h refl in
       let e : rule12 (change_in q vs) ≡ false = unbroken _ 12 p.0 in
       ltb-false max_data (length new.bytes) (rw (kind-put q (find (request_key q) vs) p.1) at e)
 
 -- and with the rules for the name: what is put has a well-formed name
-pub tried-named : (ls : List Limit) (t : Terms) (q : Request) (vs : List Value) → tried_of ls t q vs ≡ Put → length q.name ≤ 128
+pub tried-named : (ls : List Limit) (t : Terms) (q : Request) (vs : List Value) → tried_of ls t q vs ≡ Ok Put → length q.name ≤ 128
 unfolding tried_of item_rules request_rules rule3 well_named
 tried-named ls t q vs h =
-    let p = decided-none (first_broken (item_rules t q vs ++ setting_rules ls q (find (request_key q) vs))) (kind_of (change_in q vs)) Put h refl in
+    let p = decided-none (first_broken (item_rules t q vs ++ setting_rules ls q (find (request_key q) vs))) (kind_of (change_in q vs)) (Ok Put) h refl in
     let e : well_named q.name ≡ true = not-false (well_named q.name) (unbroken _ 3 p.0) in
     let n = and_split (leb 4 (length q.name) && leb (length q.name) 128) (zero_ended q.name) e in
     leb-true (length q.name) 128 (and_split (leb 4 (length q.name)) (leb (length q.name) 128) n.0).1
@@ -109,22 +109,22 @@ module _ (ls : List Limit) (t : Terms) (q : Request) (size : ℕ) (vs : List Val
       (decided-none (first_broken (item_rules t q vs ++ setting_rules ls q (find (request_key q) vs) ++ room_rules t size (changes_of q vs) vs)) (kind_of (change_in q vs)) k h b).1
 
   -- a value is put where its descriptor is right
-  pub put-formed : decision_of ls t q size vs ≡ Put → rule8 q.attributes q.bytes ≡ false
+  pub put-formed : decision_of ls t q size vs ≡ Ok Put → rule8 q.attributes q.bytes ≡ false
   unfolding decision_of item_rules request_rules standing_rules
   put-formed h =
       unbroken _ 8
-      (decided-none (first_broken (item_rules t q vs ++ setting_rules ls q (find (request_key q) vs) ++ room_rules t size (changes_of q vs) vs)) (kind_of (change_in q vs)) Put h refl).0
+      (decided-none (first_broken (item_rules t q vs ++ setting_rules ls q (find (request_key q) vs) ++ room_rules t size (changes_of q vs) vs)) (kind_of (change_in q vs)) (Ok Put) h refl).0
 
-  pub nothing-change : decision_of ls t q size vs ≡ Nothing → change_in q vs ≡ nothing
-  nothing-change h = kind-nothing (change_in q vs) (kind-of Nothing refl h)
+  pub nothing-change : decision_of ls t q size vs ≡ Ok Nothing → change_in q vs ≡ nothing
+  nothing-change h = kind-nothing (change_in q vs) (kind-of (Ok Nothing) refl h)
 
-  pub remove-change : decision_of ls t q size vs ≡ Remove → change_in q vs ≡ remove (request_key q)
+  pub remove-change : decision_of ls t q size vs ≡ Ok Remove → change_in q vs ≡ remove (request_key q)
   unfolding change_in
-  remove-change h = kind-remove q (find (request_key q) vs) (kind-of Remove refl h)
+  remove-change h = kind-remove q (find (request_key q) vs) (kind-of (Ok Remove) refl h)
 
-  pub put-change : decision_of ls t q size vs ≡ Put → change_in q vs ≡ put (new t q vs)
+  pub put-change : decision_of ls t q size vs ≡ Ok Put → change_in q vs ≡ put (new t q vs)
   unfolding change_in
-  put-change h = kind-put q (find (request_key q) vs) (kind-of Put refl h)
+  put-change h = kind-put q (find (request_key q) vs) (kind-of (Ok Put) refl h)
 
 -- ---- a profile
 
@@ -136,7 +136,7 @@ module _ (t : Terms) (told : Key → Terms) (limits : Key → List Limit) (rs : 
   abbrev unchanged : Bool
   unchanged = all is_nothing (changes_alone rs vs)
 
-  either : (b : Bool) → broken_of (cond b Nothing Put) ≡ none
+  either : (b : Bool) → broken_of (cond {A = Decision} b (Ok Nothing) (Ok Put)) ≡ none
   either true = refl
   either false = refl
 
@@ -145,36 +145,36 @@ module _ (t : Terms) (told : Key → Terms) (limits : Key → List Limit) (rs : 
   unfolding weighed_of
   weighed-rule = go (first_broken items_and_room)
     where
-      go : (o : Option Rule) → broken_of (decided o (cond unchanged Nothing Put)) ≡ o
+      go : (o : Option Rule) → broken_of (decided o (cond unchanged (Ok Nothing) (Ok Put))) ≡ o
       go (some rule) = refl
       go none = either unchanged
 
-  pub weighed-nothing : weighed_of t told limits rs size vs ≡ Nothing → (first_broken items_and_room ≡ none) × (unchanged ≡ true)
+  pub weighed-nothing : weighed_of t told limits rs size vs ≡ Ok Nothing → (first_broken items_and_room ≡ none) × (unchanged ≡ true)
   unfolding weighed_of
   weighed-nothing h =
-      let p = decided-none (first_broken items_and_room) (cond unchanged Nothing Put) Nothing h refl in
+      let p = decided-none (first_broken items_and_room) (cond unchanged (Ok Nothing) (Ok Put)) (Ok Nothing) h refl in
       (p.0, go unchanged p.1)
     where
-      go : (b : Bool) → cond b Nothing Put ≡ Nothing → b ≡ true
+      go : (b : Bool) → cond {A = Decision} b (Ok Nothing) (Ok Put) ≡ Ok Nothing → b ≡ true
       go true e = refl
       go false e = let z : ◌≡◌ {A = ℕ} 0 1 = cc in absurd (omega arith)
 
-  pub weighed-put : weighed_of t told limits rs size vs ≡ Put → (first_broken items_and_room ≡ none) × (unchanged ≡ false)
+  pub weighed-put : weighed_of t told limits rs size vs ≡ Ok Put → (first_broken items_and_room ≡ none) × (unchanged ≡ false)
   unfolding weighed_of
   weighed-put h =
-      let p = decided-none (first_broken items_and_room) (cond unchanged Nothing Put) Put h refl in
+      let p = decided-none (first_broken items_and_room) (cond unchanged (Ok Nothing) (Ok Put)) (Ok Put) h refl in
       (p.0, go unchanged p.1)
     where
-      go : (b : Bool) → cond b Nothing Put ≡ Put → b ≡ false
+      go : (b : Bool) → cond {A = Decision} b (Ok Nothing) (Ok Put) ≡ Ok Put → b ≡ false
       go true e = let z : ◌≡◌ {A = ℕ} 0 1 = cc in absurd (omega arith)
       go false e = refl
 
   -- deletes alone are a compaction too
-  pub weighed-remove : weighed_of t told limits rs size vs ≡ Remove → ⊥
+  pub weighed-remove : weighed_of t told limits rs size vs ≡ Ok Remove → ⊥
   unfolding weighed_of
   weighed-remove h =
-      go unchanged (decided-none (first_broken items_and_room) (cond unchanged Nothing Put) Remove h refl).1
+      go unchanged (decided-none (first_broken items_and_room) (cond unchanged (Ok Nothing) (Ok Put)) (Ok Remove) h refl).1
     where
-      go : (b : Bool) → cond b Nothing Put ≡ Remove → ⊥
+      go : (b : Bool) → cond {A = Decision} b (Ok Nothing) (Ok Put) ≡ Ok Remove → ⊥
       go true e = let z : ◌≡◌ {A = ℕ} 0 1 = cc in absurd (omega arith)
       go false e = let z : ◌≡◌ {A = ℕ} 0 1 = cc in absurd (omega arith)

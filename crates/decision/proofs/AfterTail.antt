@@ -13,11 +13,11 @@ use Rattle.model.specs.declared.Terms.{Terms}
 use Rattle.model.specs.Image.{region_header_size}
 use Rattle.model.specs.Region.{tail_at}
 use Rattle.model.specs.Rules.{first_broken}
-use Rattle.values.specs.declared.Found.{Found}
-use Rattle.decision.specs.declared.Decision.{Decision}
-use Rattle.decision.specs.declared.Decision.TheVariants.{Broken, Nothing, Remove, Put}
+use Rattle.std.specs.Prelude.{Ok, Err}
+use Rattle.decision.specs.declared.Change.TheVariants.{Nothing, Remove, Put}
+use Rattle.decision.specs.Decision.{Decision}
 use Rattle.decision.specs.declared.Sums.{Sums}
-use Rattle.decision.specs.Parts.{sums_after, room_by, room_after_def, roomed_by}
+use Rattle.decision.specs.Parts.{Found, sums_after, room_by, room_after_def, roomed_by}
 use Rattle.decision.proofs.Broken.{kept_here, none_here}
 use Rattle.decision.proofs.Classes.{classes-before-tail, classed-once}
 
@@ -37,7 +37,7 @@ room-after-tail t r old own size h l =
 -- where no rule of room is broken, the decision stays
 pub roomed-none : (d : Decision) → roomed_by d none ≡ d
 unfolding roomed_by
-roomed-none (Broken rule) = refl
-roomed-none Nothing = refl
-roomed-none Remove = refl
-roomed-none Put = refl
+roomed-none (Err rule) = refl
+roomed-none (Ok Nothing) = refl
+roomed-none (Ok Remove) = refl
+roomed-none (Ok Put) = refl

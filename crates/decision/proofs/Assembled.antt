@@ -32,19 +32,17 @@ use Rattle.model.proofs.Requests.{broken-append, unbroken, record-append}
 use Rattle.model.proofs.Chunks.{sound-parts}
 use Rattle.model.proofs.Encode as encode
 use Rattle.region.specs.Walk.{entry_at, stamp_at, entry_as}
+use Rattle.std.specs.Prelude.{Some, None, Ok, Err}
 use Rattle.values.specs.Found.{found_of, old_data_def}
-use Rattle.values.specs.declared.Found.{Found}
-use Rattle.values.specs.declared.Found.TheVariants as found
 use Rattle.limits.specs.Broken.{broken_by, leaves_some}
 use Rattle.limits.proofs.Tried.{tried-as}
 use Rattle.policy.specs.Descriptor.{stamp_of_def}
 use Rattle.policy.proofs.Descriptor.{stamp-right, proper-drop}
-use Rattle.decision.specs.declared.Decision.{Decision}
-use Rattle.decision.specs.declared.Decision.TheVariants.{Broken, Nothing, Remove, Put}
-use Rattle.decision.specs.Decision.{request_of, kind_of, decided, item_of, tried_of, decision_of, beside_by}
+use Rattle.decision.specs.declared.Change.TheVariants.{Nothing, Remove, Put}
+use Rattle.decision.specs.Decision.{Decision, request_of, kind_of, decided, item_of, tried_of, decision_of, beside_by}
 use Rattle.decision.specs.declared.NewValue.{NewValue}
 use Rattle.decision.specs.declared.Sums.{Sums}
-use Rattle.decision.specs.Parts.{on_found, value_at, stands, mode_by_def, offset_of, beside_found, deploys_by, standing_by, not_later_def, verdict_by, equal_by, kind_by, kept_data_def, stamp_over_def, stamp_kept, value_by, leaves_by, new_size, classed_by, old_sums, OldCounts, sums_after, room_by, room_after_def, result_by, outcome_by, limited_by, roomed_by}
+use Rattle.decision.specs.Parts.{Found, on_found, value_at, stands, mode_by_def, offset_of, beside_found, deploys_by, standing_by, not_later_def, verdict_by, equal_by, kind_by, kept_data_def, stamp_over_def, stamp_kept, value_by, leaves_by, new_size, classed_by, old_sums, OldCounts, sums_after, room_by, room_after_def, result_by, outcome_by, limited_by, roomed_by}
 use Rattle.decision.proofs.Broken.{later-broken}
 use Rattle.decision.proofs.Classes.{Class, records_class, own_class, others_class, all-classes}
 use Rattle.decision.proofs.Old.{stands-some, old_value, mode-found, stamp-read}
@@ -62,15 +60,15 @@ module _ (r : List ℕ) (q : Request) where
       → on_some (value_at r old) (λ v. rule7 runtime q.attributes v.attributes) false
       ≡ on_found old (λ at e. rule7 runtime q.attributes e.attributes) false
   unfolding entry_as walk.placed
-  standing-numbers runtime (found.At at e) = refl
-  standing-numbers runtime found.Nothing = refl
+  standing-numbers runtime (Some p) = refl
+  standing-numbers runtime None = refl
 
   equal-numbers : (old : Found)
       → on_some (value_at r old) (λ v. equal_to q.attributes (data_proper q) v.attributes v.bytes) false
       ≡ equal_by r old q.attributes (data_proper q)
   unfolding equal_by entry_as walk.placed
-  equal-numbers (found.At at e) = refl
-  equal-numbers found.Nothing = refl
+  equal-numbers (Some p) = refl
+  equal-numbers None = refl
 
   data-numbers : (old : Found) → new_data q (value_at r old) ≡ kept_data_def r old q.attributes ++ data_proper q
   unfolding new_data kept_data_def entry_as walk.placed
@@ -78,8 +76,8 @@ module _ (r : List ℕ) (q : Request) where
     where
       go : (t : Bool) (old : Found)
           → cond t (on_some (value_at r old) (λ v. v.bytes) [] ++ data_proper q) (data_proper q) ≡ cond t (old_data_def r old) [] ++ data_proper q
-      go true (found.At at e) = refl
-      go true found.Nothing = refl
+      go true (Some p) = refl
+      go true None = refl
       go false old = refl
 
   size-numbers : (old : Found) → length (new_data q (value_at r old)) ≡ new_size r old q.attributes (length (data_proper q))
@@ -90,15 +88,15 @@ module _ (r : List ℕ) (q : Request) where
 stamp-numbers : (r : List ℕ) (q : Request) → rule8 q.attributes q.bytes ≡ false → (old : Found) → old ≡ found_of (standing (request_key q) (entries r))
     → on_some (value_at r old) (λ v. not (later (stamp_to_store q) v.stamp)) false ≡ not_later_def r old (stamp_of_def q.attributes q.bytes)
 unfolding not_later_def stamp_at entry_as walk.placed
-stamp-numbers r q k (found.At at e) h = ap₂ (λ (a b : List ℕ). not (later a b)) (stamp-right q k) (sym (stamp-read r (request_key q) at e h))
-stamp-numbers r q k found.Nothing h = refl
+stamp-numbers r q k (Some p) h = ap₂ (λ (a b : List ℕ). not (later a b)) (stamp-right q k) (sym (stamp-read r (request_key q) p.at p.entry h))
+stamp-numbers r q k None h = refl
 
 kept-numbers : (r : List ℕ) (q : Request) → rule8 q.attributes q.bytes ≡ false → (old : Found) → old ≡ found_of (standing (request_key q) (entries r))
     → new_stamp q (value_at r old) ≡ stamp_kept r old q.attributes (stamp_of_def q.attributes q.bytes)
 unfolding new_stamp stamp_kept stamp_over_def stamp_at entry_as walk.placed
-kept-numbers r q k (found.At at e) h =
-    ap₂ (λ (a b : List ℕ). cond (appends q.attributes && time_based_def q.attributes) (later_of_def a b) a) (stamp-right q k) (sym (stamp-read r (request_key q) at e h))
-kept-numbers r q k found.Nothing h = ap (λ (a : List ℕ). cond (appends q.attributes && time_based_def q.attributes) a a) (stamp-right q k)
+kept-numbers r q k (Some p) h =
+    ap₂ (λ (a b : List ℕ). cond (appends q.attributes && time_based_def q.attributes) (later_of_def a b) a) (stamp-right q k) (sym (stamp-read r (request_key q) p.at p.entry h))
+kept-numbers r q k None h = ap (λ (a : List ℕ). cond (appends q.attributes && time_based_def q.attributes) a a) (stamp-right q k)
 
 -- what a change comes to: a delete by whether the value is there, a value to put by its size
 outcome-cases : (d n : Bool) (k : Key) (v : Value) (old : Option Value)
@@ -108,14 +106,14 @@ outcome-cases : (d n : Bool) (k : Key) (v : Value) (old : Option Value)
     ∷ (DataSize, rule12 (cond d (remove k) (cond n nothing (put v))))
     ∷ []))
     (kind_of (cond d (remove k) (cond n nothing (put v))))
-    ≡ result_by (is_some old) (cond d Remove (cond n Nothing Put)) (length v.bytes)
+    ≡ result_by (is_some old) (cond d (Ok Remove) (cond n (Ok Nothing) (Ok Put))) (length v.bytes)
 unfolding first_broken rule11 rule12 result_by
 outcome-cases true n k v (some w) = refl
 outcome-cases true n k v none = refl
 outcome-cases false true k v old = refl
 outcome-cases false false k v old = go (ltb max_data (length v.bytes))
   where
-    go : (a : Bool) → decided (cond a (some DataSize) none) Put ≡ cond a (Broken DataSize) Put
+    go : (a : Bool) → decided (cond a (some DataSize) none) (Ok Put) ≡ cond a (Err DataSize) (Ok Put)
     go true = refl
     go false = refl
 
@@ -134,18 +132,6 @@ limited-cases none true (put v) = refl
 limited-cases none false nothing = refl
 limited-cases none false (remove k) = refl
 limited-cases none false (put v) = refl
-
--- what is put after it was put before it
-pub limited-put : (forbidden : Bool) (d : Decision) → limited_by forbidden d ≡ Put → d ≡ Put
-unfolding limited_by
-limited-put true (Broken rule) h = h
-limited-put true Nothing h = let z : ◌≡◌ {A = ℕ} 0 1 = cc in absurd (omega arith)
-limited-put true Remove h = let z : ◌≡◌ {A = ℕ} 0 1 = cc in absurd (omega arith)
-limited-put true Put h = refl
-limited-put false (Broken rule) h = h
-limited-put false Nothing h = h
-limited-put false Remove h = h
-limited-put false Put h = h
 
 -- the sums of the values by class
 abbrev pub sums_of : Terms → List Value → Sums
@@ -167,7 +153,7 @@ room-cases : (c : Change) (full : Option Rule) (t : Terms) (size : ℕ) (vs : Li
 unfolding first_broken room_rules rule18 rule13 steps roomed_by
 room-cases nothing full t size vs h = refl
 room-cases (remove k) full t size vs h = refl
-room-cases (put v) full t size vs h = ap (λ (x : Option Rule). on_some x (λ rule. Broken rule) Put) (h v refl)
+room-cases (put v) full t size vs h = ap (λ (x : Option Rule). on_some x (λ rule. Err rule) (Ok Put)) (h v refl)
 
 module _ (t : Terms) (q : Request) (r : List ℕ) (sounds : sound r ≡ true) (old : Found) (h : old ≡ found_of (standing (request_key q) (entries r))) where
   abbrev vs : List Value
@@ -232,7 +218,7 @@ module _ (t : Terms) (q : Request) (r : List ℕ) (sounds : sound r ≡ true) (o
       let o : Option Value = find (request_key q) vs in
       let size : ℕ = length (data_proper q) in
       outcome-cases (deletes a size) (empty_append_def a size || on_some o (λ v. equal_to a (data_proper q) v.attributes v.bytes) false) (request_key q) new o
-      ∙ ap₂ (λ (s n : Bool). result_by s (cond (deletes a size) Remove (cond (empty_append_def a size || n) Nothing Put)) (length new.bytes))
+      ∙ ap₂ (λ (s n : Bool). result_by s (cond (deletes a size) (Ok Remove) (cond (empty_append_def a size || n) (Ok Nothing) (Ok Put))) (length new.bytes))
       (sym there)
       (ap (λ (x : Option Value). on_some x (λ v. equal_to a (data_proper q) v.attributes v.bytes) false) (sym value) ∙ equal-numbers r q old)
       ∙ ap (result_by (stands old) (kind_by r old a (data_proper q))) (sym new-size)
@@ -253,11 +239,11 @@ module _ (t : Terms) (q : Request) (r : List ℕ) (sounds : sound r ≡ true) (o
       ∙ ap (λ (o : Option Rule). decided (first_broken a) (decided o end)) standing_here
 
   -- by the first part that is broken
-  pub call-broken : (rule : Rule) → first_broken (request_rules t q) ≡ some rule → item_of t q vs ≡ Broken rule
+  pub call-broken : (rule : Rule) → first_broken (request_rules t q) ≡ some rule → item_of t q vs ≡ Err rule
   call-broken rule a = item-here ∙ rw a
 
   module _ (kept : first_broken (request_rules t q) ≡ none) where
-    pub standing-broken : (rule : Rule) → first_broken parts ≡ some rule → item_of t q vs ≡ Broken rule
+    pub standing-broken : (rule : Rule) → first_broken parts ≡ some rule → item_of t q vs ≡ Err rule
     standing-broken rule a = item-here ∙ rw (kept, a)
 
     pub none-broken : first_broken parts ≡ none → item_of t q vs ≡ outcome_by r old q.attributes (data_proper q) its-size
@@ -310,12 +296,12 @@ module _ (t : Terms) (q : Request) (r : List ℕ) (sounds : sound r ≡ true) (o
     gone = go old value
       where
         go : (o : Found) → value_at r o ≡ find (request_key q) vs → x.part (old_sums r o mine) ≡ size_of belongs (find (request_key q) vs)
-        go (found.At at e) p =
-            let v : Value = walk.entry_value_def (entry_at r at e) in
-            x.classed (record_bit e.attributes) mine (entry_size_def v)
-            ∙ ap (λ (b : Bool). cond (x.holds b (record_bit e.attributes)) (entry_size_def v) 0) (sym (owner v (sym p)))
+        go (Some f) p =
+            let v : Value = walk.entry_value_def (entry_at r f.at f.entry) in
+            x.classed (record_bit f.entry.attributes) mine (entry_size_def v)
+            ∙ ap (λ (b : Bool). cond (x.holds b (record_bit f.entry.attributes)) (entry_size_def v) 0) (sym (owner v (sym p)))
             ∙ ap (size_of belongs) p
-        go found.Nothing p = x.none ∙ ap (size_of belongs) p
+        go None p = x.none ∙ ap (size_of belongs) p
 
     -- the old value counts among its values
     counts : x.part (old_sums r old mine) ≤ x.total vs
@@ -390,7 +376,7 @@ module _ (t : Terms) (q : Request) (r : List ℕ) (sounds : sound r ≡ true) (o
       go none e = f e (ap (λ (o : Option Rule). decided o (kind_of (change_in q vs))) e)
 
   -- with no change of PlatMode
-  pub decision-alone : (ls : List Limit) → beside_found r (tried_of ls t q vs) old (request_key q) ≡ found.Nothing
+  pub decision-alone : (ls : List Limit) → beside_found r (tried_of ls t q vs) old (request_key q) ≡ None
       → decision_of ls t q (length r) vs
       ≡ roomed_by (tried_of ls t q vs) (first_broken (room_after_def t r old mine (record_bit q.attributes) size))
   unfolding changes_of
@@ -401,7 +387,7 @@ module _ (t : Terms) (q : Request) (r : List ℕ) (sounds : sound r ≡ true) (o
       (λ e k.
       let f = sym (ap (λ (d : Decision). beside_found r d old (request_key q)) k) ∙ h' in
       let alone : beside_pk c vs ≡ [] =
-      sym (beside-here r sounds q old h) ∙ ap (λ (x : Found). beside_by (offset_of x) (deploys_by r (kind_of c) x)) f ∙ beside_none (deploys_by r (kind_of c) found.Nothing) in
+      sym (beside-here r sounds q old h) ∙ ap (λ (x : Found). beside_by (offset_of x) (deploys_by r (kind_of c) x)) f ∙ beside_none (deploys_by r (kind_of c) None) in
       rw alone
       (room-cases c full t (length r) vs
       (λ v e. ap (λ (w : Value). first_broken (room_rules t (length r) (put w ∷ []) vs)) (puts-new v e) ∙ sym room-here)))

@@ -10,7 +10,7 @@ use Rattle.model.specs.declared.Rule.{Rule}
 use Rattle.model.specs.Lists.{or_else}
 use Rattle.model.specs.Rules.{first_broken}
 use Rattle.model.proofs.Requests.{broken-append}
-use Rattle.decision.specs.declared.Judged.TheVariants.{Kept, Breaks}
+use Rattle.std.specs.Prelude.{Ok, Err}
 use Rattle.decision.specs.Parts.{judged_of}
 
 -- a later rule counts only where every earlier one is kept
@@ -39,19 +39,19 @@ none_here = refl
 
 -- ---- rules that were judged
 
-pub kept-none : (o : Option Rule) → judged_of o ≡ Kept → o ≡ none
+pub kept-none : (o : Option Rule) → judged_of o ≡ Ok tt → o ≡ none
 kept-none none h = refl
 kept-none (some rule) h = let z : ◌≡◌ {A = ℕ} 0 1 = cc in absurd (omega arith)
 
-pub breaks-some : (o : Option Rule) (rule : Rule) → judged_of o ≡ Breaks rule → o ≡ some rule
+pub breaks-some : (o : Option Rule) (rule : Rule) → judged_of o ≡ Err rule → o ≡ some rule
 breaks-some none rule h = let z : ◌≡◌ {A = ℕ} 0 1 = cc in absurd (omega arith)
 breaks-some (some x) rule h = let e : x ≡ rule = cc in ap some e
 
 module _ (xs ys : List (Rule × Bool)) where
-  pub after_kept : judged_of (first_broken xs) ≡ Kept → judged_of (first_broken (xs ++ ys)) ≡ judged_of (first_broken ys)
+  pub after_kept : judged_of (first_broken xs) ≡ Ok tt → judged_of (first_broken (xs ++ ys)) ≡ judged_of (first_broken ys)
   after_kept h =
       ap judged_of (broken-append xs ys ∙ ap (λ (o : Option Rule). or_else o (first_broken ys)) (kept-none (first_broken xs) h))
 
-  pub after-breaks : (rule : Rule) → judged_of (first_broken xs) ≡ Breaks rule → judged_of (first_broken (xs ++ ys)) ≡ Breaks rule
+  pub after-breaks : (rule : Rule) → judged_of (first_broken xs) ≡ Err rule → judged_of (first_broken (xs ++ ys)) ≡ Err rule
   after-breaks rule h =
       ap judged_of (broken-append xs ys ∙ ap (λ (o : Option Rule). or_else o (first_broken ys)) (breaks-some (first_broken xs) rule h))

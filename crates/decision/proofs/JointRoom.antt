@@ -30,9 +30,8 @@ use Rattle.model.proofs.Looking.{Own, Other, find-step}
 use Rattle.model.proofs.Space.{size_of}
 use Rattle.model.proofs.Values as listing
 use Rattle.values.specs.Found.{found_of}
-use Rattle.values.specs.declared.Found.{Found}
-use Rattle.values.specs.declared.Found.TheVariants.{At, Nothing}
-use Rattle.decision.specs.Parts.{value_at, room_by}
+use Rattle.std.specs.Prelude.{Some, None}
+use Rattle.decision.specs.Parts.{Found, value_at, room_by}
 use Rattle.decision.specs.Profile.{comes_size, comes_sizes, folded_sums}
 use Rattle.decision.specs.Joint.{taken_by}
 use Rattle.decision.proofs.Broken.{kept_here}
@@ -129,8 +128,8 @@ module _ (k : Key) (n : record_name k ≡ false) where
 -- what was found has the size of the value
 taken-found : (r : List ℕ) (old : Found) → taken_by r old ≡ on_some (value_at r old) entry_size_def 0
 unfolding taken_by
-taken-found r (At at e) = refl
-taken-found r Nothing = refl
+taken-found r (Some p) = refl
+taken-found r None = refl
 
 cond-none : (b : Bool) → ◌≡◌ {A = ℕ} 0 (cond b 0 0)
 cond-none true = refl
@@ -258,17 +257,17 @@ module _ (t : Terms) (r : List ℕ) (sounds : sound r ≡ true) (ours : t.modem 
 
   module _ (mode : Found) (m : mode ≡ found_of (standing key_mode (entries r))) (d : Change) (od : Own key_mode d) (id : is_nothing d ≡ false) (plains : EachPut plain (d ∷ [])) where
     alone-after : (x : Class t.vendor t.modem)
-        → x.total (steps (d ∷ []) vs) + cond (x.holds true false) (taken_by r Nothing + taken_by r mode) 0 ≡ x.total vs + cond (x.holds true false) (comes_sizes (d ∷ [])) 0
+        → x.total (steps (d ∷ []) vs) + cond (x.holds true false) (taken_by r None + taken_by r mode) 0 ≡ x.total vs + cond (x.holds true false) (comes_sizes (d ∷ [])) 0
     unfolding steps comes_sizes
     alone-after x = go (x.holds true false) (class-step key_mode own-mode mode-plain x vs distinct refl d od id plains.0)
       where
         go : (b : Bool)
             → x.total (step d vs) + cond b (on_some (find key_mode vs) entry_size_def 0) 0 ≡ x.total vs + cond b (comes_size d) 0
-            → x.total (step d vs) + cond b (taken_by r Nothing + taken_by r mode) 0 ≡ x.total vs + cond b (comes_size d + 0) 0
-        go true one = omega (arith, there key_mode mode m, taken-found r Nothing)
+            → x.total (step d vs) + cond b (taken_by r None + taken_by r mode) 0 ≡ x.total vs + cond b (comes_size d + 0) 0
+        go true one = omega (arith, there key_mode mode m, taken-found r None)
         go false one = omega arith
 
-    alone-moved : Moved t r (d ∷ []) (taken_by r Nothing + taken_by r mode) (comes_sizes (d ∷ []))
+    alone-moved : Moved t r (d ∷ []) (taken_by r None + taken_by r mode) (comes_sizes (d ∷ []))
     alone-moved = record {
       own = alone-after (own_class t.vendor t.modem);
       records = omega (arith, alone-after (records_class t.vendor t.modem));
@@ -276,9 +275,9 @@ module _ (t : Terms) (r : List ℕ) (sounds : sound r ≡ true) (ours : t.modem 
     }
 
     pub alone-thirteen : any (puts (λ v. true)) (d ∷ []) ≡ true → (comes : ℕ) → comes ≡ comes_sizes (d ∷ [])
-        → first_broken (room_by t (length r) false (folded_sums t r (taken_by r Nothing + taken_by r mode) comes)) ≡ first_broken ((Room, rule13 t (length r) (d ∷ []) vs) ∷ [])
+        → first_broken (room_by t (length r) false (folded_sums t r (taken_by r None + taken_by r mode) comes)) ≡ first_broken ((Room, rule13 t (length r) (d ∷ []) vs) ∷ [])
     alone-thirteen e comes n =
-        rw n (moved-room t r (d ∷ []) (taken_by r Nothing + taken_by r mode) (comes_sizes (d ∷ [])) alone-moved (puts_plain (d ∷ []) plains ∙ e) e)
+        rw n (moved-room t r (d ∷ []) (taken_by r None + taken_by r mode) (comes_sizes (d ∷ [])) alone-moved (puts_plain (d ∷ []) plains ∙ e) e)
 
-    pub alone-counts : taken_by r Nothing + taken_by r mode ≤ side_sizes t.vendor t.modem vs + comes_sizes (d ∷ [])
+    pub alone-counts : taken_by r None + taken_by r mode ≤ side_sizes t.vendor t.modem vs + comes_sizes (d ∷ [])
     alone-counts = omega (arith, alone-moved.own)

@@ -20,22 +20,27 @@ use Rattle.model.proofs.Chunks.{sound_entries, sound-parts}
 use Rattle.model.proofs.Values.{find-standing}
 use Rattle.layout.specs.declared.Entry as numbers
 use Rattle.region.specs.Walk.{stamp_at, entry_as}
-use Rattle.values.specs.Found.{found_of}
-use Rattle.values.specs.declared.Found.{Found}
-use Rattle.values.specs.declared.Found.TheVariants.{At, Nothing}
+use Rattle.std.specs.Prelude.{Some, None}
+use Rattle.std.specs.Option as code
+use Rattle.values.specs.Found.{placed_at, found_of}
 use Rattle.values.proofs.Stands.{standing-stands, nothing-first}
 use Rattle.policy.specs.Descriptor.{stamp_in_def}
 use Rattle.policy.proofs.Descriptor.{stamp-held}
-use Rattle.decision.specs.Parts.{value_at, stands, stores_by, found_pk, found_mode, mode_by_def}
+use Rattle.decision.specs.Parts.{Found, value_at, stands, stores_by, found_pk, found_mode, mode_by_def}
+
+-- the code's test
+pub is-stands : (old : Found) → code.is_some old ≡ stands old
+is-stands (Some p) = refl
+is-stands None = refl
 
 pub stands-some : (r : List ℕ) (old : Found) → stands old ≡ is_some (value_at r old)
-stands-some r (At at e) = refl
-stands-some r Nothing = refl
+stands-some r (Some p) = refl
+stands-some r None = refl
 
 stores-numbers : (r : List ℕ) (m : ℕ) (f : Found) → on_some (value_at r f) (λ v. eqb v.attributes 0x07 && same v.bytes (m ∷ [])) false ≡ stores_by r m f
 unfolding stores_by entry_as walk.placed
-stores-numbers r m (At at e) = refl
-stores-numbers r m Nothing = refl
+stores-numbers r m (Some p) = refl
+stores-numbers r m None = refl
 
 -- the mode by what is found: whether it wants the verdicts of user mode, and whether it is deployed
 module _ (r : List ℕ) where
@@ -64,10 +69,10 @@ module _ (r : List ℕ) (sounds : sound r ≡ true) where
   judged = (sound-parts authenticated r sounds).1
 
   pub old_value : (k : Key) (old : Found) → old ≡ found_of (standing k (entries r)) → value_at r old ≡ find k (values (entries r))
-  old_value k (At at e) h =
+  old_value k (Some p) h =
       sym (find-standing (length r) (entries r) k judged
-      ∙ ap (λ (o : Option walk.Entry). on_some o (λ x. some (walk.entry_value_def x)) none) (standing-stands authenticated r k at e (sym h)).entry)
-  old_value k Nothing h =
+      ∙ ap (λ (o : Option walk.Entry). on_some o (λ x. some (walk.entry_value_def x)) none) (standing-stands authenticated r k p.at p.entry (sym h)).entry)
+  old_value k None h =
       sym (find-standing (length r) (entries r) k judged
       ∙ ap (λ (o : Option walk.Entry). on_some o (λ x. some (walk.entry_value_def x)) none) (nothing-first (standing k (entries r)) (sym h)))
 
@@ -91,6 +96,6 @@ module _ (r : List ℕ) (sounds : sound r ≡ true) where
   mode-found = rw (some-found key_pk, stores-found deployed_mode, stores-found audit_mode)
 
 -- the stamp that is read of the entry that stands is its value's
-pub stamp-read : (r : List ℕ) (k : Key) (at : ℕ) (e : numbers.Entry) → At at e ≡ found_of (standing k (entries r)) → stamp_in_def (stamp_at r at) ≡ stamp_at r at
+pub stamp-read : (r : List ℕ) (k : Key) (at : ℕ) (e : numbers.Entry) → placed_at at e ≡ found_of (standing k (entries r)) → stamp_in_def (stamp_at r at) ≡ stamp_at r at
 unfolding stamp_at header_fields_in
 stamp-read r k at e h = stamp-held r at (standing-stands authenticated r k at e (sym h)).fits

@@ -1,6 +1,6 @@
 -- Items of a profile, one after another: what is said of those that were passed, with one more item is said of one more.
 -- Assumes nothing.
-use Prim.Native.Nat.{ℕ, suc, ◌+◌, ◌*◌, ◌-◌, ◌<◌, ◌≤◌}
+use Prim.Native.Nat.{ℕ, suc, ◌+◌, ◌-◌, ◌<◌, ◌≤◌}
 use native.Mathlib.Omega.{arith}
 use native.Mathlib.Numerals.{add-one}
 use mathlib.Core.Path.{◌≡◌, refl, sym, ap, ap₂, ◌∙◌}
@@ -26,11 +26,10 @@ use Rattle.model.proofs.Requests.{broken-append}
 use Rattle.profile.specs.declared.Setting.{Setting}
 use Rattle.profile.specs.Reader.{request_in, no_setting}
 use Rattle.profile.specs.Folded.{leave_at, leaves_at, puts_at, eight}
-use Rattle.decision.specs.declared.Judged.TheVariants.{Kept, Breaks}
+use Rattle.std.specs.Prelude.{Err}
 use Rattle.decision.specs.declared.Weight.{Weight}
-use Rattle.decision.specs.Parts.{judged_of}
-use Rattle.decision.specs.Profile.{gone_size, comes_size, gone_sizes, comes_sizes, ItemWeighed, ItemsPass, ItemsWeighed}
-use Rattle.decision.proofs.Broken.{kept-none, breaks-some, none_here}
+use Rattle.decision.specs.Profile.{gone_size, comes_size, gone_sizes, comes_sizes, ItemPasses, ItemsPass, ItemsWeighed}
+use Rattle.decision.proofs.Broken.{none_here}
 
 -- ---- eight places
 
@@ -151,34 +150,22 @@ module _ (told : Key → Terms) (limits : Key → List Limit) (r : List ℕ) whe
   unfolding items_alone leaves_at puts_at changes_alone gone_sizes comes_sizes
   pass-none = record { kept = none_here; folds = record { left = refl; stored = refl }; goes = refl; come = refl }
 
-  pub items-pass : (rs : List Request) (leave : List ℕ) (stores : List Bool) (gone comes : ℕ) → ItemsPass told limits rs r leave stores gone comes → comes ≤ 8 * 2236
-      → ItemsWeighed told limits rs r (record { judged = Kept; leave = leave; stores = stores; gone = gone; comes = comes })
-  items-pass rs leave stores gone comes pass few = record { judged = ap judged_of (sym pass.kept); pass = λ k. pass; few-come = few }
-
-  module _ (xs : List Request) (q : Request) (w : Weight) (weighed : ItemWeighed (told (request_key q)) (limits (request_key q)) q r w) where
+  module _ (xs : List Request) (q : Request) where
     -- the first rule that is broken is that of the first item that breaks one
-    pass-breaks : (ys : List Request) (rule : Rule) → first_broken (items_alone told limits xs vs) ≡ none → w.judged ≡ Breaks rule
-        → first_broken (items_alone told limits (xs ++ (q ∷ ys)) vs) ≡ some rule
-    pass-breaks ys rule h e =
-        broken-at xs q ys h
-        ∙ ap (λ (o : Option Rule). or_else o (first_broken (items_alone told limits ys vs))) (breaks-some (first_broken (rules_of q)) rule (sym weighed.judged ∙ e))
-
-    pub items-break : (ys all : List Request) (rule : Rule) → all ≡ xs ++ (q ∷ ys) → first_broken (items_alone told limits xs vs) ≡ none → w.judged ≡ Breaks rule
-        → (leave : List ℕ) (stores : List Bool) (gone comes : ℕ) → comes ≤ 8 * 2236
-        → ItemsWeighed told limits all r (record { judged = w.judged; leave = leave; stores = stores; gone = gone; comes = comes })
-    items-break ys all rule same h e leave stores gone comes few = record {
-      judged = e ∙ ap judged_of (sym (ap (λ (l : List Request). first_broken (items_alone told limits l vs)) same ∙ pass-breaks ys rule h e));
-      pass = λ k. let z : ◌≡◌ {A = ℕ} 0 1 = cc in absurd (omega arith);
-      few-come = few;
-    }
+    pub items-break : (ys all : List Request) (rule : Rule) → all ≡ xs ++ (q ∷ ys) → first_broken (items_alone told limits xs vs) ≡ none → first_broken (rules_of q) ≡ some rule
+        → ItemsWeighed told limits all r (Err rule)
+    items-break ys all rule same h e =
+        ap (λ (l : List Request). first_broken (items_alone told limits l vs)) same
+        ∙ broken-at xs q ys h
+        ∙ ap (λ (o : Option Rule). or_else o (first_broken (items_alone told limits ys vs))) e
 
     module _ (leave : List ℕ) (stores : List Bool) (gone comes i : ℕ) (pass : ItemsPass told limits xs r leave stores gone comes) (n : length xs ≡ i) (few : i < 8)
-        (kept : w.judged ≡ Kept) where
+        (w : Weight) (weighed : ItemPasses q r w) (kept : first_broken (rules_of q) ≡ none) where
       left-next : set leave i w.at ≡ eight 0 (leaves_at r (xs ++ (q ∷ [])))
       unfolding leaves_at
       left-next =
           let f : Request → ℕ = λ x. leave_at (entries r) x (change_in x vs) in
-          ap₂ (λ (l : List ℕ) (a : ℕ). set l i a) pass.folds.left (weighed.left kept)
+          ap₂ (λ (l : List ℕ) (a : ℕ). set l i a) pass.folds.left weighed.left
           ∙ eight-next 0 (map f xs) (f q) i (length-map xs f ∙ n) few
           ∙ ap (eight 0) (sym (map-append f xs (q ∷ [])))
 
@@ -188,15 +175,15 @@ module _ (told : Key → Terms) (limits : Key → List Limit) (r : List ℕ) whe
           let f : Change → Bool = puts (λ v. true) in
           let c : Change = change_in q vs in
           let cs : List Change = changes_alone xs vs in
-          let here : not (eqb w.comes 0) ≡ f c = ap (λ (m : ℕ). not (eqb m 0)) (weighed.comes kept) ∙ comes-puts c in
+          let here : not (eqb w.comes 0) ≡ f c = ap (λ (m : ℕ). not (eqb m 0)) weighed.comes ∙ comes-puts c in
           ap₂ (λ (l : List Bool) (b : Bool). set l i b) pass.folds.stored here
           ∙ eight-next false (map f cs) (f c) i (length-map cs f ∙ changes-length vs xs ∙ n) few
           ∙ ap (eight false) (sym (map-append f cs (c ∷ [])) ∙ ap (map f) (sym (changes-append vs xs (q ∷ []) ∙ ap (λ (l : List Change). cs ++ l) (changes-one vs q))))
 
       pub pass-next : ItemsPass told limits (xs ++ (q ∷ [])) r (set leave i w.at) (set stores i (not (eqb w.comes 0))) (gone + w.gone) (comes + w.comes)
       pass-next = record {
-        kept = broken-at xs q [] pass.kept ∙ rw (kept-none (first_broken (rules_of q)) (sym weighed.judged ∙ kept)) items-end;
+        kept = broken-at xs q [] pass.kept ∙ rw kept items-end;
         folds = record { left = left-next; stored = stored_next };
-        goes = omega (arith, pass.goes, weighed.gone kept, gone-next vs xs q);
-        come = omega (arith, pass.come, weighed.comes kept, come-next vs xs q);
+        goes = omega (arith, pass.goes, weighed.gone, gone-next vs xs q);
+        come = omega (arith, pass.come, weighed.comes, come-next vs xs q);
       }

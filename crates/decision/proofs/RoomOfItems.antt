@@ -37,7 +37,8 @@ use Rattle.model.proofs.Space.{size_of, sizes}
 use Rattle.model.proofs.Values as listing
 use Rattle.session.specs.Said.{terms_with}
 use Rattle.session.specs.declared.Locks.{Locks}
-use Rattle.decision.specs.declared.Decision.TheVariants.{Broken, Nothing, Put}
+use Rattle.std.specs.Prelude.{Ok, Err}
+use Rattle.decision.specs.declared.Change.TheVariants.{Nothing, Put}
 use Rattle.decision.specs.Decision.{decided}
 use Rattle.decision.specs.Parts.{room_by}
 use Rattle.decision.specs.Profile.{told_of, weighed_of, gone_size, comes_size, gone_sizes, comes_sizes, folded_sums, roomed_of}
@@ -284,7 +285,7 @@ module _ (t : Terms) (told : Key → Terms) (limits : Key → List Limit) (r : L
   cs = changes_alone rs vs
 
   -- the first rule that an item breaks is the answer
-  pub weighed-broken : (rule : Rule) → first_broken (items_alone told limits rs vs) ≡ some rule → weighed_of t told limits rs (length r) vs ≡ Broken rule
+  pub weighed-broken : (rule : Rule) → first_broken (items_alone told limits rs vs) ≡ some rule → weighed_of t told limits rs (length r) vs ≡ Err rule
   unfolding weighed_of
   weighed-broken rule h = rw (broken-append (items_alone told limits rs vs) ((Room, rule13 t (length r) cs vs) ∷ []), h)
 
@@ -322,7 +323,7 @@ module _ (t : Terms) (told : Key → Terms) (limits : Key → List Limit) (r : L
 
     pub weighed-kept : roomed_of t r gone comes ≡ weighed_of t told limits rs (length r) vs
     unfolding roomed_of weighed_of
-    weighed-kept = sym (ap (λ (o : Option Rule). decided o (cond (all is_nothing cs) Nothing Put)) first ∙ sym (go (any (puts (λ v. true)) cs) refl))
+    weighed-kept = sym (ap (λ (o : Option Rule). decided o (cond (all is_nothing cs) (Ok Nothing) (Ok Put))) first ∙ sym (go (any (puts (λ v. true)) cs) refl))
       where
         first : first_broken (items_alone told limits rs vs ++ ((Room, rule13 t (length r) cs vs) ∷ [])) ≡ first_broken ((Room, rule13 t (length r) cs vs) ∷ [])
         first =
@@ -330,9 +331,9 @@ module _ (t : Terms) (told : Key → Terms) (limits : Key → List Limit) (r : L
             ∙ ap (λ (o : Option Rule). or_else o (first_broken ((Room, rule13 t (length r) cs vs) ∷ []))) kept
 
         go : (b : Bool) → any (puts (λ v. true)) cs ≡ b
-            → cond (eqb comes 0) (cond (eqb gone 0) Nothing Put) (decided (first_broken (room_by t (length r) false (folded_sums t r gone comes))) Put)
-            ≡ decided (first_broken ((Room, rule13 t (length r) cs vs) ∷ [])) (cond (all is_nothing cs) Nothing Put)
-        go true e = rw (none-comes cs ∙ ap not e, some-changes cs e) (ap (λ (o : Option Rule). decided o Put) (moved-room t r cs gone comes moved (any-plain t vs rs fine ∙ e) e))
+            → cond (eqb comes 0) (cond (eqb gone 0) (Ok Nothing) (Ok Put)) (decided (first_broken (room_by t (length r) false (folded_sums t r gone comes))) (Ok Put))
+            ≡ decided (first_broken ((Room, rule13 t (length r) cs vs) ∷ [])) (cond (all is_nothing cs) (Ok Nothing) (Ok Put))
+        go true e = rw (none-comes cs ∙ ap not e, some-changes cs e) (ap (λ (o : Option Rule). decided o (Ok Put)) (moved-room t r cs gone comes moved (any-plain t vs rs fine ∙ e) e))
         go false e =
             rw (none-comes cs ∙ ap not e, none-gone t vs rs fine e)
-            (sym (ap (λ (o : Option Rule). decided o (cond (all is_nothing cs) Nothing Put)) (kept_here Room (rule13 t (length r) cs vs) [] (room-unasked e) ∙ none_here)))
+            (sym (ap (λ (o : Option Rule). decided o (cond (all is_nothing cs) (Ok Nothing) (Ok Put))) (kept_here Room (rule13 t (length r) cs vs) [] (room-unasked e) ∙ none_here)))

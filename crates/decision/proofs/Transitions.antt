@@ -3,14 +3,11 @@
 use Prim.Native.Nat.{ℕ, ◌+◌, ◌≤◌}
 use native.Mathlib.Omega.{arith}
 use mathlib.Core.Path.{◌≡◌, refl, sym, ap, ◌∙◌}
-use mathlib.Core.Logic.{◌≢◌}
 use mathlib.Core.Bool.{Bool, true, false, not, cond, true≢false}
 use mathlib.Core.List.{List, [], ◌∷◌, ◌++◌}
 use mathlib.Core.Option.{Option, none, some}
 use lib.ListN.{length}
 use lib.Dec.{eqb}
-use borrow.Author.Tests.{ne_eqb}
-use Rattle.model.specs.Layout.{authenticated}
 use Rattle.model.specs.declared.PlatMode.{PlatMode}
 use Rattle.model.specs.declared.PlatMode.TheVariants as mode
 use Rattle.model.specs.declared.Terms.{Terms}
@@ -26,12 +23,10 @@ use Rattle.model.specs.Rules.{first_broken, removes, rule13, rule22, rule24}
 use Rattle.model.specs.Sides.{owns, side_sizes}
 use Rattle.model.proofs.Changes.{EachPut}
 use Rattle.model.proofs.Requests.{broken-append, unbroken}
-use Rattle.values.specs.declared.Found.{Found}
-use Rattle.values.specs.declared.Found.TheVariants.{At, Nothing}
-use Rattle.values.proofs.Stands.{standing-stands}
-use Rattle.decision.specs.declared.Decision.TheVariants.{Broken, Put}
+use Rattle.std.specs.Prelude.{Some, None, Ok, Err}
+use Rattle.decision.specs.declared.Change.TheVariants.{Put}
 use Rattle.decision.specs.Decision.{decided}
-use Rattle.decision.specs.Parts.{stands, stores_by, found_pk, found_mode, mode_by_def, offset_of, room_by}
+use Rattle.decision.specs.Parts.{Found, stands, stores_by, found_pk, found_mode, mode_by_def, offset_of, room_by}
 use Rattle.decision.specs.Profile.{comes_sizes, comes_size, folded_sums}
 use Rattle.decision.specs.Joint.{taken_by}
 use Rattle.decision.specs.Modes.{transition_rules, transition_of, lost_by, byte_of, transition_by}
@@ -86,20 +81,20 @@ mode-foreign guid false = ap not (owns-mode guid)
 -- ---- its changes
 
 -- what a request that is no other transition changes, and what is lost of PK: the mode alone, or in user mode PK first
-module _ (P : List Change → Found → Type 0) (pk : Found) (to : ℕ) (alone : P (put (mode_value (byte_of to)) ∷ []) Nothing) where
+module _ (P : List Change → Found → Type 0) (pk : Found) (to : ℕ) (alone : P (put (mode_value (byte_of to)) ∷ []) None) where
   ways : (m : PlatMode) → (m ≡ mode.User → P (remove key_pk ∷ put (mode_value (byte_of to)) ∷ []) pk) → rule24 (transition m to) ≡ false → P (transition m to) (lost_by pk m to)
   unfolding rule24 byte_of lost_by
   ways mode.Setup both h = go (eqb to audit_mode) alone h
     where
-      go : (a : Bool) → P (put (mode_value (cond a audit_mode deployed_mode)) ∷ []) Nothing → rule24 (cond a (put (mode_value audit_mode) ∷ []) []) ≡ false
-          → P (cond a (put (mode_value audit_mode) ∷ []) []) (cond (any removes (cond a (put (mode_value audit_mode) ∷ []) [])) pk Nothing)
+      go : (a : Bool) → P (put (mode_value (cond a audit_mode deployed_mode)) ∷ []) None → rule24 (cond a (put (mode_value audit_mode) ∷ []) []) ≡ false
+          → P (cond a (put (mode_value audit_mode) ∷ []) []) (cond (any removes (cond a (put (mode_value audit_mode) ∷ []) [])) pk None)
       go true one h = one
       go false one h = absurd (true≢false h)
   ways mode.Audit both h = absurd (true≢false h)
   ways mode.User both h = go (eqb to audit_mode) (eqb to deployed_mode) alone (both refl) h
     where
-      go : (a d : Bool) → P (put (mode_value (cond a audit_mode deployed_mode)) ∷ []) Nothing → P (remove key_pk ∷ put (mode_value (cond a audit_mode deployed_mode)) ∷ []) pk
-          → rule24 (from_user a d) ≡ false → P (from_user a d) (cond (any removes (from_user a d)) pk Nothing)
+      go : (a d : Bool) → P (put (mode_value (cond a audit_mode deployed_mode)) ∷ []) None → P (remove key_pk ∷ put (mode_value (cond a audit_mode deployed_mode)) ∷ []) pk
+          → rule24 (from_user a d) ≡ false → P (from_user a d) (cond (any removes (from_user a d)) pk None)
       go true d one two h = two
       go false true one two h = one
       go false false one two h = absurd (true≢false h)
@@ -140,17 +135,17 @@ module _ (r : List ℕ) (sounds : sound r ≡ true) (t : Terms) (barred : Key �
   gone = lost_by (found_pk r) (mode_by_def r) to
 
   -- in user mode PK stands
-  user-stands : mode_by_def r ≡ mode.User → offset_of (found_pk r) ≢ 0
-  unfolding mode_by_def
-  user-stands = go (found_pk r) refl
+  user-stands : (n : ℕ) → mode_by_def r ≡ mode.User → transition_by (offset_of (found_pk r)) n ≡ remove key_pk ∷ put (mode_value n) ∷ []
+  unfolding mode_by_def transition_by
+  user-stands n = go (found_pk r)
     where
-      go : (f : Found) → found_pk r ≡ f
+      go : (f : Found)
           → cond (stands f) (cond (stores_by r deployed_mode (found_mode r)) mode.Deployed mode.User) (cond (stores_by r audit_mode (found_mode r)) mode.Audit mode.Setup) ≡ mode.User
-          → offset_of f ≢ 0
-      go (At at e) h u = let low = (standing-stands authenticated r key_pk at e h).low in λ z. omega (arith, low, z)
-      go Nothing h u = other (stores_by r audit_mode (found_mode r)) u
+          → transition_by (offset_of f) n ≡ remove key_pk ∷ put (mode_value n) ∷ []
+      go (Some p) u = refl
+      go None u = other (stores_by r audit_mode (found_mode r)) u
         where
-          other : (b : Bool) → cond b mode.Audit mode.Setup ≡ mode.User → offset_of Nothing ≢ 0
+          other : (b : Bool) → cond b mode.Audit mode.Setup ≡ mode.User → transition_by None n ≡ remove key_pk ∷ put (mode_value n) ∷ []
           other true u = let z : ◌≡◌ {A = ℕ} 0 1 = cc in absurd (omega arith)
           other false u = let z : ◌≡◌ {A = ℕ} 0 1 = cc in absurd (omega arith)
 
@@ -159,7 +154,7 @@ module _ (r : List ℕ) (sounds : sound r ≡ true) (t : Terms) (barred : Key �
   its-changes = ap (λ (m : PlatMode). transition m to) (mode-found r sounds)
 
   -- the first broken of 22, 6 and 24 is the answer
-  pub transition-broken : (rule : Rule) → first_broken (transition_rules t barred (transition (mode_by_def r) to)) ≡ some rule → transition_of t barred to (length r) vs ≡ Broken rule
+  pub transition-broken : (rule : Rule) → first_broken (transition_rules t barred (transition (mode_by_def r) to)) ≡ some rule → transition_of t barred to (length r) vs ≡ Err rule
   unfolding transition_of
   transition-broken rule h =
       rw (broken-append (transition_rules t barred (mode_changes to vs)) ((Room, rule13 t (length r) (mode_changes to vs) vs) ∷ []))
@@ -196,10 +191,10 @@ module _ (r : List ℕ) (sounds : sound r ≡ true) (t : Terms) (barred : Key �
         known
 
     pub transition-kept : transition_of t barred to (length r) vs
-        ≡ decided (first_broken (room_by t (length r) false (folded_sums t r (taken_by r gone + taken_by r (found_mode r)) 80))) Put
+        ≡ decided (first_broken (room_by t (length r) false (folded_sums t r (taken_by r gone + taken_by r (found_mode r)) 80))) (Ok Put)
     unfolding transition_of
     transition-kept =
-        ap (λ (o : Option Rule). decided o Put)
+        ap (λ (o : Option Rule). decided o (Ok Put))
         (ap (λ (cs : List Change). first_broken (transition_rules t barred cs ++ ((Room, rule13 t (length r) cs vs) ∷ []))) (sym its-changes)
         ∙ broken-append (transition_rules t barred (transition (mode_by_def r) to)) ((Room, rule13 t (length r) (transition (mode_by_def r) to) vs) ∷ [])
         ∙ ap (λ (o : Option Rule). or_else o (first_broken ((Room, rule13 t (length r) (transition (mode_by_def r) to) vs) ∷ []))) kept
@@ -209,11 +204,11 @@ module _ (r : List ℕ) (sounds : sound r ≡ true) (t : Terms) (barred : Key �
     transition-numbers : transition_by (offset_of gone) n ≡ mode_changes to vs
     unfolding transition_by
     transition-numbers =
-        ways (λ (cs : List Change) (g : Found). transition_by (offset_of g) n ≡ cs) (found_pk r) to refl (mode_by_def r) (λ u. rw (ne_eqb (offset_of (found_pk r)) 0 (user-stands u))) known
+        ways (λ (cs : List Change) (g : Found). transition_by (offset_of g) n ≡ cs) (found_pk r) to refl (mode_by_def r) (user-stands n) known
         ∙ its-changes
 
   -- a request that is carried out breaks none of the three
-  pub transition-changes : transition_of t barred to (length r) vs ≡ Put → transition_by (offset_of gone) (byte_of to) ≡ mode_changes to vs
+  pub transition-changes : transition_of t barred to (length r) vs ≡ Ok Put → transition_by (offset_of gone) (byte_of to) ≡ mode_changes to vs
   transition-changes h = go (first_broken (transition_rules t barred (transition (mode_by_def r) to))) refl
     where
       go : (o : Option Rule) → first_broken (transition_rules t barred (transition (mode_by_def r) to)) ≡ o → transition_by (offset_of gone) (byte_of to) ≡ mode_changes to vs
@@ -221,10 +216,10 @@ module _ (r : List ℕ) (sounds : sound r ≡ true) (t : Terms) (barred : Key �
       go (some rule) e = let b = transition-broken rule e in let z : ◌≡◌ {A = ℕ} 0 1 = cc in absurd (omega arith)
 
   -- the offset of PK's entry, where it goes
-  pub gone-offset : offset_of gone ≢ 0 → offset_of gone ≡ offset_of (found_pk r)
+  pub gone-offset : (at : ℕ) → offset_of gone ≡ Some at → offset_of (found_pk r) ≡ Some at
   unfolding lost_by
-  gone-offset = go (any removes (transition (mode_by_def r) to))
+  gone-offset at = go (any removes (transition (mode_by_def r) to))
     where
-      go : (b : Bool) → offset_of (cond b (found_pk r) Nothing) ≢ 0 → offset_of (cond b (found_pk r) Nothing) ≡ offset_of (found_pk r)
-      go true n = refl
-      go false n = absurd (n refl)
+      go : (b : Bool) → offset_of (cond b (found_pk r) None) ≡ Some at → offset_of (found_pk r) ≡ Some at
+      go true n = n
+      go false n = let z : ◌≡◌ {A = ℕ} 0 1 = cc in absurd (omega arith)

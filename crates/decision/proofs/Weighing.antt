@@ -25,24 +25,22 @@ use Rattle.model.proofs.Chunks.{sound-parts}
 use Rattle.model.proofs.Space.{sizes-split, old-counts}
 use Rattle.region.specs.Walk.{entry_at}
 use Rattle.values.specs.Found.{found_of}
-use Rattle.values.specs.declared.Found.{Found}
-use Rattle.values.specs.declared.Found.TheVariants as found
+use Rattle.std.specs.Prelude.{Result, Some, None, Ok, Err}
 use Rattle.values.proofs.Sizes.{sizes-within}
 use Rattle.session.specs.Said.{terms_with}
 use Rattle.profile.specs.declared.Setting.{Setting}
 use Rattle.profile.specs.Reader.{request_in}
 use Rattle.profile.specs.Folded.{leave_at}
 use Rattle.session.specs.declared.Locks.{Locks}
-use Rattle.decision.specs.declared.Judged.TheVariants.{Kept}
 use Rattle.decision.specs.declared.Weight.{Weight}
-use Rattle.decision.specs.declared.Decision.{Decision}
-use Rattle.decision.specs.declared.Decision.TheVariants.{Put}
+use Rattle.decision.specs.declared.Change as told
+use Rattle.decision.specs.declared.Change.TheVariants.{Put}
 use Rattle.decision.specs.Decision.{request_of, kind_of, decided, tried_of}
-use Rattle.decision.specs.Parts.{judged_of, on_found, value_at, new_size}
+use Rattle.decision.specs.Parts.{Found, on_found, value_at, new_size}
 use Rattle.decision.specs.Profile.{told_of, limits_of, gone_size, comes_size, leaving_by, weight_by, ItemWeighed}
 use Rattle.decision.proofs.Old.{old_value}
 use Rattle.decision.proofs.Assembled.{new-entry, puts-new}
-use Rattle.decision.proofs.Accepted.{tried-named}
+use Rattle.decision.proofs.Accepted.{decided-none, tried-named}
 
 -- the offset of what was found
 place_found : (o : Option walk.Entry) → on_found (found_of o) (λ at e. at) 0 ≡ on_some o (λ e. e.at) 0
@@ -51,8 +49,8 @@ place_found none = refl
 
 -- and its size
 size-found : (r : List ℕ) (old : Found) → on_found old (λ at e. entry_size_def (walk.entry_value_def (entry_at r at e))) 0 ≡ on_some (value_at r old) entry_size_def 0
-size-found r (found.At at e) = refl
-size-found r found.Nothing = refl
+size-found r (Some p) = refl
+size-found r None = refl
 
 -- a value of the region takes no more than the region
 size_fits : (r : List ℕ) → sound r ≡ true → (q : Request) → on_some (find (request_key q) (values (entries r))) entry_size_def 0 ≤ length r
@@ -62,12 +60,11 @@ size_fits r sounds q =
     let here = old-counts (λ v. true) (request_key q) vs distinct in
     omega (arith, here, sizes-split authenticated (λ v. true) vs, sizes-within authenticated r)
 
--- what is said of an item by the first rule that it breaks and by its change
-record Weighs (r : List ℕ) (q : Request) (o : Option Rule) (c : Change) (w : Weight) : Type 0 where
-  judged : w.judged ≡ judged_of o
-  left : w.judged ≡ Kept → w.at ≡ leave_at (entries r) q c
-  gone : w.judged ≡ Kept → w.gone ≡ gone_size c (find (request_key q) (values (entries r)))
-  comes : w.judged ≡ Kept → w.comes ≡ comes_size c
+-- what is said of an item by its change
+record Weighs (r : List ℕ) (q : Request) (c : Change) (w : Weight) : Type 0 where
+  left : w.at ≡ leave_at (entries r) q c
+  gone : w.gone ≡ gone_size c (find (request_key q) (values (entries r)))
+  comes : w.comes ≡ comes_size c
   few-gone : w.gone ≤ length r
   few-come : w.comes ≤ 2236
 
@@ -81,57 +78,50 @@ module _ (r : List ℕ) (sounds : sound r ≡ true) (q : Request) (old : Found) 
   size : on_found old (λ at e. entry_size_def (walk.entry_value_def (entry_at r at e))) 0 ≡ on_some (find (request_key q) (values (entries r))) entry_size_def 0
   size = size-found r old ∙ ap (λ (o : Option Value). on_some o entry_size_def 0) (old_value r sounds (request_key q) old h)
 
-  weighs : (o : Option Rule) (c : Change) (n : ℕ) → ((v : Value) → c ≡ put v → n ≡ entry_size_def v) → (decided o (kind_of c) ≡ Put → n ≤ 2236)
-      → Weighs r q o c (weight_by r old (decided o (kind_of c)) n)
+  weighs : (c : Change) (what : told.Change) (n : ℕ) → Ok what ≡ kind_of c → ((v : Value) → c ≡ put v → n ≡ entry_size_def v) → (what ≡ Put → n ≤ 2236)
+      → Weighs r q c (weight_by r old what n)
   unfolding weight_by leaving_by leave_at gone_size comes_size
-  weighs (some rule) c n e f = record {
-    judged = refl;
-    left = λ k. let z : ◌≡◌ {A = ℕ} 0 1 = cc in absurd (omega arith);
-    gone = λ k. let z : ◌≡◌ {A = ℕ} 0 1 = cc in absurd (omega arith);
-    comes = λ k. let z : ◌≡◌ {A = ℕ} 0 1 = cc in absurd (omega arith);
-    few-gone = omega arith;
-    few-come = omega arith;
-  }
-  weighs none nothing n e f = record { judged = refl; left = λ k. refl; gone = λ k. refl; comes = λ k. refl; few-gone = omega arith; few-come = omega arith }
-  weighs none (remove k) n e f = record {
-    judged = refl;
-    left = λ k. place;
-    gone = λ k. size;
-    comes = λ k. refl;
-    few-gone = omega (arith, size, size_fits r sounds q);
-    few-come = omega arith;
-  }
-  weighs none (put v) n e f = record {
-    judged = refl;
-    left = λ k. place;
-    gone = λ k. size;
-    comes = λ k. e v refl;
-    few-gone = omega (arith, size, size_fits r sounds q);
-    few-come = f refl;
-  }
+  weighs nothing what n k e f =
+      let same : what ≡ told.TheVariants.Nothing = cc in
+      rw same (record { left = refl; gone = refl; comes = refl; few-gone = omega arith; few-come = omega arith })
+  weighs (remove j) what n k e f =
+      let same : what ≡ told.TheVariants.Remove = cc in
+      rw same (record { left = place; gone = size; comes = refl; few-gone = omega (arith, size, size_fits r sounds q); few-come = omega arith })
+  weighs (put v) what n k e f =
+      let same : what ≡ Put = cc in
+      let few = f same in
+      rw same (record { left = place; gone = size; comes = e v refl; few-gone = omega (arith, size, size_fits r sounds q); few-come = few })
 
-  -- an item, by what it comes to before room and the size of the data that it would store
-  pub item-weighed : length r ≤ 28672 → (t : Terms) (ls : List Limit) (what : Decision) (n : ℕ) → what ≡ tried_of ls t q (values (entries r))
+  -- an item that breaks a rule
+  pub item-breaks : (t : Terms) (ls : List Limit) (rule : Rule) → Err rule ≡ tried_of ls t q (values (entries r)) → ItemWeighed t ls q r (Err rule)
+  unfolding tried_of
+  item-breaks t ls rule d =
+      let vs : List Value = values (entries r) in
+      go (first_broken (item_rules t q vs ++ setting_rules ls q (find (request_key q) vs))) (change_in q vs) d
+    where
+      go : (o : Option Rule) (c : Change) → Err rule ≡ decided o (kind_of c) → o ≡ some rule
+      go (some x) c e = let i : rule ≡ x = cc in ap some (sym i)
+      go none nothing e = let z : ◌≡◌ {A = ℕ} 0 1 = cc in absurd (omega arith)
+      go none (remove j) e = let z : ◌≡◌ {A = ℕ} 0 1 = cc in absurd (omega arith)
+      go none (put v) e = let z : ◌≡◌ {A = ℕ} 0 1 = cc in absurd (omega arith)
+
+  -- an item, by what it does and the size of the data that it would store
+  pub item-weighed : length r ≤ 28672 → (t : Terms) (ls : List Limit) (what : told.Change) (n : ℕ) → Ok what ≡ tried_of ls t q (values (entries r))
       → n ≡ new_size r old q.attributes (length (data_proper q)) → (what ≡ Put → n ≤ 2048) → (w : Weight) → w ≡ weight_by r old what (rounded (header_size_def + length q.name + n))
-      → ItemWeighed t ls q r w
+      → ItemWeighed t ls q r (Ok w)
   unfolding tried_of
   item-weighed fits t ls what n d m small w e =
       let vs : List Value = values (entries r) in
       let rules : List (Rule × Bool) = item_rules t q vs ++ setting_rules ls q (find (request_key q) vs) in
       let size : ℕ = rounded (header_size_def + length q.name + n) in
-      let few : decided (first_broken rules) (kind_of (change_in q vs)) ≡ Put → size ≤ 2236 =
-      λ k. omega (arith, small (d ∙ k), tried-named ls t q vs k) in
+      let p = decided-none (first_broken rules) (kind_of (change_in q vs)) (Ok what) (sym d) refl in
+      let few : what ≡ Put → size ≤ 2236 = λ k. omega (arith, small k, tried-named ls t q vs (sym d ∙ ap Ok k)) in
       let new : (v : Value) → change_in q vs ≡ put v → size ≡ entry_size_def v =
       λ v k. ap (λ (x : ℕ). rounded (header_size_def + length q.name + x)) m ∙ new-entry t q r sounds old h ∙ ap entry_size_def (sym (puts-new t q r sounds old h v k)) in
-      let all : Weighs r q (first_broken rules) (change_in q vs) w =
-      rw (e, d) (weighs (first_broken rules) (change_in q vs) size new few) in record {
-        judged = all.judged;
-        left = all.left;
-        gone = all.gone;
-        comes = all.comes;
-        few-gone = omega (arith, all.few-gone);
-        few-come = all.few-come;
-      }
+      let all : Weighs r q (change_in q vs) w = rw e (weighs (change_in q vs) what size (sym p.1) new few) in (
+        p.0,
+        record { left = all.left; gone = all.gone; comes = all.comes; few-gone = omega (arith, all.few-gone); few-come = all.few-come },
+      )
 
 -- ---- an item of a file, read at its place
 
@@ -141,7 +131,7 @@ module _ (said : Terms) (held : Locks) (locks table file : List ℕ) (s : Settin
   unfolding request_in
   read-item = rw (n, v, b)
 
-  pub item-read : (t : Terms) (r : List ℕ) (w : Weight) → t ≡ told_of said held locks (keyed name vendor)
+  pub item-read : (t : Terms) (r : List ℕ) (w : Result Weight Rule) → t ≡ told_of said held locks (keyed name vendor)
       → ItemWeighed t (limits_of t table (keyed name vendor)) (request_of name vendor s.attributes bytes 0 0) r w
       → ItemWeighed (told_of said held locks (request_key (request_in file s))) (limits_of said table (request_key (request_in file s))) (request_in file s) r w
   unfolding terms_with

@@ -1,6 +1,6 @@
 -- The decision on a set: the first broken of rules 3 to 13, 17, 18, 21, 22 and 24, or what the set does to the values.
-use Rattle.std.specs.Prelude.{ℕ, Bool, cond, List, [], ◌∷◌, ◌++◌, eqb}
-use Rattle.std.proofs.Math.Option.{Option, none, some}
+use Rattle.std.specs.Prelude.{ℕ, Bool, cond, List, [], ◌∷◌, ◌++◌, Option, Some, None, Result, Ok, Err}
+use Rattle.std.proofs.Math.Option.{Option as Maybe, none, some}
 use Rattle.model.specs.declared.Terms.{Terms}
 use Rattle.model.specs.declared.Rule.{Rule}
 use Rattle.model.specs.Lists.{on_some}
@@ -10,8 +10,12 @@ use Rattle.model.specs.Request.{Request, request_key, key_mode, deployed_mode, m
 use Rattle.model.specs.Change.{Change, nothing, remove, put, change_in, changes_of}
 use Rattle.model.specs.Rules.{first_broken, item_rules, setting_rules, room_rules}
 use Rattle.model.specs.Limits.{Limit}
-use Rattle.decision.specs.declared.Decision.{Decision}
-use Rattle.decision.specs.declared.Decision.TheVariants.{Broken, Nothing, Remove, Put}
+use Rattle.decision.specs.declared.Change as told
+use Rattle.decision.specs.declared.Change.TheVariants.{Nothing, Remove, Put}
+
+-- the first broken rule, or what a set does
+abbrev pub Decision : Type 0
+Decision = Result told.Change Rule
 
 -- a request by its arguments
 abbrev pub request_of : List ℕ → List ℕ → ℕ → List ℕ → ℕ → ℕ → Request
@@ -26,13 +30,13 @@ request_of name vendor a bytes presence verdict = record {
 
 -- what a change does, without the value
 abbrev pub kind_of : Change → Decision
-kind_of nothing = Nothing
-kind_of (remove k) = Remove
-kind_of (put v) = Put
+kind_of nothing = Ok Nothing
+kind_of (remove k) = Ok Remove
+kind_of (put v) = Ok Put
 
 -- the first broken rule, or the change
-abbrev pub decided : Option Rule → Decision → Decision
-decided broken what = on_some broken (λ rule. Broken rule) what
+abbrev pub decided : Maybe Rule → Decision → Decision
+decided broken what = on_some broken (λ rule. Err rule) what
 
 -- by rules 3 to 12, 17, 22 and 24, over these values
 unfoldable pub item_of : Terms → Request → List Value → Decision
@@ -50,12 +54,11 @@ decision_of ls t r size vs =
     (kind_of (change_in r vs))
 
 -- the rule that a decision names, if any
-abbrev pub broken_of : Decision → Option Rule
-broken_of (Broken rule) = some rule
-broken_of Nothing = none
-broken_of Remove = none
-broken_of Put = none
+abbrev pub broken_of : Decision → Maybe Rule
+broken_of (Err rule) = some rule
+broken_of (Ok c) = none
 
--- PlatMode's change that goes with one of PK, by the offset of its entry, 0 if there is none, and by whether a 3 comes in its place
-unfoldable pub beside_by : ℕ → Bool → List Change
-beside_by at deploys = cond (eqb at 0) [] (cond deploys (put (mode_value deployed_mode) ∷ []) (remove key_mode ∷ []))
+-- PlatMode's change that goes with one of PK, by the offset of its entry, if there is one, and by whether a 3 comes in its place
+unfoldable pub beside_by : Option ℕ → Bool → List Change
+beside_by None deploys = []
+beside_by (Some at) deploys = cond deploys (put (mode_value deployed_mode) ∷ []) (remove key_mode ∷ [])

@@ -6,8 +6,7 @@ use Rattle.model.specs.Entry.{entry_size_def}
 use Rattle.model.specs.Walk.{entry_value_def}
 use Rattle.model.specs.Request.{deployed_mode, mode_value}
 use Rattle.region.specs.Walk.{entry_at}
-use Rattle.values.specs.declared.Found.{Found}
-use Rattle.decision.specs.Parts.{on_found, room_by}
+use Rattle.decision.specs.Parts.{Found, on_found, room_by}
 use Rattle.decision.specs.Profile.{folded_sums}
 
 -- the rounded size of the entry that was found

@@ -1,5 +1,5 @@
 -- 02 (j), "Audit and deployed modes", for the code: what is decided of a mode request.
-use Rattle.std.specs.Prelude.{ℕ, Bool, cond, ◌&&◌, ◌||◌, List, [], ◌∷◌, ◌++◌, eqb}
+use Rattle.std.specs.Prelude.{ℕ, Bool, cond, ◌&&◌, ◌||◌, List, [], ◌∷◌, ◌++◌, eqb, Option, Some, None, Ok}
 use Rattle.model.specs.declared.PlatMode.{PlatMode}
 use Rattle.model.specs.declared.Terms.{Terms}
 use Rattle.model.specs.declared.Rule.{Rule}
@@ -12,11 +12,9 @@ use Rattle.model.specs.Change.{Change, remove, put, transition, mode_changes}
 use Rattle.model.specs.Rules.{first_broken, removes, rule13, rule22, rule24}
 use Rattle.session.specs.Said.{barred_by}
 use Rattle.session.specs.declared.Locks.{Locks}
-use Rattle.values.specs.declared.Found.{Found}
-use Rattle.values.specs.declared.Found.TheVariants as found
-use Rattle.decision.specs.declared.Decision.{Decision}
-use Rattle.decision.specs.declared.Decision.TheVariants.{Put}
-use Rattle.decision.specs.Decision.{decided}
+use Rattle.decision.specs.declared.Change.TheVariants.{Put}
+use Rattle.decision.specs.Decision.{Decision, decided}
+use Rattle.decision.specs.Parts.{Found}
 
 -- a lock bars this name
 abbrev pub barring : Locks → List ℕ → Key → Bool
@@ -33,16 +31,17 @@ transition_rules t barred cs =
 -- by these and 13, over a region of so many bytes with these values
 unfoldable pub transition_of : Terms → (Key → Bool) → ℕ → ℕ → List Value → Decision
 transition_of t barred to size vs =
-    decided (first_broken (transition_rules t barred (mode_changes to vs) ++ ((Room, rule13 t size (mode_changes to vs) vs) ∷ []))) Put
+    decided (first_broken (transition_rules t barred (mode_changes to vs) ++ ((Room, rule13 t size (mode_changes to vs) vs) ∷ []))) (Ok Put)
 
 -- what is there of PK, if the request loses it
 unfoldable pub lost_by : Found → PlatMode → ℕ → Found
-lost_by pk m to = cond (any removes (transition m to)) pk found.Nothing
+lost_by pk m to = cond (any removes (transition m to)) pk None
 
 -- the byte to store
 unfoldable pub byte_of : ℕ → ℕ
 byte_of to = cond (eqb to audit_mode) audit_mode deployed_mode
 
--- a request's changes by the offset of PK's entry if that goes, else 0, and the byte to store
-unfoldable pub transition_by : ℕ → ℕ → List Change
-transition_by pk byte = cond (eqb pk 0) (put (mode_value byte) ∷ []) (remove key_pk ∷ put (mode_value byte) ∷ [])
+-- a request's changes by the offset of PK's entry if that goes, and the byte to store
+unfoldable pub transition_by : Option ℕ → ℕ → List Change
+transition_by None byte = put (mode_value byte) ∷ []
+transition_by (Some at) byte = remove key_pk ∷ put (mode_value byte) ∷ []

@@ -1,6 +1,6 @@
 -- The parts in which a set is judged, by what each looks at: the value that stands is known by its entry's offset and numbers.
-use Rattle.std.specs.Prelude.{ℕ, ◌+◌, ◌-◌, ◌≤◌, Bool, true, false, not, cond, ◌&&◌, ◌||◌, List, [], ◌∷◌, ◌++◌, length, drop, eqb, ltb}
-use Rattle.std.proofs.Math.Option.{Option, none, some}
+use Rattle.std.specs.Prelude.{ℕ, ◌+◌, ◌-◌, ◌≤◌, Bool, true, false, not, cond, ◌&&◌, ◌||◌, List, [], ◌∷◌, ◌++◌, ◌≡◌, length, drop, eqb, ltb, Option, Some, None, Result, Ok, Err}
+use Rattle.std.proofs.Math.Option.{Option as Maybe, none, some}
 use Rattle.model.specs.declared.PlatMode.{PlatMode}
 use Rattle.model.specs.declared.PlatMode.TheVariants as mode
 use Rattle.model.specs.declared.Rule.{Rule}
@@ -19,28 +19,32 @@ use Rattle.model.specs.Rules.{rule7, rule8, rule9, rule24_set}
 use Rattle.layout.specs.declared.Entry as numbers
 use Rattle.region.specs.Walk.{entry_at, stamp_at}
 use Rattle.values.specs.Found.{found_of, old_data_def}
-use Rattle.values.specs.declared.Found.{Found}
-use Rattle.values.specs.declared.Found.TheVariants as found
+use Rattle.region.specs.declared.Placed.{Placed}
 use Rattle.policy.specs.Descriptor.{stamp_in_def}
-use Rattle.decision.specs.declared.Judged.{Judged}
-use Rattle.decision.specs.declared.Judged.TheVariants.{Kept, Breaks}
 use Rattle.decision.specs.declared.NewValue.{NewValue}
 use Rattle.decision.specs.declared.Sums.{Sums}
-use Rattle.decision.specs.declared.Decision.{Decision}
-use Rattle.decision.specs.declared.Decision.TheVariants.{Broken, Nothing, Remove, Put}
+use Rattle.decision.specs.declared.Tried.{Tried}
+use Rattle.decision.specs.declared.Joined.{Joined}
+use Rattle.decision.specs.declared.Change.TheVariants.{Nothing, Remove, Put}
+use Rattle.decision.specs.Decision.{Decision, beside_by}
+use Rattle.model.specs.Change as change
 
 -- the first broken of some rules, if any
-abbrev pub judged_of : Option Rule → Judged
-judged_of none = Kept
-judged_of (some rule) = Breaks rule
+abbrev pub judged_of : Maybe Rule → Result (Unit {0}) Rule
+judged_of none = Ok tt
+judged_of (some rule) = Err rule
+
+-- what was found: an entry at its place
+abbrev pub Found : Type 0
+Found = Option Placed
 
 -- by what was found: f of it, or d
 abbrev pub on_found : {A : Type 0} → Found → (ℕ → numbers.Entry → A) → A → A
-on_found (found.At at e) f d = f at e
-on_found found.Nothing f d = d
+on_found (Some p) f d = f p.at p.entry
+on_found None f d = d
 
 -- the value that was found, if any
-abbrev pub value_at : List ℕ → Found → Option Value
+abbrev pub value_at : List ℕ → Found → Maybe Value
 value_at r old = on_found old (λ at e. some (entry_value_def (entry_at r at e))) none
 
 -- a value stands
@@ -65,27 +69,27 @@ mode_by_def r =
     (cond (stores_by r deployed_mode (found_mode r)) mode.Deployed mode.User)
     (cond (stores_by r audit_mode (found_mode r)) mode.Audit mode.Setup)
 
--- the offset of what was found; 0, where no entry is, if nothing was
-abbrev pub offset_of : Found → ℕ
-offset_of there = on_found there (λ at e. at) 0
+-- the offset of what was found
+abbrev pub offset_of : Found → Option ℕ
+offset_of there = on_found there (λ at e. Some at) None
 
 -- a set takes out the value of its name, or puts one where none stands
 abbrev pub moves_by : Decision → Found → Bool
-moves_by (Broken rule) old = false
-moves_by Nothing old = false
-moves_by Remove old = true
-moves_by Put old = not (stands old)
+moves_by (Err rule) old = false
+moves_by (Ok Nothing) old = false
+moves_by (Ok Remove) old = true
+moves_by (Ok Put) old = not (stands old)
 
 -- what was found of PlatMode that changes with it: where it is PK that comes or goes
 unfoldable pub beside_found : List ℕ → Decision → Found → Key → Found
-beside_found r what old k = cond (moves_by what old && same_key_def k key_pk) (found_mode r) found.Nothing
+beside_found r what old k = cond (moves_by what old && same_key_def k key_pk) (found_mode r) None
 
 -- a 3 comes in the place of what was found of PlatMode: PK comes in audit mode
 abbrev pub deploys_by : List ℕ → Decision → Found → Bool
-deploys_by r (Broken rule) there = false
-deploys_by r Nothing there = false
-deploys_by r Remove there = false
-deploys_by r Put there = stores_by r audit_mode there
+deploys_by r (Err rule) there = false
+deploys_by r (Ok Nothing) there = false
+deploys_by r (Ok Remove) there = false
+deploys_by r (Ok Put) there = stores_by r audit_mode there
 
 -- rules 7 and 8, by whether the phase is runtime, attributes, data and what stands
 unfoldable pub standing_by : Bool → ℕ → List ℕ → Found → List (Rule × Bool)
@@ -111,7 +115,7 @@ equal_by r old a proper = on_found old (λ at e. equal_to a proper e.attributes 
 -- what a set asks for, by what stands, attributes and data proper
 unfoldable pub kind_by : List ℕ → Found → ℕ → List ℕ → Decision
 kind_by r old a proper =
-    cond (deletes a (length proper)) Remove (cond (empty_append_def a (length proper) || equal_by r old a proper) Nothing Put)
+    cond (deletes a (length proper)) (Ok Remove) (cond (empty_append_def a (length proper) || equal_by r old a proper) (Ok Nothing) (Ok Put))
 
 -- the data that an append keeps
 unfoldable pub kept_data_def : List ℕ → Found → ℕ → List ℕ
@@ -183,10 +187,10 @@ room_after_def t r old own error size = room_by t (length r) error (sums_after t
 
 -- rule 11 on a delete, rule 12 on a value to put
 unfoldable pub result_by : Bool → Decision → ℕ → Decision
-result_by there (Broken rule) size = Broken rule
-result_by there Nothing size = Nothing
-result_by there Remove size = cond there Remove (Broken Absent)
-result_by there Put size = cond (ltb max_data size) (Broken DataSize) Put
+result_by there (Err rule) size = Err rule
+result_by there (Ok Nothing) size = Ok Nothing
+result_by there (Ok Remove) size = cond there (Ok Remove) (Err Absent)
+result_by there (Ok Put) size = cond (ltb max_data size) (Err DataSize) (Ok Put)
 
 -- what a set that breaks none of rules 3 to 10 comes to: by what stands, attributes, data proper, and the size of the data that would stand
 unfoldable pub outcome_by : List ℕ → Found → ℕ → List ℕ → ℕ → Decision
@@ -194,14 +198,22 @@ outcome_by r old a proper size = result_by (stands old) (kind_by r old a proper)
 
 -- rule 21, by whether one of the rules for the name is broken
 unfoldable pub limited_by : Bool → Decision → Decision
-limited_by forbidden (Broken rule) = Broken rule
-limited_by forbidden Nothing = cond forbidden (Broken Setting) Nothing
-limited_by forbidden Remove = cond forbidden (Broken Setting) Remove
-limited_by forbidden Put = cond forbidden (Broken Setting) Put
+limited_by forbidden (Err rule) = Err rule
+limited_by forbidden (Ok c) = cond forbidden (Err Setting) (Ok c)
 
 -- room for a value to put
-unfoldable pub roomed_by : Decision → Option Rule → Decision
-roomed_by (Broken rule) full = Broken rule
-roomed_by Nothing full = Nothing
-roomed_by Remove full = Remove
-roomed_by Put full = on_some full (λ rule. Broken rule) Put
+unfoldable pub roomed_by : Decision → Maybe Rule → Decision
+roomed_by (Err rule) full = Err rule
+roomed_by (Ok Nothing) full = Ok Nothing
+roomed_by (Ok Remove) full = Ok Remove
+roomed_by (Ok Put) full = on_some full (λ rule. Err rule) (Ok Put)
+
+-- what a set comes to before room is asked: the decision, and the size of the data that a value to put would have
+abbrev pub TriedAs : Decision → ℕ → Result Tried Rule → Type 0
+TriedAs d size (Err rule) = Err rule ≡ d
+TriedAs d size (Ok t) = (Ok t.what ≡ d) × (t.size ≡ size) × (t.what ≡ Put → t.size ≤ 2048)
+
+-- what it comes to in the end: the decision, PlatMode's change that goes with it, and the offset of what was found there
+abbrev pub JoinedAs : Decision → List change.Change → Found → Result Joined Rule → Type 0
+JoinedAs d beside mode (Err rule) = Err rule ≡ d
+JoinedAs d beside mode (Ok j) = (Ok j.what ≡ d) × (beside_by j.beside j.deploys ≡ beside) × ((at : ℕ) → j.beside ≡ Some at → offset_of mode ≡ Some at)

@@ -9,10 +9,10 @@ ghost use Rattle.model.specs.Rules.{first_broken};
 ghost use Rattle.decision.specs.Parts.{moves_by, beside_found, deploys_by, roomed_by};
 ghost use Rattle.decision.specs.Joint.{taken_by, coming_by, joint_after};
 
-use crate::{Decision, Judged, change, joint, rules};
+use crate::{Change, joint, rules};
 use layout::fixed;
-use model::{Layout, Terms};
-use values::Found;
+use model::{Layout, Rule, Terms};
+use region::Placed;
 
 // The byte that PlatMode stores in audit mode.
 const AUDIT: u8 = 2;
@@ -21,38 +21,40 @@ const AUDIT: u8 = 2;
 const MODE_ENTRY: usize = 80;
 
 // Whether a set takes out the value of its name, or puts one where none is.
-fn moves(what: Decision, old: Found) -> bool
-    ensures { result ≡ moves_by what old }
+fn moves(what: Change, old: Option<Placed>) -> bool
+    ensures { result ≡ moves_by (Ok what) old }
 {
     match what {
-        Decision::Remove => true,
-        Decision::Put => !change::stands(old),
-        Decision::Nothing => false,
-        Decision::Broken(_) => false,
+        Change::Remove => true,
+        Change::Put => old.is_none(),
+        Change::Nothing => false,
     }
 }
 
 // What is there of PlatMode that changes too, where it is PK that comes or goes.
-pub fn found(what: Decision, region: &[u8], old: Found, name: &[u8], vendor: &[u8; 16]) -> Found
-    ensures { result ≡ beside_found region.now what old (keyed name.now vendor.now) }
+pub fn found(
+    what: Change,
+    region: &[u8],
+    old: Option<Placed>,
+    name: &[u8],
+    vendor: &[u8; 16],
+) -> Option<Placed>
+    ensures { result ≡ beside_found region.now (Ok what) old (keyed name.now vendor.now) }
 {
-    if moves(what, old) {
-        if fixed::is_pk(name, vendor) {
-            return rules::platform(region);
-        }
+    if moves(what, old) && fixed::is_pk(name, vendor) {
+        return rules::platform(region);
     }
-    Found::Nothing
+    None
 }
 
 // Whether a 3 comes in the place of what is there of PlatMode: PK comes in audit mode.
-pub fn deploys(what: Decision, region: &[u8], there: Found) -> bool
-    ensures { result ≡ deploys_by region.now what there }
+pub fn deploys(what: Change, region: &[u8], there: Option<Placed>) -> bool
+    ensures { result ≡ deploys_by region.now (Ok what) there }
 {
     match what {
-        Decision::Put => rules::stores(region, there, AUDIT),
-        Decision::Remove => false,
-        Decision::Nothing => false,
-        Decision::Broken(_) => false,
+        Change::Put => rules::stores(region, there, AUDIT),
+        Change::Remove => false,
+        Change::Nothing => false,
     }
 }
 
@@ -70,30 +72,26 @@ fn coming(deploys: bool, name: usize, size: usize) -> usize
 
 // A set of PK, judged by room for both changes where a value with so many bytes of data is to be put. A delete needs none.
 pub fn roomed(
-    what: Decision,
+    what: Change,
     t: Terms,
     region: &[u8],
-    old: Found,
-    there: Found,
+    old: Option<Placed>,
+    there: Option<Placed>,
     deploys: bool,
     name: usize,
     size: usize,
-) -> Decision
-    requires region_len_bound { length region.now ≤ 28672 }
-    requires name_bound { what ≡ Decision.Put → (name ≤ 128) × (size ≤ 2048)
+) -> Result<Change, Rule>
+    requires short_region { length region.now ≤ 28672 }
+    requires small_put { what ≡ Change.Put → (name ≤ 128) × (size ≤ 2048)
         × (taken_by region.now old + taken_by region.now there ≤ side_sizes t.vendor t.modem (values (entries region.now))) }
-    ensures { result ≡ roomed_by what (first_broken (joint_after t region.now old there (coming_by deploys (rounded (header_size_def + name + size))))) }
+    ensures { result ≡ roomed_by (Ok what) (first_broken (joint_after t region.now old there (coming_by deploys (rounded (header_size_def + name + size))))) }
 {
     match what {
-        Decision::Put => {
-            let j = joint::room(t, region, old, there, coming(deploys, name, size));
-            match j {
-                Judged::Breaks(rule) => Decision::Broken(rule),
-                Judged::Kept => what,
-            }
+        Change::Put => {
+            joint::room(t, region, old, there, coming(deploys, name, size))?;
+            Ok(what)
         }
-        Decision::Remove => what,
-        Decision::Nothing => what,
-        Decision::Broken(_) => what,
+        Change::Remove => Ok(what),
+        Change::Nothing => Ok(what),
     }
 }

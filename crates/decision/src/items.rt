@@ -10,11 +10,12 @@ ghost use Rattle.profile.specs.Folded.{Folds};
 ghost use Rattle.decision.specs.Decision.{request_of};
 ghost use Rattle.decision.specs.Profile.{told_of, limits_of, weighed_of, Weighable, leaving_by, weight_by, ItemWeighed, ItemsWeighed, folded_sums, roomed_of};
 
-use crate::{Asking, Decision, Judged, Sums, Weighed, Weight, Weights, before_room, change};
-use model::{Layout, Terms};
+use crate::{Asking, Change, Sums, Weighed, Weight, Weights, before_room, effect};
+use model::{Layout, Rule, Terms};
 use profile::{Setting, Settings};
+use region::Placed;
 use session::Locks;
-use values::{Found, list, lookup};
+use values::{list, lookup};
 
 // What is said to an item: as to a set of its name.
 fn told(said: Terms, held: Locks, locks: &[u8], name: &[u8], vendor: &[u8; 16]) -> Terms
@@ -25,31 +26,17 @@ fn told(said: Terms, held: Locks, locks: &[u8], name: &[u8], vendor: &[u8; 16]) 
     session::terms(said, barred, name, vendor)
 }
 
-// An item that changes nothing.
-fn unchanged(judged: Judged) -> Weight
-    ensures { result ≡ record { judged = judged; at = 0; gone = 0; comes = 0 } }
-{
-    Weight {
-        judged,
-        at: 0,
-        gone: 0,
-        comes: 0,
-    }
-}
-
-// An item that breaks no rule and leaves the entry of the value that is there behind, if there is one.
-fn leaving(region: &[u8], old: Found, comes: usize) -> Weight
+// An item that leaves the entry of the value that is there behind, if there is one.
+fn leaving(region: &[u8], old: Option<Placed>, comes: usize) -> Weight
     ensures { result ≡ leaving_by region.now old comes }
 {
     match old {
-        Found::At(at, e) => Weight {
-            judged: Judged::Kept,
+        Some(Placed { at, entry }) => Weight {
             at,
-            gone: list::size_of(Layout::AUTHENTICATED, region, at, e),
+            gone: list::size_of(Layout::AUTHENTICATED, region, at, entry),
             comes,
         },
-        Found::Nothing => Weight {
-            judged: Judged::Kept,
+        None => Weight {
             at: 0,
             gone: 0,
             comes,
@@ -57,16 +44,19 @@ fn leaving(region: &[u8], old: Found, comes: usize) -> Weight
     }
 }
 
-// The weight of an item, by what it comes to before room, and the sizes of its name and of the data that a value to put would have.
-fn weight(region: &[u8], old: Found, what: Decision, name: usize, size: usize) -> Weight
-    requires { (name < 2 ^ 63) × (what ≡ Decision.Put → size ≤ 2048) }
+// The weight of an item, by what it does, and the sizes of its name and of the data that a value to put would have.
+fn weight(region: &[u8], old: Option<Placed>, what: Change, name: usize, size: usize) -> Weight
+    requires { (name < 2 ^ 63) × (what ≡ Change.Put → size ≤ 2048) }
     ensures { result ≡ weight_by region.now old what (rounded (header_size_def + name + size)) }
 {
     match what {
-        Decision::Broken(rule) => unchanged(Judged::Breaks(rule)),
-        Decision::Nothing => unchanged(Judged::Kept),
-        Decision::Remove => leaving(region, old, 0),
-        Decision::Put => leaving(
+        Change::Nothing => Weight {
+            at: 0,
+            gone: 0,
+            comes: 0,
+        },
+        Change::Remove => leaving(region, old, 0),
+        Change::Put => leaving(
             region,
             old,
             layout::entry_size(Layout::AUTHENTICATED, name, size),
@@ -83,7 +73,7 @@ fn weigh_item(
     name: &[u8],
     vendor: &[u8; 16],
     bytes: &[u8],
-) -> Weight
+) -> Result<Weight, Rule>
     requires { (sound region.now ≡ true) × (length region.now ≤ 28672) }
     ensures { ItemWeighed t (limits_of t limits.now (keyed name.now vendor.now))
         (request_of name.now vendor.now attributes bytes.now 0 0) region.now result }
@@ -94,9 +84,8 @@ fn weigh_item(
         presence: 0,
         verdict: 0,
     };
-    let tried = before_room(t, limits, region, old, name, vendor, asking, bytes);
-    let what = tried.what;
-    weight(region, old, what, name.len(), tried.size)
+    let tried = before_room(t, limits, region, old, name, vendor, asking, bytes)?;
+    Ok(weight(region, old, tried.what, name.len(), tried.size))
 }
 
 // An item of the file, weighed so.
@@ -108,7 +97,7 @@ fn weigh_at(
     region: &[u8],
     file: &[u8],
     t: Setting,
-) -> Weight
+) -> Result<Weight, Rule>
     requires { (sound region.now ≡ true) × (length region.now ≤ 28672) × Within (length file.now) t }
     ensures { ItemWeighed (told_of said held locks.now (request_key (request_in file.now t)))
         (limits_of said limits.now (request_key (request_in file.now t))) (request_in file.now t) region.now result }
@@ -129,41 +118,28 @@ fn weigh_items(
     region: &[u8],
     file: &[u8],
     p: Settings,
-) -> Weights
+) -> Result<Weights, Rule>
     requires { Weighable region.now file.now p }
     ensures { ItemsWeighed (told_of said held locks.now) (limits_of said limits.now) (requests_in file.now p) region.now result }
 {
     let list = p.list;
-    let mut leave: [usize; 8] = [0; 8];
+    let mut leave = [0; 8];
     let mut stores = [false; 8];
-    let mut gone: usize = 0;
-    let mut comes: usize = 0;
-    let mut i: usize = 0;
-    while i < p.count {
-        let w = weigh_at(said, held, locks, limits, region, file, list[i]);
-        let judged = w.judged;
-        let Judged::Kept = judged else {
-            return Weights {
-                judged,
-                leave,
-                stores,
-                gone,
-                comes,
-            };
-        };
+    let mut gone = 0;
+    let mut comes = 0;
+    for i in 0..p.count {
+        let w = weigh_at(said, held, locks, limits, region, file, list[i])?;
         leave[i] = w.at;
         stores[i] = w.comes != 0;
         gone += w.gone;
         comes += w.comes;
-        i += 1;
     }
-    Weights {
-        judged: Judged::Kept,
+    Ok(Weights {
         leave,
         stores,
         gone,
         comes,
-    }
+    })
 }
 
 // The sums after the items, of which those that go and come are the side's own.
@@ -182,23 +158,20 @@ pub(crate) fn after(said: Terms, region: &[u8], gone: usize, comes: usize) -> Su
 }
 
 // What items that break no rule come to. An entry has a size: where none comes room is not asked, and where none goes either nothing changes.
-fn roomed(said: Terms, region: &[u8], gone: usize, comes: usize) -> Decision
+fn roomed(said: Terms, region: &[u8], gone: usize, comes: usize) -> Result<Change, Rule>
     requires { (length region.now ≤ 28672) × (comes ≤ 2 ^ 16)
         × (gone ≤ side_sizes said.vendor said.modem (values (entries region.now)) + comes) }
     ensures { result ≡ roomed_of said region.now gone comes }
 {
     if comes == 0 {
         if gone == 0 {
-            return Decision::Nothing;
+            return Ok(Change::Nothing);
         }
-        return Decision::Put;
+        return Ok(Change::Put);
     }
     let sums = after(said, region, gone, comes);
-    let j = change::room(said, region.len(), false, sums);
-    match j {
-        Judged::Breaks(rule) => Decision::Broken(rule),
-        Judged::Kept => Decision::Put,
-    }
+    effect::room(said, region.len(), false, sums)?;
+    Ok(Change::Put)
 }
 
 // What a profile comes to: the first rule that an item breaks; else by room, which is judged after the last. Offsets and flags are told where something changes.
@@ -214,25 +187,23 @@ pub fn weigh(
     requires { Weighable region.now file.now p }
     ensures { (result.what ≡ weighed_of said (told_of said held locks.now) (limits_of said limits.now)
         (requests_in file.now p) (length region.now) (values (entries region.now)))
-        × (result.what ≡ Decision.Put → Folds region.now (requests_in file.now p) result.leave result.stores) }
+        × (result.what ≡ Ok Change.Put → Folds region.now (requests_in file.now p) result.leave result.stores) }
 {
     let w = weigh_items(said, held, locks, limits, region, file, p);
-    let judged = w.judged;
-    let leave = w.leave;
-    let stores = w.stores;
-    match judged {
-        Judged::Breaks(rule) => Weighed {
-            what: Decision::Broken(rule),
-            leave,
-            stores,
-        },
-        Judged::Kept => {
-            let what = roomed(said, region, w.gone, w.comes);
+    match w {
+        Ok(w) => {
+            let leave = w.leave;
+            let stores = w.stores;
             Weighed {
-                what,
+                what: roomed(said, region, w.gone, w.comes),
                 leave,
                 stores,
             }
         }
+        Err(rule) => Weighed {
+            what: Err(rule),
+            leave: [0; 8],
+            stores: [false; 8],
+        },
     }
 }

@@ -7,22 +7,29 @@ ghost use Rattle.decision.specs.Parts.{judged_of, room_by};
 ghost use Rattle.decision.specs.Profile.{folded_sums};
 ghost use Rattle.decision.specs.Joint.{taken_by};
 
-use crate::{Judged, change, items};
-use model::{Layout, Terms};
-use values::{Found, list};
+use crate::{effect, items};
+use model::{Layout, Rule, Terms};
+use region::Placed;
+use values::list;
 
 // The rounded size of the entry that was found.
-fn taken(region: &[u8], old: Found) -> usize
+fn taken(region: &[u8], old: Option<Placed>) -> usize
     ensures { result ≡ taken_by region.now old }
 {
     match old {
-        Found::At(at, e) => list::size_of(Layout::AUTHENTICATED, region, at, e),
-        Found::Nothing => 0,
+        Some(Placed { at, entry }) => list::size_of(Layout::AUTHENTICATED, region, at, entry),
+        None => 0,
     }
 }
 
 // Rules 18 and 13 after changes that take out what was found of PK and of PlatMode, and put `comes` bytes.
-pub(crate) fn room(t: Terms, region: &[u8], pk: Found, mode: Found, comes: usize) -> Judged
+pub(crate) fn room(
+    t: Terms,
+    region: &[u8],
+    pk: Option<Placed>,
+    mode: Option<Placed>,
+    comes: usize,
+) -> Result<(), Rule>
     requires { (length region.now ≤ 28672) × (comes ≤ 2 ^ 16)
         × (taken_by region.now pk + taken_by region.now mode ≤ side_sizes t.vendor t.modem (values (entries region.now)) + comes) }
     ensures { result ≡ judged_of (first_broken (room_by t (length region.now) false
@@ -30,5 +37,5 @@ pub(crate) fn room(t: Terms, region: &[u8], pk: Found, mode: Found, comes: usize
 {
     let gone = taken(region, pk) + taken(region, mode);
     let sums = items::after(t, region, gone, comes);
-    change::room(t, region.len(), false, sums)
+    effect::room(t, region.len(), false, sums)
 }

@@ -1,5 +1,5 @@
 // The platform's mode, and the decision on a mode request over a sound region: rules 22, 6, 24 and 13, in this order.
-ghost use Rattle.std.specs.Prelude.{◌≡◌, ◌≢◌, true, ◌&&◌, ◌||◌, ◌≤◌, length};
+ghost use Rattle.std.specs.Prelude.{ℕ, ◌≡◌, true, ◌&&◌, ◌||◌, ◌≤◌, length};
 ghost use Rattle.model.specs.Lists.{any};
 ghost use Rattle.model.specs.Region.{sound, entries, values, added, replacing};
 ghost use Rattle.model.specs.Request.{key_pk, key_mode, mode_of};
@@ -9,11 +9,12 @@ ghost use Rattle.values.specs.Found.{found_of};
 ghost use Rattle.decision.specs.Parts.{judged_of, found_pk, found_mode, mode_by_def, offset_of};
 ghost use Rattle.decision.specs.Modes.{barring, transition_rules, transition_of, lost_by, byte_of, transition_by};
 
-use crate::{Decision, Judged, change, joint, rules};
+use crate::{Change, joint, rules};
 use layout::fixed;
 use model::{PlatMode, Rule, Terms};
+use region::Placed;
 use session::Locks;
-use values::{Found, Places, lookup};
+use values::{Places, lookup};
 
 // The modes that a request may name, each by the byte that PlatMode stores, and the rounded size of PlatMode's entry.
 const AUDIT: u8 = 2;
@@ -22,17 +23,17 @@ const DEPLOYED: u8 = 3;
 
 const ENTRY: usize = 80;
 
-// What a mode request comes to: the first broken rule or a put; the offset of PK's entry if that goes, else 0; the byte to store; and the places of PlatMode's entries.
+// What a mode request comes to: the first broken rule or a put; the offset of PK's entry if that goes; the byte to store; and the places of PlatMode's entries.
 #[derive(Clone, Copy)]
 pub struct Transition {
-    pub what: Decision,
-    pub pk: usize,
+    pub what: Result<Change, Rule>,
+    pub pk: Option<usize>,
     pub byte: u8,
     pub places: Places,
 }
 
 // What is there of PK.
-pub(crate) fn pk(region: &[u8]) -> Found
+pub(crate) fn pk(region: &[u8]) -> Option<Placed>
     ensures { result ≡ found_pk region.now }
 {
     let name = fixed::pk_name();
@@ -40,22 +41,19 @@ pub(crate) fn pk(region: &[u8]) -> Found
     lookup::find(region, &name, &vendor)
 }
 
-// The offset of what was found, 0 if nothing was.
-pub fn offset(found: Found) -> usize
+// The offset of what was found.
+pub fn offset(found: Option<Placed>) -> Option<usize>
     ensures { result ≡ offset_of found }
 {
-    match found {
-        Found::At(at, _) => at,
-        Found::Nothing => 0,
-    }
+    found.map(|placed| placed.at)
 }
 
 // The mode by what is there: "a 2 beside a PK, a 3 without one .. count as absent".
-fn mode_by(region: &[u8], pk: Found, there: Found) -> PlatMode
+fn mode_by(region: &[u8], pk: Option<Placed>, there: Option<Placed>) -> PlatMode
     requires { (pk ≡ found_pk region.now) × (there ≡ found_mode region.now) }
     ensures { result ≡ mode_by_def region.now }
 {
-    if change::stands(pk) {
+    if pk.is_some() {
         if rules::stores(region, there, DEPLOYED) {
             return PlatMode::Deployed;
         }
@@ -80,7 +78,7 @@ fn loses(m: PlatMode, to: u32) -> bool
     ensures { result ≡ any removes (transition m to) }
 {
     match m {
-        PlatMode::User => to == AUDIT as u32,
+        PlatMode::User => to == u32::from(AUDIT),
         PlatMode::Setup => false,
         PlatMode::Audit => false,
         PlatMode::Deployed => false,
@@ -92,12 +90,12 @@ fn another(m: PlatMode, to: u32) -> bool
     ensures { result ≡ rule24 (transition m to) }
 {
     match m {
-        PlatMode::Setup => to != AUDIT as u32,
+        PlatMode::Setup => to != u32::from(AUDIT),
         PlatMode::User => {
-            if to == AUDIT as u32 {
+            if to == u32::from(AUDIT) {
                 return false;
             }
-            to != DEPLOYED as u32
+            to != u32::from(DEPLOYED)
         }
         PlatMode::Audit => true,
         PlatMode::Deployed => true,
@@ -108,7 +106,7 @@ fn another(m: PlatMode, to: u32) -> bool
 fn byte(to: u32) -> u8
     ensures { result ≡ byte_of to }
 {
-    if to == AUDIT as u32 {
+    if to == u32::from(AUDIT) {
         return AUDIT;
     }
     DEPLOYED
@@ -132,29 +130,29 @@ fn is_barred(held: Locks, locks: &[u8], lost: bool) -> bool
 }
 
 // Rules 22, 6 and 24 in a mode. PlatMode is ours.
-fn judge(said: Terms, held: Locks, locks: &[u8], m: PlatMode, to: u32) -> Judged
+fn judge(said: Terms, held: Locks, locks: &[u8], m: PlatMode, to: u32) -> Result<(), Rule>
     ensures { result ≡ judged_of (first_broken (transition_rules said (barring held locks.now) (transition m to))) }
 {
     if said.modem {
-        return Judged::Breaks(Rule::Side);
+        return Err(Rule::Side);
     }
     if is_barred(held, locks, loses(m, to)) {
-        return Judged::Breaks(Rule::Locked);
+        return Err(Rule::Locked);
     }
     if another(m, to) {
-        return Judged::Breaks(Rule::Mode);
+        return Err(Rule::Mode);
     }
-    Judged::Kept
+    Ok(())
 }
 
 // What is there of PK, if it is lost.
-fn lost(pk: Found, m: PlatMode, to: u32) -> Found
+fn lost(pk: Option<Placed>, m: PlatMode, to: u32) -> Option<Placed>
     ensures { result ≡ lost_by pk m to }
 {
     if loses(m, to) {
         return pk;
     }
-    Found::Nothing
+    None
 }
 
 // These rules and then 13, by what is there of PK, if it is lost, and of PlatMode.
@@ -164,25 +162,17 @@ fn roomed(
     locks: &[u8],
     region: &[u8],
     m: PlatMode,
-    gone: Found,
-    there: Found,
+    gone: Option<Placed>,
+    there: Option<Placed>,
     to: u32,
-) -> Decision
+) -> Result<Change, Rule>
     requires { (sound region.now ≡ true) × (length region.now ≤ 28672) × (m ≡ mode_by_def region.now)
         × (gone ≡ lost_by (found_pk region.now) m to) × (there ≡ found_mode region.now) }
     ensures { result ≡ transition_of said (barring held locks.now) to (length region.now) (values (entries region.now)) }
 {
-    let j = judge(said, held, locks, m, to);
-    match j {
-        Judged::Breaks(rule) => Decision::Broken(rule),
-        Judged::Kept => {
-            let full = joint::room(said, region, gone, there, ENTRY);
-            match full {
-                Judged::Breaks(rule) => Decision::Broken(rule),
-                Judged::Kept => Decision::Put,
-            }
-        }
-    }
+    judge(said, held, locks, m, to)?;
+    joint::room(said, region, gone, there, ENTRY)?;
+    Ok(Change::Put)
 }
 
 // The places of PlatMode's entries.
@@ -201,8 +191,8 @@ pub fn decide(said: Terms, held: Locks, locks: &[u8], region: &[u8], to: u32) ->
     ensures { (result.what ≡ transition_of said (barring held locks.now) to (length region.now) (values (entries region.now)))
         × (result.places.added ≡ found_of (added key_mode (entries region.now)))
         × (result.places.replacing ≡ found_of (replacing key_mode (entries region.now)))
-        × (result.what ≡ Decision.Put → transition_by result.pk result.byte ≡ mode_changes to (values (entries region.now)))
-        × (result.pk ≢ 0 → result.pk ≡ offset_of (found_pk region.now))
+        × (result.what ≡ Ok Change.Put → transition_by result.pk result.byte ≡ mode_changes to (values (entries region.now)))
+        × ((at : ℕ) → result.pk ≡ Some at → offset_of (found_pk region.now) ≡ Some at)
         × (result.byte ≡ byte_of to) }
 {
     let places = places(region);

@@ -7,62 +7,70 @@ ghost use Rattle.policy.specs.Verdict.{verdicts_of};
 ghost use Rattle.decision.specs.Decision.{request_of};
 ghost use Rattle.decision.specs.Parts.{judged_of, on_found, stands, stores_by, found_pk, found_mode, mode_by_def, standing_by, not_later_def, verdict_by};
 
-use crate::Judged;
 use layout::fixed;
 use model::{Layout, Rule, Terms};
 use policy::Wanted;
-use region::walk;
-use values::{Found, lookup};
+use region::{Placed, walk};
+use values::lookup;
 
 // The byte that PlatMode stores in deployed mode.
 const DEPLOYED: u8 = 3;
 
 // Rules 3, 22, 4, 5, 17 and 6, on the call itself.
-pub(crate) fn request(t: Terms, name: &[u8], vendor: &[u8; 16], attributes: u32) -> Judged
+pub(crate) fn request(t: Terms, name: &[u8], vendor: &[u8; 16], attributes: u32) -> Result<(), Rule>
     ensures { result ≡ judged_of (first_broken (request_rules t (request_of name.now vendor.now attributes [] 0 0))) }
 {
     if !slices::is_named(name) {
-        return Judged::Breaks(Rule::Name);
+        return Err(Rule::Name);
     }
     if t.foreign {
-        return Judged::Breaks(Rule::Side);
+        return Err(Rule::Side);
     }
     if policy::attributes_broken(t.runtime, attributes) {
-        return Judged::Breaks(Rule::Attributes);
+        return Err(Rule::Attributes);
     }
     if policy::key_attributes_broken(name, vendor, attributes) {
-        return Judged::Breaks(Rule::KeyAttributes);
+        return Err(Rule::KeyAttributes);
     }
     if policy::record_broken(name, vendor, attributes) {
-        return Judged::Breaks(Rule::RecordName);
+        return Err(Rule::RecordName);
     }
     if t.barred {
-        return Judged::Breaks(Rule::Locked);
+        return Err(Rule::Locked);
     }
-    Judged::Kept
+    Ok(())
 }
 
 // Rule 7, where a value stands.
-fn attributes_differ(runtime: bool, attributes: u32, old: Found) -> bool
+fn attributes_differ(runtime: bool, attributes: u32, old: Option<Placed>) -> bool
     ensures { result ≡ on_found old (λ at e. rule7 runtime attributes e.attributes) false }
 {
     match old {
-        Found::At(_, e) => policy::standing_broken(runtime, attributes, e.attributes),
-        Found::Nothing => false,
+        Some(Placed { entry, .. }) => policy::standing_broken(
+            runtime,
+            attributes,
+            entry.attributes,
+        ),
+        None => false,
     }
 }
 
 // Rules 7 and 8.
-pub fn standing(runtime: bool, attributes: u32, bytes: &[u8], old: Found) -> Judged
+pub fn standing(
+    runtime: bool,
+    attributes: u32,
+    bytes: &[u8],
+    old: Option<Placed>,
+) -> Result<(), Rule>
     ensures { result ≡ judged_of (first_broken (standing_by runtime attributes bytes.now old)) }
 {
     if attributes_differ(runtime, attributes, old) {
-        return Judged::Breaks(Rule::Standing);
+        return Err(Rule::Standing);
     }
     if policy::descriptor_broken(attributes, bytes) {
-        return Judged::Breaks(Rule::Descriptor);
+        return Err(Rule::Descriptor);
     }
-    Judged::Kept
+    Ok(())
 }
 
 // User mode: PK has a value.
@@ -71,15 +79,11 @@ fn user_mode(region: &[u8]) -> bool
 {
     let name = fixed::pk_name();
     let vendor = fixed::global_vendor();
-    let f = lookup::find(region, &name, &vendor);
-    match f {
-        Found::At(_, _) => true,
-        Found::Nothing => false,
-    }
+    lookup::find(region, &name, &vendor).is_some()
 }
 
 // What is there of PlatMode.
-pub fn platform(region: &[u8]) -> Found
+pub fn platform(region: &[u8]) -> Option<Placed>
     ensures { result ≡ found_mode region.now }
 {
     let name = fixed::mode_name();
@@ -88,18 +92,19 @@ pub fn platform(region: &[u8]) -> Found
 }
 
 // Whether what is there of PlatMode stores this mode: "other data or attributes count as absent".
-pub fn stores(region: &[u8], there: Found, mode: u8) -> bool
+pub fn stores(region: &[u8], there: Option<Placed>, mode: u8) -> bool
     ensures { result ≡ stores_by region.now mode there }
 {
     match there {
-        Found::At(at, e) => {
-            if e.attributes != 0x07 {
-                return false;
-            }
+        Some(Placed { at, entry }) => {
             let one = [mode];
-            slices::equal(walk::data_of(Layout::AUTHENTICATED, region, at, e), &one)
+            entry.attributes == 0x07
+                && slices::equal(
+                    walk::data_of(Layout::AUTHENTICATED, region, at, entry),
+                    &one,
+                )
         }
-        Found::Nothing => false,
+        None => false,
     }
 }
 
@@ -138,45 +143,45 @@ pub fn wanted(
 }
 
 // Whether the stamp is not later than that of the value that stands.
-fn not_later(region: &[u8], old: Found, stamp: &[u8; 16]) -> bool
+fn not_later(region: &[u8], old: Option<Placed>, stamp: &[u8; 16]) -> bool
     ensures { result ≡ not_later_def region.now old stamp.now }
 {
     match old {
-        Found::At(at, _) => {
+        Some(Placed { at, .. }) => {
             let own = policy::stamp_in(walk::stamp_of(region, at));
             !policy::later(stamp, &own)
         }
-        Found::Nothing => false,
+        None => false,
     }
 }
 
 // Rules 9, 24 and 10; an append may carry any stamp.
 pub fn verdict(
     region: &[u8],
-    old: Found,
+    old: Option<Placed>,
     name: &[u8],
     vendor: &[u8; 16],
     attributes: u32,
     wanted: Wanted,
     given: u32,
     stamp: &[u8; 16],
-) -> Judged
+) -> Result<(), Rule>
     ensures { result ≡ judged_of (first_broken (verdict_by region.now old (keyed name.now vendor.now) attributes (verdicts_of wanted) given
         stamp.now)) }
 {
     if policy::verdict_broken(wanted, given) {
-        return Judged::Breaks(Rule::Verdict);
+        return Err(Rule::Verdict);
     }
     if fixed::is_mode(name, vendor) {
-        return Judged::Breaks(Rule::Mode);
+        return Err(Rule::Mode);
     }
     if policy::appends(attributes) {
-        return Judged::Kept;
+        return Ok(());
     }
     if policy::verdict_wanted(wanted) {
         if not_later(region, old, stamp) {
-            return Judged::Breaks(Rule::Stamp);
+            return Err(Rule::Stamp);
         }
     }
-    Judged::Kept
+    Ok(())
 }

@@ -5,33 +5,25 @@ use Rattle.model.specs.Name.{keyed}
 use Rattle.model.specs.Region.{entries, values, added, replacing, standing}
 use Rattle.model.specs.Limits.{limits_in}
 use Rattle.values.specs.Found.{else_found}
-use Rattle.values.specs.declared.Found.{Found}
 use Rattle.values.proofs.Finds.{found-else}
 use Rattle.decision.specs.Decision.{request_of}
-use Rattle.decision.specs.Parts.{value_by}
+use Rattle.decision.specs.Parts.{Found, value_by}
 use Rattle.decision.proofs.Assembled.{value-here}
 use Rattle.decision.proofs.Accepted.{put-formed}
 use Rattle.decision.proofs.decide.Goals as goal
 
-pub decide_over-joined-requires : goal.decide_over-joined-requires
+pub decide_over-joined-requires-clause-found_value : goal.decide_over-joined-requires-clause-found_value
 unfolding standing
-decide_over-joined-requires c =
+decide_over-joined-requires-clause-found_value c =
     let a = c.args in
-    let p = c.requires in
     let es = entries a.region.now in
     let k = keyed a.name.now a.vendor.now in
     let l = c.places-places.ensures in
-    record {
-      region_value = p.region_value;
-      region_len_bound = p.region_len_bound;
-      tail_value = p.tail_value;
-      foreign_value = p.foreign_value;
-      value = c.standing-old.ensures ∙ ap₂ else_found l.0 l.1 ∙ sym (found-else (added k es) (replacing k es));
-    }
+    c.standing-old.ensures ∙ ap₂ else_found l.0 l.1 ∙ sym (found-else (added k es) (replacing k es))
 
-pub returns : goal.returns
+pub returns-in-Ok : goal.returns-in-Ok
 unfolding standing
-returns c =
+returns-in-Ok c =
     let a = c.args in
     let p = c.requires in
     let r = a.region.now in
@@ -39,15 +31,14 @@ returns c =
     let k = keyed a.name.now a.vendor.now in
     let q = request_of a.name.now a.vendor.now a.asking.attributes a.bytes.now a.asking.presence a.asking.verdict in
     let l = c.places-places.ensures in
-    let found = c.standing-old.result in
     let here = c.standing-old.ensures in
     let old = here ∙ ap₂ else_found l.0 l.1 ∙ sym (found-else (added k es) (replacing k es)) in
-    let over = c.decide_over-joined.ensures in (
+    let over = c.in-Ok.ensures in (
       over.0,
-      over.1,
+      λ z. over.1,
       over.2,
       l.0,
       l.1,
       λ e. ap (λ (f : Found). value_by r a.name.now a.vendor.now a.bytes.now f c.value-value.result) (sym here)
-          ∙ value-here a.t q r p.region_value found old (put-formed (limits_in a.limits.now a.t.rules k) a.t q (length r) (values es) (sym over.0 ∙ e)) c.value-value.result c.value-value.ensures,
+          ∙ value-here a.t q r p.sound_region c.standing-old.result old (put-formed (limits_in a.limits.now a.t.rules k) a.t q (length r) (values es) (sym over.0 ∙ e)) c.value-value.result c.value-value.ensures,
     )

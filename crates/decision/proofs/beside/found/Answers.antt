@@ -2,20 +2,16 @@
 use mathlib.Core.Path.{sym, ◌∙◌}
 use Rattle.decision.specs.Parts.{beside_found}
 use Rattle.decision.proofs.beside.found.Goals as goal
+use Rattle.decision.proofs.beside.found.Goals.{else-moves-via-then-moves+else-is_pk, else-moves-via-else-moves}
 
 pub returns-then-is_pk : goal.returns-then-is_pk
 unfolding beside_found
-returns-then-is_pk c =
-    let p = c in
-    let m = p in
-    rw (sym m.moves.ensures ∙ m.if-moves.true, sym p.is_pk.ensures ∙ p.if-is_pk.true) c.platform.ensures
+returns-then-is_pk c = rw (sym c.moves.ensures ∙ c.if-moves.true, sym c.is_pk.ensures ∙ c.if-is_pk.true) c.platform.ensures
 
-pub returns-else-is_pk : goal.returns-else-is_pk
+pub returns : goal.returns
 unfolding beside_found
-returns-else-is_pk c =
-    let m = c in
-    rw (sym m.moves.ensures ∙ m.if-moves.true, sym c.is_pk.ensures ∙ c.if-is_pk.false)
-
-pub returns-else-moves : goal.returns-else-moves
-unfolding beside_found
-returns-else-moves c = rw (sym c.moves.ensures ∙ c.if-moves.false)
+returns c =
+    elim c.else-moves.branch [
+      | else-moves-via-then-moves+else-is_pk w ↦ rw (sym c.moves.ensures ∙ w.if-moves.true, sym w.is_pk.ensures ∙ w.if-is_pk.false)
+      | else-moves-via-else-moves w ↦ rw (sym c.moves.ensures ∙ w.if-moves.false)
+    ]

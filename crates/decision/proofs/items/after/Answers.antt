@@ -6,13 +6,11 @@ use Rattle.decision.proofs.items.after.Goals as goal
 
 pub overflow_sub-result : goal.overflow_sub-result
 overflow_sub-result c =
-    let m = c in
-    let s = told-sums m.args.said.vendor m.args.said.modem m.args.region.now c.tally-sums.ensures.0 in
-    omega (arith, m.requires.2, s.own)
+    let s = told-sums c.args.said.vendor c.args.said.modem c.args.region.now c.tally-sums.ensures.0 in
+    omega (arith, c.requires.2, s.own)
 
 pub returns : goal.returns
 unfolding folded_sums
 returns c =
-    let m = c in
-    let s = told-sums m.args.said.vendor m.args.said.modem m.args.region.now c.tally-sums.ensures.0 in
-    (rw (s.records, s.own, s.others), omega (arith, m.requires.0, m.requires.1, c.tally-sums.ensures.1))
+    let s = told-sums c.args.said.vendor c.args.said.modem c.args.region.now c.tally-sums.ensures.0 in
+    (rw (s.records, s.own, s.others), omega (arith, c.requires.0, c.requires.1, c.tally-sums.ensures.1))

@@ -1,6 +1,6 @@
 -- `decision::items::roomed` meets its contract: room is asked where an entry comes. Assumes nothing.
 use mathlib.Core.Bool.{false}
-use mathlib.Core.Path.{◌≡◌, sym, ◌∙◌}
+use mathlib.Core.Path.{◌≡◌, sym}
 use mathlib.Core.Option.{Option, none, some}
 use lib.ListN.{length}
 use borrow.Author.Tests.{eq-eqb, ne_eqb}
@@ -9,6 +9,7 @@ use Rattle.model.specs.Rules.{first_broken}
 use Rattle.decision.specs.Parts.{room_by}
 use Rattle.decision.specs.Profile.{roomed_of}
 use Rattle.decision.proofs.Broken.{kept-none, breaks-some}
+use Rattle.std.proofs.lemmas.Result.{err_from_is_err_and}
 use Rattle.decision.proofs.items.roomed.Goals as goal
 
 pub returns-then-gone-eq0 : goal.returns-then-gone-eq0
@@ -23,20 +24,19 @@ returns-then-comes-eq0 c =
     let a = c.args in
     rw (eq-eqb a.comes 0 c.if-comes-eq0.true, ne_eqb a.gone 0 c.if-gone-eq0.false)
 
-pub returns-in-Breaks : goal.returns-in-Breaks
+pub returns-in_err-room : goal.returns-in_err-room
 unfolding roomed_of
-returns-in-Breaks c =
-    let m = c in
-    let a = m.args in
-    let full : Option Rule = first_broken (room_by a.said (length a.region.now) false m.after-sums.result) in
-    let broken : full ≡ some c.in-Breaks.rule = breaks-some full c.in-Breaks.rule (sym m.room-j.ensures ∙ c.in-Breaks.is) in
-    rw (ne_eqb a.comes 0 m.if-comes-eq0.false, sym m.after-sums.ensures.0, broken)
+returns-in_err-room c =
+    let a = c.args in
+    let full : Option Rule = first_broken (room_by a.said (length a.region.now) false c.after-sums.result) in
+    let broken : full ≡ some c.in_err-room.field-0.0 = breaks-some full c.in_err-room.field-0.0 (sym c.in_err-room.ensures) in
+    let p = err_from_is_err_and c.from_residual.result c.from_residual.ensures.1 in
+    rw (p.1, p.2, ne_eqb a.comes 0 c.if-comes-eq0.false, sym c.after-sums.ensures.0, broken)
 
-pub returns-in-Kept : goal.returns-in-Kept
+pub returns : goal.returns
 unfolding roomed_of
-returns-in-Kept c =
-    let m = c in
-    let a = m.args in
-    let full : Option Rule = first_broken (room_by a.said (length a.region.now) false m.after-sums.result) in
-    let kept : full ≡ none = kept-none full (sym m.room-j.ensures ∙ c.in-Kept.is) in
-    rw (ne_eqb a.comes 0 m.if-comes-eq0.false, sym m.after-sums.ensures.0, kept)
+returns c =
+    let a = c.args in
+    let full : Option Rule = first_broken (room_by a.said (length a.region.now) false c.after-sums.result) in
+    let kept : full ≡ none = kept-none full (sym c.in_ok-room.ensures) in
+    rw (ne_eqb a.comes 0 c.if-comes-eq0.false, sym c.after-sums.ensures.0, kept)

@@ -3,78 +3,65 @@ use Prim.Native.Nat.{ℕ, suc}
 use native.Mathlib.Omega.{arith}
 use mathlib.Core.Path.{◌≡◌, subst}
 use mathlib.Core.List.{map}
-use lib.ListN.{take, drop}
+use lib.ListN.{length, take, drop}
 use Rattle.profile.specs.Reader.{request_in, requests_in}
 use Rattle.decision.specs.Profile.{told_of, limits_of, ItemsPass}
-use Rattle.decision.proofs.Passing.{passed, next, passed_length, passed-next, passed-all, pass-none, pass-next, items-pass, items-break}
-use borrow.Author.Rules.{rules}
+use Rattle.decision.proofs.Passing.{passed, next, passed_length, passed-next, passed-all, pass-none, pass-next, items-break}
+use Rattle.std.proofs.lemmas.Result.{err_from_is_err_and}
 use Rattle.decision.proofs.items.weigh_items.Goals as goal
 
 pub loop-i-init : goal.loop-i-init
 loop-i-init c =
-    let s = c in
-    let a = s.args in (
-      search rules,
-      s.well_formed.1.1.1.1.1.1.0.1.1.1.1.0.1.0.1,
-      omega arith,
-      omega arith,
-      pass-none (told_of a.said a.held a.locks.now) (limits_of a.said a.limits.now) a.region.now,
-    )
+    let a = c.args in
+    (omega arith, omega arith, pass-none (told_of a.said a.held a.locks.now) (limits_of a.said a.limits.now) a.region.now)
 
-pub weigh_at-w-requires : goal.weigh_at-w-requires
-weigh_at-w-requires c =
-    let l = c in
-    let p = l.requires in
-    (p.sounds, p.small, p.within l.loop-i.i c.loop-i-test.true)
+pub weigh_at-requires : goal.weigh_at-requires
+weigh_at-requires c =
+    let p = c.requires in
+    (p.sounds, p.small, p.within c.loop-i.i c.loop-i-test.true)
 
-pub returns-in_default : goal.returns-in_default
+pub returns-in_err-w : goal.returns-in_err-w
 unfolding requests_in
-returns-in_default c =
-    let l = c in
-    let a = l.args in
-    let p = l.requires in
+returns-in_err-w c =
+    let a = c.args in
+    let p = c.requires in
     let f = a.file.now in
-    let i = l.loop-i.i in
-    let inv = l.loop-i.invariant in
-    let h = c.loop-i-test.true in
-    let w = c.weigh_at-w in
-    let all = passed-all f a.p.list i a.p.count h (omega (arith, inv.1, p.few)) in
-    items-break (told_of a.said a.held a.locks.now) (limits_of a.said a.limits.now) a.region.now (passed f a.p.list i) (next f a.p.list i)
-    w.result w.ensures (map (request_in f) (drop (suc i) (take a.p.count a.p.list))) (requests_in f a.p) c.in_default.field-0 all inv.4.kept c.in_default.is
-    l.loop-i.leave l.loop-i.stores l.loop-i.gone l.loop-i.comes (omega (arith, inv.0, inv.3, p.few))
+    let l = c.loop-i in
+    let told = told_of a.said a.held a.locks.now in
+    let limits = limits_of a.said a.limits.now in
+    let eight : length a.p.list ≡ 8 = omega arith in
+    let all = passed-all f a.p.list l.i a.p.count c.loop-i-test.true (omega (arith, eight, p.few)) in
+    let e = err_from_is_err_and c.from_residual.result c.from_residual.ensures.1 in
+    rw (e.1, e.2)
+    (items-break told limits a.region.now (passed f a.p.list l.i) (next f a.p.list l.i) (map (request_in f) (drop (suc l.i) (take a.p.count a.p.list))) (requests_in f a.p)
+    c.in_err-w.field-0.0 all l.invariant.2.kept c.in_err-w.ensures)
 
 pub loop-i-preserved : goal.loop-i-preserved
 loop-i-preserved c =
-    let l = c in
-    let a = l.args in
-    let p = l.requires in
+    let a = c.args in
+    let p = c.requires in
     let f = a.file.now in
-    let i = l.loop-i.i in
-    let inv = l.loop-i.invariant in
-    let h = c.loop-i-test.true in
-    let w = c.weigh_at-w in
+    let l = c.loop-i in
     let told = told_of a.said a.held a.locks.now in
     let limits = limits_of a.said a.limits.now in
-    let long = passed_length f a.p.list i (omega (arith, inv.0, inv.1, p.few)) in
-    let more = pass-next told limits a.region.now (passed f a.p.list i) (next f a.p.list i) w.result w.ensures
-    l.loop-i.leave l.loop-i.stores l.loop-i.gone l.loop-i.comes i inv.4 long (omega (arith, h, p.few)) c.in-Kept.is in (
-      omega (arith, h),
-      inv.1,
-      omega (arith, inv.2, w.ensures.few-gone),
-      omega (arith, inv.3, w.ensures.few-come),
-      rw (passed-next f a.p.list i (omega (arith, h, inv.1, p.few))) more,
+    let eight : length a.p.list ≡ 8 = omega arith in
+    let w = c.in_ok-w in
+    let long = passed_length f a.p.list l.i (omega (arith, eight, p.few)) in
+    let more = pass-next told limits a.region.now (passed f a.p.list l.i) (next f a.p.list l.i) l.leave l.stores l.gone l.comes l.i l.invariant.2 long
+    (omega (arith, c.loop-i-test.true, p.few)) w.w w.ensures.1 w.ensures.0 in (
+      omega (arith, l.invariant.0, w.ensures.1.few-gone),
+      omega (arith, l.invariant.1, w.ensures.1.few-come),
+      rw (passed-next f a.p.list l.i (omega (arith, eight, p.few))) more,
     )
 
 pub returns : goal.returns
 unfolding requests_in
 returns c =
-    let l = c in
-    let a = l.args in
-    let p = l.requires in
+    let a = c.args in
+    let p = c.requires in
     let f = a.file.now in
-    let inv = l.loop-i.invariant in
+    let l = c.loop-i in
     let told = told_of a.said a.held a.locks.now in
     let limits = limits_of a.said a.limits.now in
-    let done : l.loop-i.i ≡ a.p.count = omega (arith, inv.0, c.loop-i-test.false) in
-    let all = subst (λ (n : ℕ). ItemsPass told limits (passed f a.p.list n) a.region.now l.loop-i.leave l.loop-i.stores l.loop-i.gone l.loop-i.comes) done inv.4 in
-    items-pass told limits a.region.now (requests_in f a.p) l.loop-i.leave l.loop-i.stores l.loop-i.gone l.loop-i.comes all (omega (arith, inv.0, inv.3, p.few))
+    let done : l.i ≡ a.p.count = omega arith in
+    (subst (λ (n : ℕ). ItemsPass told limits (passed f a.p.list n) a.region.now l.leave l.stores l.gone l.comes) done l.invariant.2, omega (arith, l.invariant.1, p.few))

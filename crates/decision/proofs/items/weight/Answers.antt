@@ -9,13 +9,9 @@ entry_size-requires c =
     let p = c.requires in
     omega (arith, p.0, p.1 c.in-Put.is)
 
-pub returns-in-Broken : goal.returns-in-Broken
-unfolding weight_by
-returns-in-Broken c = rw c.in-Broken.is c.unchanged.ensures
-
 pub returns-in-Nothing : goal.returns-in-Nothing
 unfolding weight_by
-returns-in-Nothing c = rw c.in-Nothing.is c.unchanged-in-Nothing.ensures
+returns-in-Nothing c = rw c.in-Nothing.is
 
 pub returns-in-Remove : goal.returns-in-Remove
 unfolding weight_by

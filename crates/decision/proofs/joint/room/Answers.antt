@@ -13,8 +13,7 @@ use Rattle.decision.proofs.joint.room.Goals as goal
 
 pub overflow_add-gone : goal.overflow_add-gone
 overflow_add-gone c =
-    let m = c in
-    record { fits = omega (arith, m.requires, own-within m.args.t.vendor m.args.t.modem m.args.region.now, c.taken-2.ensures, c.taken.ensures) }
+    record { fits = omega (arith, c.requires, own-within c.args.t.vendor c.args.t.modem c.args.region.now, c.taken-2.ensures, c.taken.ensures) }
 
 pub returns : goal.returns
 returns c =

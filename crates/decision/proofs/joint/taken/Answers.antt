@@ -2,10 +2,10 @@
 use Rattle.decision.specs.Joint.{taken_by}
 use Rattle.decision.proofs.joint.taken.Goals as goal
 
-pub returns-in-At : goal.returns-in-At
+pub returns-in-Some : goal.returns-in-Some
 unfolding taken_by
-returns-in-At c = rw c.in-At.is c.size_of.ensures
+returns-in-Some c = rw c.in-Some.is c.size_of.ensures
 
-pub returns-in-Nothing : goal.returns-in-Nothing
+pub returns-in-None : goal.returns-in-None
 unfolding taken_by
-returns-in-Nothing c = rw c.in-Nothing.is
+returns-in-None c = rw c.in-None.is

@@ -3,20 +3,21 @@ use mathlib.Core.Bool.{true, false}
 use borrow.Author.Tests.{eq-eqb, ne_eqb}
 use Rattle.model.specs.Rules.{rule24}
 use Rattle.decision.proofs.Transitions.{setup-another, user-another}
+use mathlib.Core.Path.{sym, ◌∙◌}
 use Rattle.decision.proofs.modes.another.Goals as goal
 
-pub returns-then-to : goal.returns-then-to
-returns-then-to c =
+pub returns-then-to-from : goal.returns-then-to-from
+returns-then-to-from c =
     let a = c.args in
-    rw c.in-User.is (user-another a.to true (eq-eqb a.to 2 c.if-to.true))
+    rw c.in-User.is (user-another a.to true (eq-eqb a.to 2 (c.if-to-from.true ∙ c.from-in-User.ensures)))
 
 pub returns-in-Setup : goal.returns-in-Setup
-returns-in-Setup c = rw c.in-Setup.is (setup-another c.args.to)
+returns-in-Setup c = rw (c.in-Setup.is, c.from.ensures) (setup-another c.args.to)
 
-pub returns-else-to : goal.returns-else-to
-returns-else-to c =
+pub returns-else-to-from : goal.returns-else-to-from
+returns-else-to-from c =
     let a = c.args in
-    rw c.in-User.is (user-another a.to false (ne_eqb a.to 2 c.if-to.false))
+    rw (c.in-User.is, c.from-in-User-2.ensures) (user-another a.to false (ne_eqb a.to 2 (λ z. c.if-to-from.false (z ∙ sym c.from-in-User.ensures))))
 
 pub returns-in-Audit : goal.returns-in-Audit
 unfolding rule24

@@ -4,9 +4,8 @@ use Rattle.model.specs.declared.PlatMode.{PlatMode}
 use Rattle.model.specs.Region.{entries, added, replacing, standing}
 use Rattle.model.specs.Request.{key_mode}
 use Rattle.values.specs.Found.{else_found}
-use Rattle.values.specs.declared.Found.{Found}
 use Rattle.values.proofs.Finds.{found-else}
-use Rattle.decision.specs.Parts.{offset_of}
+use Rattle.decision.specs.Parts.{Found, offset_of}
 use Rattle.decision.specs.Modes.{barring, lost_by, transition_by}
 use Rattle.decision.proofs.Transitions.{transition-changes, gone-offset}
 use Rattle.decision.proofs.modes.decide.Goals as goal
@@ -21,12 +20,11 @@ mode_by-m-requires c =
 pub roomed-what-requires : goal.roomed-what-requires
 unfolding standing
 roomed-what-requires c =
-    let s = c in
-    let es = entries s.args.region.now in
+    let es = entries c.args.region.now in
     let l = c.places-places.ensures in
-    let gone = c.lost-gone.ensures ∙ ap (λ (f : Found). lost_by f c.mode_by-m.result s.args.to) c.pk-pk.ensures in (
-      s.requires.0,
-      s.requires.1,
+    let gone = c.lost-gone.ensures ∙ ap (λ (f : Found). lost_by f c.mode_by-m.result c.args.to) c.pk-pk.ensures in (
+      c.requires.0,
+      c.requires.1,
       c.mode_by-m.ensures,
       gone,
       c.standing-there.ensures ∙ ap₂ else_found l.0 l.1 ∙ sym (found-else (added key_mode es) (replacing key_mode es)),
@@ -34,8 +32,7 @@ roomed-what-requires c =
 
 pub returns : goal.returns
 returns c =
-    let s = c in
-    let a = s.args in
+    let a = c.args in
     let r = a.region.now in
     let b = barring a.held a.locks.now in
     let l = c.places-places.ensures in
@@ -46,7 +43,7 @@ returns c =
       what,
       l.0,
       l.1,
-      λ h. ap₂ transition_by pk c.byte.ensures ∙ transition-changes r s.requires.0 a.said b a.to (sym what ∙ h),
-      rw pk (gone-offset r s.requires.0 a.said b a.to),
+      λ h. ap₂ transition_by pk c.byte.ensures ∙ transition-changes r c.requires.0 a.said b a.to (sym what ∙ h),
+      rw pk (gone-offset r c.requires.0 a.said b a.to),
       c.byte.ensures,
     )

@@ -8,27 +8,22 @@ use Rattle.decision.proofs.modes.is_barred.Goals as goal
 pub returns-then-is_barred : goal.returns-then-is_barred
 unfolding key_mode
 returns-then-is_barred c =
-    let m = c in
-    let a = m.args in
-    let here = c.is_barred.ensures ∙ ap (barring a.held a.locks.now) (ap₂ keyed m.mode_name-name.ensures m.global_vendor-vendor.ensures) in
+    let a = c.args in
+    let here = c.is_barred.ensures ∙ ap (barring a.held a.locks.now) (ap₂ keyed c.mode_name-name.ensures c.global_vendor-vendor.ensures) in
     rw (sym here ∙ c.if-is_barred.true)
 
 pub returns-then-lost : goal.returns-then-lost
 unfolding key_pk key_mode
 returns-then-lost c =
-    let b = c in
-    let m = b in
-    let a = m.args in
-    let vendor = m.global_vendor-vendor.ensures in
-    let here = b.is_barred.ensures ∙ ap (barring a.held a.locks.now) (ap₂ keyed m.mode_name-name.ensures vendor) in
+    let a = c.args in
+    let vendor = c.global_vendor-vendor.ensures in
+    let here = c.is_barred.ensures ∙ ap (barring a.held a.locks.now) (ap₂ keyed c.mode_name-name.ensures vendor) in
     let key = c.is_barred-then-lost.ensures ∙ ap (barring a.held a.locks.now) (ap₂ keyed c.pk_name-key.ensures vendor) in
-    rw (sym here ∙ b.if-is_barred.false, c.if-lost.true) key
+    rw (sym here ∙ c.if-is_barred.false, c.if-lost.true) key
 
 pub returns : goal.returns
 unfolding key_mode
 returns c =
-    let b = c in
-    let m = b in
-    let a = m.args in
-    let here = b.is_barred.ensures ∙ ap (barring a.held a.locks.now) (ap₂ keyed m.mode_name-name.ensures m.global_vendor-vendor.ensures) in
-    rw (sym here ∙ b.if-is_barred.false, c.if-lost.false)
+    let a = c.args in
+    let here = c.is_barred.ensures ∙ ap (barring a.held a.locks.now) (ap₂ keyed c.mode_name-name.ensures c.global_vendor-vendor.ensures) in
+    rw (sym here ∙ c.if-is_barred.false, c.if-lost.false)

@@ -17,38 +17,35 @@ returns-then-said c =
 pub returns-then-is_barred : goal.returns-then-is_barred
 unfolding transition_rules
 returns-then-is_barred c =
-    let l = c in
-    let a = l.args in
+    let a = c.args in
     let locked = sym (c.is_barred.ensures
-    ∙ ap (λ (b : Bool). barring a.held a.locks.now key_mode || (b && barring a.held a.locks.now key_pk)) l.loses.ensures) in
+    ∙ ap (λ (b : Bool). barring a.held a.locks.now key_mode || (b && barring a.held a.locks.now key_pk)) c.loses.ensures) in
     ap judged_of
     (sym
-    (kept_here _ _ _ (mode-foreign a.said.vendor a.said.modem ∙ l.if-said.false)
+    (kept_here _ _ _ (mode-foreign a.said.vendor a.said.modem ∙ c.if-said.false)
     ∙ broken-here _ _ _ (locked ∙ c.if-is_barred.true)))
 
 pub returns-then-another : goal.returns-then-another
 unfolding transition_rules
 returns-then-another c =
-    let l = c in
-    let a = l.args in
+    let a = c.args in
     let locked = sym (c.is_barred.ensures
-    ∙ ap (λ (b : Bool). barring a.held a.locks.now key_mode || (b && barring a.held a.locks.now key_pk)) l.loses.ensures) in
+    ∙ ap (λ (b : Bool). barring a.held a.locks.now key_mode || (b && barring a.held a.locks.now key_pk)) c.loses.ensures) in
     ap judged_of
     (sym
-    (kept_here _ _ _ (mode-foreign a.said.vendor a.said.modem ∙ l.if-said.false)
+    (kept_here _ _ _ (mode-foreign a.said.vendor a.said.modem ∙ c.if-said.false)
     ∙ kept_here _ _ _ (locked ∙ c.if-is_barred.false)
     ∙ broken-here _ _ _ (sym c.another.ensures ∙ c.if-another.true)))
 
 pub returns : goal.returns
 unfolding transition_rules
 returns c =
-    let l = c in
-    let a = l.args in
+    let a = c.args in
     let locked = sym (c.is_barred.ensures
-    ∙ ap (λ (b : Bool). barring a.held a.locks.now key_mode || (b && barring a.held a.locks.now key_pk)) l.loses.ensures) in
+    ∙ ap (λ (b : Bool). barring a.held a.locks.now key_mode || (b && barring a.held a.locks.now key_pk)) c.loses.ensures) in
     ap judged_of
     (sym
-    (kept_here _ _ _ (mode-foreign a.said.vendor a.said.modem ∙ l.if-said.false)
+    (kept_here _ _ _ (mode-foreign a.said.vendor a.said.modem ∙ c.if-said.false)
     ∙ kept_here _ _ _ (locked ∙ c.if-is_barred.false)
     ∙ kept_here _ _ _ (sym c.another.ensures ∙ c.if-another.false)
     ∙ none_here))

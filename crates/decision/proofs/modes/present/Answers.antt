@@ -8,5 +8,4 @@ mode_by-requires c = (c.pk.ensures, c.platform.ensures)
 
 pub returns : goal.returns
 returns c =
-    let m = c in
-    c.mode_by.ensures ∙ mode-found m.args.region.now m.requires
+    c.mode_by.ensures ∙ mode-found c.args.region.now c.requires

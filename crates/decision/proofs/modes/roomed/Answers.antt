@@ -9,61 +9,59 @@ use Rattle.model.specs.declared.PlatMode.{PlatMode}
 use Rattle.model.specs.declared.Rule.{Rule}
 use Rattle.model.specs.Change.{transition}
 use Rattle.model.specs.Rules.{first_broken}
-use Rattle.values.specs.declared.Found.{Found}
-use Rattle.decision.specs.declared.Decision.TheVariants.{Put}
+use Rattle.std.specs.Prelude.{Ok}
+use Rattle.decision.specs.declared.Change.TheVariants.{Put}
 use Rattle.decision.specs.Decision.{decided}
-use Rattle.decision.specs.Parts.{found_pk, room_by}
+use Rattle.decision.specs.Parts.{Found, found_pk, room_by}
 use Rattle.decision.specs.Profile.{folded_sums}
 use Rattle.decision.specs.Joint.{taken_by}
 use Rattle.decision.specs.Modes.{barring, transition_rules, lost_by}
 use Rattle.decision.proofs.Broken.{kept-none, breaks-some}
 use Rattle.decision.proofs.Transitions.{transition-broken, gone-counts, transition-kept}
+use Rattle.std.proofs.lemmas.Result.{err_from_is_err_and}
 use Rattle.decision.proofs.modes.roomed.Goals as goal
 
-pub room-full-requires : goal.room-full-requires
-room-full-requires c =
-    let a = c.args in
-    let p = c.requires in
-    let r = a.region.now in
-    let b = barring a.held a.locks.now in
-    let kept = ap (λ (m : PlatMode). first_broken (transition_rules a.said b (transition m a.to))) (sym p.2)
-    ∙ kept-none _ (sym c.judge-j.ensures ∙ c.in-Kept.is) in
-    let gone = p.3 ∙ ap (λ (m : PlatMode). lost_by (found_pk r) m a.to) p.2 in
-    (p.1, omega arith, rw (gone, p.4) (gone-counts r p.0 a.said b a.to kept))
-
-pub returns-in-Breaks : goal.returns-in-Breaks
-returns-in-Breaks c =
+pub returns-in_err-judge : goal.returns-in_err-judge
+returns-in_err-judge c =
     let a = c.args in
     let p = c.requires in
     let b = barring a.held a.locks.now in
     let broken = ap (λ (m : PlatMode). first_broken (transition_rules a.said b (transition m a.to))) (sym p.2)
-    ∙ breaks-some _ c.in-Breaks.rule (sym c.judge-j.ensures ∙ c.in-Breaks.is) in
-    sym (transition-broken a.region.now p.0 a.said b a.to c.in-Breaks.rule broken)
+    ∙ breaks-some _ c.in_err-judge.field-0.0 (sym c.in_err-judge.ensures) in
+    let e = err_from_is_err_and c.from_residual.result c.from_residual.ensures.1 in
+    rw (e.1, e.2) (sym (transition-broken a.region.now p.0 a.said b a.to c.in_err-judge.field-0.0 broken))
 
-pub returns-in-Breaks-full : goal.returns-in-Breaks-full
-returns-in-Breaks-full c =
-    let s = c in
-    let a = s.args in
-    let p = s.requires in
+pub room-requires : goal.room-requires
+room-requires c =
+    let a = c.args in
+    let p = c.requires in
     let r = a.region.now in
     let b = barring a.held a.locks.now in
-    let kept = ap (λ (m : PlatMode). first_broken (transition_rules a.said b (transition m a.to))) (sym p.2)
-    ∙ kept-none _ (sym c.judge-j.ensures ∙ c.in-Kept.is) in
+    let kept = ap (λ (m : PlatMode). first_broken (transition_rules a.said b (transition m a.to))) (sym p.2) ∙ kept-none _ (sym c.in_ok-judge.ensures) in
     let gone = p.3 ∙ ap (λ (m : PlatMode). lost_by (found_pk r) m a.to) p.2 in
-    let sums = ap₂ (λ (f g : Found). first_broken (room_by a.said (length r) false (folded_sums a.said r (taken_by r f + taken_by r g) 80))) (sym gone) (sym p.4) in
-    let full = breaks-some _ c.in-Breaks-full.rule (sym c.room-full.ensures ∙ c.in-Breaks-full.is) in
-    sym (transition-kept r p.0 a.said b a.to kept ∙ ap (λ (o : Option Rule). decided o Put) (sums ∙ full))
+    (p.1, omega arith, rw (gone, p.4) (gone-counts r p.0 a.said b a.to kept))
 
-pub returns-in-Kept-full : goal.returns-in-Kept-full
-returns-in-Kept-full c =
-    let s = c in
-    let a = s.args in
-    let p = s.requires in
+pub returns-in_err-room : goal.returns-in_err-room
+returns-in_err-room c =
+    let a = c.args in
+    let p = c.requires in
     let r = a.region.now in
     let b = barring a.held a.locks.now in
-    let kept = ap (λ (m : PlatMode). first_broken (transition_rules a.said b (transition m a.to))) (sym p.2)
-    ∙ kept-none _ (sym c.judge-j.ensures ∙ c.in-Kept.is) in
+    let kept = ap (λ (m : PlatMode). first_broken (transition_rules a.said b (transition m a.to))) (sym p.2) ∙ kept-none _ (sym c.in_ok-judge.ensures) in
     let gone = p.3 ∙ ap (λ (m : PlatMode). lost_by (found_pk r) m a.to) p.2 in
     let sums = ap₂ (λ (f g : Found). first_broken (room_by a.said (length r) false (folded_sums a.said r (taken_by r f + taken_by r g) 80))) (sym gone) (sym p.4) in
-    let full = kept-none _ (sym c.room-full.ensures ∙ c.in-Kept-full.is) in
-    sym (transition-kept r p.0 a.said b a.to kept ∙ ap (λ (o : Option Rule). decided o Put) (sums ∙ full))
+    let full = breaks-some _ c.in_err-room.field-0.0 (sym c.in_err-room.ensures) in
+    let e = err_from_is_err_and c.from_residual-in_err-room.result c.from_residual-in_err-room.ensures.1 in
+    rw (e.1, e.2) (sym (transition-kept r p.0 a.said b a.to kept ∙ ap (λ (o : Option Rule). decided o (Ok Put)) (sums ∙ full)))
+
+pub returns : goal.returns
+returns c =
+    let a = c.args in
+    let p = c.requires in
+    let r = a.region.now in
+    let b = barring a.held a.locks.now in
+    let kept = ap (λ (m : PlatMode). first_broken (transition_rules a.said b (transition m a.to))) (sym p.2) ∙ kept-none _ (sym c.in_ok-judge.ensures) in
+    let gone = p.3 ∙ ap (λ (m : PlatMode). lost_by (found_pk r) m a.to) p.2 in
+    let sums = ap₂ (λ (f g : Found). first_broken (room_by a.said (length r) false (folded_sums a.said r (taken_by r f + taken_by r g) 80))) (sym gone) (sym p.4) in
+    let full = kept-none _ (sym c.in_ok-room.ensures) in
+    sym (transition-kept r p.0 a.said b a.to kept ∙ ap (λ (o : Option Rule). decided o (Ok Put)) (sums ∙ full))

@@ -7,17 +7,14 @@ use Rattle.model.specs.Lists.{same}
 use Rattle.decision.specs.Parts.{stores_by}
 use Rattle.decision.proofs.rules.stores.Goals as goal
 
-pub returns-then-e-ne7 : goal.returns-then-e-ne7
+pub returns-then-entry-eq7 : goal.returns-then-entry-eq7
 unfolding stores_by
-returns-then-e-ne7 c = rw (c.in-At.is, ne_eqb _ _ c.if-e-ne7.true)
+returns-then-entry-eq7 c = rw (c.in-Some.is, eq-eqb _ _ c.if-entry-eq7.true, c.equal.ensures) (ap (λ (d : List ℕ). same d (c.args.mode ∷ [])) c.data_of.ensures)
 
-pub returns-else-e-ne7 : goal.returns-else-e-ne7
+pub returns-else-entry-eq7 : goal.returns-else-entry-eq7
 unfolding stores_by
-returns-else-e-ne7 c =
-    let a = c.args in
-    rw (c.in-At.is, eq-eqb _ _ c.if-e-ne7.false, c.equal.ensures)
-    (ap (λ (d : List ℕ). same d (a.mode ∷ [])) c.data_of.ensures)
+returns-else-entry-eq7 c = rw (c.in-Some.is, ne_eqb _ _ c.if-entry-eq7.false)
 
-pub returns-in-Nothing : goal.returns-in-Nothing
+pub returns-in-None : goal.returns-in-None
 unfolding stores_by
-returns-in-Nothing c = rw c.in-Nothing.is
+returns-in-None c = rw c.in-None.is

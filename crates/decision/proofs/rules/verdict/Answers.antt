@@ -11,38 +11,24 @@ returns-then-verdict_broken c = rw (sym c.verdict_broken.ensures ∙ c.if-verdic
 pub returns-then-is_mode : goal.returns-then-is_mode
 unfolding verdict_by first_broken rule24_set
 returns-then-is_mode c =
-    let m = c in
-    rw (sym m.verdict_broken.ensures ∙ m.if-verdict_broken.false, sym c.is_mode.ensures ∙ c.if-is_mode.true)
+    rw (sym c.verdict_broken.ensures ∙ c.if-verdict_broken.false, sym c.is_mode.ensures ∙ c.if-is_mode.true)
 
 pub returns-then-appends : goal.returns-then-appends
 unfolding verdict_by first_broken rule24_set
 returns-then-appends c =
-    let n = c in
-    let m = n in
-    rw (sym m.verdict_broken.ensures ∙ m.if-verdict_broken.false, sym n.is_mode.ensures ∙ n.if-is_mode.false, sym c.appends.ensures ∙ c.if-appends.true)
+    rw (sym c.verdict_broken.ensures ∙ c.if-verdict_broken.false, sym c.is_mode.ensures ∙ c.if-is_mode.false, sym c.appends.ensures ∙ c.if-appends.true)
 
 pub returns-then-not_later : goal.returns-then-not_later
 unfolding verdict_by first_broken rule24_set
 returns-then-not_later c =
-    let p = c in
-    let o = p in
-    let n = o in
-    let m = n in
-    rw (sym m.verdict_broken.ensures ∙ m.if-verdict_broken.false, sym n.is_mode.ensures ∙ n.if-is_mode.false, sym o.appends.ensures ∙ o.if-appends.false, sym p.verdict_wanted.ensures ∙ p.if-verdict_wanted.true, sym c.not_later.ensures ∙ c.if-not_later.true)
+    rw (sym c.verdict_broken.ensures ∙ c.if-verdict_broken.false, sym c.is_mode.ensures ∙ c.if-is_mode.false, sym c.appends.ensures ∙ c.if-appends.false, sym c.verdict_wanted.ensures ∙ c.if-verdict_wanted.true, sym c.not_later.ensures ∙ c.if-not_later.true)
 
 pub returns-else-not_later : goal.returns-else-not_later
 unfolding verdict_by first_broken rule24_set
 returns-else-not_later c =
-    let p = c in
-    let o = p in
-    let n = o in
-    let m = n in
-    rw (sym m.verdict_broken.ensures ∙ m.if-verdict_broken.false, sym n.is_mode.ensures ∙ n.if-is_mode.false, sym o.appends.ensures ∙ o.if-appends.false, sym p.verdict_wanted.ensures ∙ p.if-verdict_wanted.true, sym c.not_later.ensures ∙ c.if-not_later.false)
+    rw (sym c.verdict_broken.ensures ∙ c.if-verdict_broken.false, sym c.is_mode.ensures ∙ c.if-is_mode.false, sym c.appends.ensures ∙ c.if-appends.false, sym c.verdict_wanted.ensures ∙ c.if-verdict_wanted.true, sym c.not_later.ensures ∙ c.if-not_later.false)
 
 pub returns-else-verdict_wanted : goal.returns-else-verdict_wanted
 unfolding verdict_by first_broken rule24_set
 returns-else-verdict_wanted c =
-    let o = c in
-    let n = o in
-    let m = n in
-    rw (sym m.verdict_broken.ensures ∙ m.if-verdict_broken.false, sym n.is_mode.ensures ∙ n.if-is_mode.false, sym o.appends.ensures ∙ o.if-appends.false, sym c.verdict_wanted.ensures ∙ c.if-verdict_wanted.false)
+    rw (sym c.verdict_broken.ensures ∙ c.if-verdict_broken.false, sym c.is_mode.ensures ∙ c.if-is_mode.false, sym c.appends.ensures ∙ c.if-appends.false, sym c.verdict_wanted.ensures ∙ c.if-verdict_wanted.false)

@@ -11,29 +11,26 @@ use Rattle.decision.proofs.rules.wanted.Goals.{then-in_person+else-not-is_deploy
 pub returns-then-not-is_deployed : goal.returns-then-not-is_deployed
 unfolding wanted_verdicts
 returns-then-not-is_deployed c =
-    let m = c in
-    let n = m in
-    let r = n.args.region.now in
-    let deployed = c.is_deployed.ensures ∙ ap (λ (u : Bool). u && stores_by r deployed_mode (found_mode r)) n.user_mode-user.ensures ∙ sym (deployed-found r) in
-    rw (sym n.is_key_name.ensures ∙ n.if-is_key_name.true, sym m.in_person.ensures ∙ m.if-in_person.true, sym deployed ∙ c.if-not-is_deployed.true)
+    let r = c.args.region.now in
+    let deployed = c.is_deployed.ensures ∙ ap (λ (u : Bool). u && stores_by r deployed_mode (found_mode r)) c.user_mode-user.ensures ∙ sym (deployed-found r) in
+    rw (sym c.is_key_name.ensures ∙ c.if-is_key_name.true, sym c.in_person.ensures ∙ c.if-in_person.true, sym deployed ∙ c.if-not-is_deployed.true)
 
 pub returns-then-is_key_name : goal.returns-then-is_key_name
 unfolding wanted_verdicts
 returns-then-is_key_name c =
-    let n = c in
-    let a = n.args in
+    let a = c.args in
     let r = a.region.now in
     let here : (in_person_def a.custom a.presence && not (is_deployed_def (mode_by_def r))) ≡ false =
     elim c.if-in_person.branch [
       | then-in_person+else-not-is_deployed w ↦ rw (
         sym c.in_person.ensures ∙ w.if-in_person.true,
-        sym (w.is_deployed.ensures ∙ ap (λ (u : Bool). u && stores_by r deployed_mode (found_mode r)) n.user_mode-user.ensures ∙ sym (deployed-found r)) ∙ w.if-not-is_deployed.false,
+        sym (w.is_deployed.ensures ∙ ap (λ (u : Bool). u && stores_by r deployed_mode (found_mode r)) c.user_mode-user.ensures ∙ sym (deployed-found r)) ∙ w.if-not-is_deployed.false,
       )
       | else-in_person w ↦ rw (sym c.in_person.ensures ∙ w.if-in_person.false)
     ]
     in
-    rw (sym n.is_key_name.ensures ∙ n.if-is_key_name.true, here)
-    (c.key_verdicts.ensures ∙ ap (λ (u : Bool). key_verdicts_def u (keyed a.name.now a.vendor.now)) (n.user_mode-user.ensures ∙ sym (user-found r)))
+    rw (sym c.is_key_name.ensures ∙ c.if-is_key_name.true, here)
+    (c.key_verdicts.ensures ∙ ap (λ (u : Bool). key_verdicts_def u (keyed a.name.now a.vendor.now)) (c.user_mode-user.ensures ∙ sym (user-found r)))
 
 pub returns : goal.returns
 unfolding wanted_verdicts
