@@ -50,6 +50,7 @@ fn is_listed(t: &[u8], count: u32, n: u32) -> bool
 }
 
 // Whether a rule allows a number in its field.
+#[tactic(auto, unfolding(model::specs::Limits::allowed, model::specs::Limits::limit_of))]
 fn is_allowed(t: &[u8], n: u32) -> bool
     ensures { result ≡ allowed (limit_of t.now) n }
 {
@@ -76,6 +77,7 @@ fn is_width(width: u32) -> bool
 }
 
 // The number that a field holds, low byte first.
+#[tactic(auto, using(crate::proofs::Fields::one_byte, crate::proofs::Fields::two_bytes, crate::proofs::Fields::four_bytes, crate::proofs::Fields::width_four))]
 fn field(old: &[u8], own: &[u8], at: u32, width: u32) -> u32
     requires { among widths width ≡ true }
     ensures { result ≡ little (part at width (old.now ++ own.now)) }
@@ -117,6 +119,7 @@ fn meets(t: &[u8], old: &[u8], own: &[u8]) -> bool
 }
 
 // Whether a rule is for a name: most are told apart by their length.
+#[tactic(auto, unfolding(model::specs::Limits::limit_of))]
 fn is_for(t: &[u8], name: &[u8], vendor: &[u8; 16]) -> bool
     ensures { result ≡ is_for_def (limit_of t.now) (keyed name.now vendor.now) }
 {
@@ -130,6 +133,7 @@ fn is_for(t: &[u8], name: &[u8], vendor: &[u8; 16]) -> bool
 }
 
 // Whether a rule is for a name and broken by a set of it: read-only refuses every one, and the data, if any would stand, must meet the rest.
+#[tactic(auto, unfolding(crate::specs::Broken::breaks_for, model::specs::Limits::limit_of))]
 fn breaks_one(
     t: &[u8],
     name: &[u8],
