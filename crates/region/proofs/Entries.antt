@@ -35,10 +35,6 @@ module _ (y : Layout) where
   vendor r at = part_of r at (layout.vendor_at y) 16
 
   module _ (r : List ℕ) (at : ℕ) (e : numbers.Entry) (state : ℕ) (name guid : List ℕ) where
-    pub other-state : e.state ≢ state → is_entry_def state (keyed name guid) (entry_as y r at e) ≡ false
-    unfolding entry_as walk.placed
-    other-state h = rw (ne_eqb e.state state h)
-
     pub other_length : length (entry_as y r at e).name ≢ length name → is_entry_def state (keyed name guid) (entry_as y r at e) ≡ false
     other_length h =
         rw (same-lengths (entry_as y r at e).name name h) (and-false (eqb (entry_as y r at e).header.state state))

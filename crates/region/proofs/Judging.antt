@@ -8,7 +8,7 @@ use Rattle.model.specs.declared.Layout.{Layout}
 use Rattle.model.specs.Layout.{header_length}
 use Rattle.model.specs.Lists.{among}
 use Rattle.model.specs.Name.{Key, well_named, record_name}
-use Rattle.model.specs.Entry.{states, header_fields_in}
+use Rattle.model.specs.Entry.{states}
 use Rattle.model.specs.Walk as walk
 use Rattle.model.specs.Region.{stored_attributes, record_bit, right_live_def}
 use Rattle.layout.specs.Head.{name_in}
@@ -86,14 +86,6 @@ module _ (y : Layout) (r : List ℕ) (at : ℕ) (e : numbers.Entry) where
     unfolding entry_sound_def right_live_def entry_as walk.placed
     sound-unfinished h = rw h
 
-    pub sound-unknown : among states e.state ≡ false → entry_sound_def size (entry_as y r at e) ≡ false
-    unfolding entry_sound_def entry_as walk.placed
-    sound-unknown h = rw h
-
-    pub sound-over : e.state ≢ 0xFF → size < at + (header_length y + e.name + e.size) → entry_sound_def size (entry_as y r at e) ≡ false
-    unfolding entry_sound_def entry_as walk.placed
-    sound-over h k = simp (ne_eqb e.state 0xFF h, lt-leb (at + (header_length y + e.name + e.size)) size k, and-false)
-
     pub sound-within : among states e.state ≡ true → e.state ≢ 0xFF → at + (header_length y + e.name + e.size) ≤ size
         → entry_sound_def size (entry_as y r at e) ≡ right_live_def (entry_as y r at e)
     unfolding entry_sound_def entry_as walk.placed
@@ -104,10 +96,6 @@ module _ (y : Layout) (r : List ℕ) (at : ℕ) (e : numbers.Entry) where
 pub front-name : (y : Layout) (s : List ℕ) (e : numbers.Entry) → name_in y s e ≡ (entry_as y s 0 e).name
 unfolding name_in entry_as walk.placed
 front-name y s e = refl
-
-pub front-vendor : (y : Layout) (s : List ℕ) (e : numbers.Entry) → (header_fields_in y s).vendor ≡ (entry_as y s 0 e).header.vendor
-unfolding entry_as walk.placed
-front-vendor y s e = refl
 
 -- what the tests of a live entry decide, at the front of a part
 pub ruleset rights = (right-dead, right-empty, right-large, right-plain, right-other, front-name)

@@ -32,10 +32,6 @@ module _ (form : Layout) (s : List ℕ) (e : numbers.Entry) where
   unfolding mark_in mark_of
   live-mark l = rw l
 
-  pub dead-mark : live_state_def e.state ≡ false → mark_in form s e ≡ dead_mark
-  unfolding mark_in mark_of
-  dead-mark l = rw l
-
 -- the mark made of the part that `&r[at..]` lends is that of the entry
 pub here-mark : (form : Layout) (r : List ℕ) (at : ℕ) (e : numbers.Entry) → mark_in form (take (length r - at) (drop at r)) e ≡ mark_at (entry_as form r at e)
 unfolding mark_in mark_at entry_as name_in walk.placed

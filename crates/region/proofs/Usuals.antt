@@ -37,10 +37,6 @@ front-fields s b w e low plain =
     let first : u32_at s 0 ≡ 0x003F55AA = omega arith in
     record { start = omega arith; state = omega arith; plain = rw high at plain }
 
--- the part that `&s[h..h + n]` lends
-pub part-is : (s : List ℕ) (h n k : ℕ) → h ≡ k → take (h + n - h) (drop h s) ≡ part k n s
-part-is s h n k e = let m : h + n - h ≡ n = omega arith in rw (m, e)
-
 -- the numbers that stand in a header
 abbrev pub numbers_at : Layout → List ℕ → numbers.Entry
 numbers_at y s = numbers_of (header_fields_in y s)
