@@ -1,6 +1,10 @@
 -- Laws that the proofs of this crate share.
 -- A turn of the walk: what an entry found, or none, says of the walk from there on
 pub mod Turns
+-- An entry where it stands is the one that the walk places there
+pub mod Standing
+-- What `find` and `any` over the entries answer
+pub mod Searching
 -- The name and GUID of an entry as parts of the region
 pub mod Entries
 -- The tests of one entry, and what they decide of it

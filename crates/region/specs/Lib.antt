@@ -4,3 +4,4 @@ pub mod Judge
 pub mod Marks
 pub mod Met
 pub mod Sorted
+pub mod Stored

@@ -85,6 +85,7 @@ pub(crate) fn entry_sound(y: Layout, s: &[u8], e: Entry) -> bool
 }
 
 // The offset of the first entry before an offset that has this state, name and GUID.
+#[tactic(auto, unfolding(crate::specs::Marks::up_to))]
 fn first_before(
     y: Layout,
     region: &[u8],
@@ -95,15 +96,13 @@ fn first_before(
 ) -> Option<usize>
     ensures { result ≡ first_at (is_entry_def state (keyed name.now vendor.now)) (up_to end (entries_in y region.now)) }
 {
-    let mut at = layout::REGION_HEADER;
-    while let Some((e, next)) = walk::turn(y, region, at) {
-        if end <= at {
+    for e in walk::entries(y, region) {
+        if end <= e.at {
             return None;
         }
-        if walk::is_entry(y, region, at, e, state, name, vendor) {
-            return Some(at);
+        if e.is(state, name, vendor) {
+            return Some(e.at);
         }
-        at = next;
     }
     None
 }

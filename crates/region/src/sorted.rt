@@ -130,13 +130,11 @@ fn enter(
 // Enters the live entries of a region, as many as there is place for.
 fn sort(y: Layout, region: &[u8], table: &mut [u16; PLACES]) {
     let mut count = 0;
-    let mut at = layout::REGION_HEADER;
-    while let Some((e, next)) = walk::turn(y, region, at) {
+    for e in walk::entries(y, region) {
         if count == PLACES {
             return;
         }
-        count = enter(y, region, table, count, at, e);
-        at = next;
+        count = enter(y, region, table, count, e.at, e.entry);
     }
 }
 

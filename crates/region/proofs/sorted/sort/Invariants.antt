@@ -1,10 +1,7 @@
--- `region::sorted::sort` has no contract. The loop's invariant: the table has place for as many as are entered. What is left of the region falls.
+-- `region::sorted::sort` has no contract. The loop's invariant: the table has place for as many as are entered.
 -- Assumes nothing.
-use Rattle.std.proofs.Common.{◌-◌, ◌≤◌, length}
+use Rattle.std.proofs.Common.{◌≤◌}
 use Rattle.region.proofs.sorted.sort.Given as goal
 
 abbrev pub invariant-loop-e : goal.invariant-loop-e
-invariant-loop-e l = l.count ≤ 720
-
-abbrev pub decreases-loop-e : goal.decreases-loop-e
-decreases-loop-e l = length l.region - l.at
+invariant-loop-e l = (goal.iterator-loop-e).can_next l.e-iterator × (goal.iterator-loop-e).is_finite l.e-iterator × (l.count ≤ 720)
