@@ -7,40 +7,56 @@ ghost use Rattle.model.specs.Region.{entries, entries_in, is_value, values};
 ghost use Rattle.model.specs.Sides.{owns};
 ghost use Rattle.model.specs.Beside.{from_in};
 ghost use Rattle.region.specs.Walk.{entry_as};
+ghost use Rattle.region.specs.Stored.{entry_of};
 ghost use Rattle.values.specs.Allotted.{allotted_by};
 ghost use Rattle.values.specs.Found.{next_of};
 ghost use Rattle.values.specs.Sums.{Tallied, counted};
 
-use crate::{Tally, lookup};
+use crate::Tally;
 use layout::{Entry, fixed};
 use model::Layout;
-use region::{Placed, walk};
+use region::Placed;
+use region::walk::{self, Stored};
 
 // Whether an entry is its name's value: a 3F entry, or a 3E entry beside no 3F entry.
+pub fn stands(y: Layout, region: &[u8], e: &Stored) -> bool
+    ensures { result ≡ is_value (entries_in y region.now) (entry_of e.now) }
+{
+    if e.entry.state == 0x3F {
+        return true;
+    }
+    if e.entry.state != 0x3E {
+        return false;
+    }
+    let name = e.name();
+    let vendor = e.vendor();
+    !walk::entries(y, region).any(|x| x.is(0x3F, name, vendor))
+}
+
+// The same by an offset and numbers.
 pub fn is_value(y: Layout, region: &[u8], at: usize, e: Entry) -> bool
     ensures { result ≡ is_value (entries_in y region.now) (entry_as y region.now at e) }
 {
-    if e.state == 0x3F {
-        return true;
-    }
-    if e.state != 0x3E {
-        return false;
-    }
-    let name = walk::name_of(y, region, at, e);
-    let vendor = walk::vendor_of(y, region, at);
-    lookup::find_from(y, region, layout::REGION_HEADER, 0x3F, name, vendor).is_none()
+    let s = Stored {
+        form: y,
+        at,
+        next: at,
+        entry: e,
+        bytes: slices::from(region, at),
+    };
+    stands(y, region, &s)
 }
 
 // The first value at or after an offset, and the offset of the entry after it.
 pub fn next_value(y: Layout, region: &[u8], at: usize) -> Option<(Placed, usize)>
     ensures { result ≡ next_of (first (is_value (entries_in y region.now)) (from_in y region.now at)) }
 {
-    let mut here = at;
-    while let Some((entry, next)) = walk::turn(y, region, here) {
-        if is_value(y, region, here, entry) {
-            return Some((Placed { at: here, entry }, next));
+    for e in walk::entries_from(y, region, at) {
+        if stands(y, region, &e) {
+            let at = e.at;
+            let entry = e.entry;
+            return Some((Placed { at, entry }, e.next));
         }
-        here = next;
     }
     None
 }

@@ -2,7 +2,7 @@
 ghost use Rattle.std.specs.Prelude.{◌≡◌, ◌-◌, ◌≤◌, length};
 ghost use Rattle.model.specs.Lists.{first};
 ghost use Rattle.model.specs.Name.{keyed};
-ghost use Rattle.model.specs.Region.{entries, is_entry_def, added, replacing, standing};
+ghost use Rattle.model.specs.Region.{entries, added, replacing, standing};
 ghost use Rattle.model.specs.Beside.{from_in};
 ghost use Rattle.values.specs.Found.{found_of, else_found, old_data_def, NoneBefore};
 
@@ -10,27 +10,6 @@ use crate::Places;
 use layout::Entry;
 use model::Layout;
 use region::{Placed, walk};
-
-// The first entry at or behind an offset in this state, under this name and GUID.
-pub(crate) fn find_from(
-    y: Layout,
-    region: &[u8],
-    at: usize,
-    state: u8,
-    name: &[u8],
-    vendor: &[u8],
-) -> Option<Placed>
-    ensures { result ≡ found_of (first (is_entry_def state (keyed name.now vendor.now)) (from_in y region.now at)) }
-{
-    let mut here = at;
-    while let Some((entry, next)) = walk::turn(y, region, here) {
-        if walk::is_entry(y, region, here, entry, state, name, vendor) {
-            return Some(Placed { at: here, entry });
-        }
-        here = next;
-    }
-    None
-}
 
 // The offset, from one on, of the first entry that may have this name, else of the walk's end. Nearly every other name is told by two words of it.
 fn like_from(region: &[u8], at: usize, name: &[u8]) -> usize
@@ -103,20 +82,18 @@ pub fn old_data(region: &[u8], standing: Option<Placed>) -> &[u8]
 }
 
 // A name's value: its 3F entry, at which the pass ends, else its 3E entry.
+#[tactic(auto, unfolding(model::specs::Region::standing, model::specs::Region::added, model::specs::Region::replacing))]
 pub fn find(region: &[u8], name: &[u8], vendor: &[u8]) -> Option<Placed>
     ensures { result ≡ found_of (standing (keyed name.now vendor.now) (entries region.now)) }
 {
     let mut replacing = None;
-    let mut at: usize = layout::REGION_HEADER;
-    while let Some((entry, next)) = walk::turn(Layout::AUTHENTICATED, region, at) {
-        let placed = Some(Placed { at, entry });
-        if walk::is_entry(Layout::AUTHENTICATED, region, at, entry, 0x3F, name, vendor) {
-            return placed;
+    for e in walk::entries(Layout::AUTHENTICATED, region) {
+        if e.is(0x3F, name, vendor) {
+            return Some(e.placed());
         }
-        if walk::is_entry(Layout::AUTHENTICATED, region, at, entry, 0x3E, name, vendor) {
-            replacing = replacing.or(placed);
+        if e.is(0x3E, name, vendor) {
+            replacing = replacing.or(Some(e.placed()));
         }
-        at = next;
     }
     replacing
 }

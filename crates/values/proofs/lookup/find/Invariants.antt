@@ -1,21 +1,17 @@
--- `values::lookup::find` meets its contract. The loop's invariant: what stands is the first 3F entry from here on, else the 3E entry found so far, else
--- the first from here on. What is left of the region falls.
+-- `values::lookup::find` meets its contract. The loop's invariant: what stands is the first 3F entry of those left, else the 3E entry found so far, else
+-- the first of those left.
 -- Assumes nothing.
-use Prim.Native.Nat.{◌-◌}
-use mathlib.Core.Path.{◌≡◌}
-use lib.ListN.{length}
+use Rattle.std.proofs.Common.{◌≡◌}
 use Rattle.model.specs.Lists.{first}
 use Rattle.model.specs.Region.{entries, is_entry_def, standing}
 use Rattle.model.specs.Name.{keyed}
-use Rattle.model.specs.Beside.{from}
+use Rattle.region.specs.Stored.{left}
 use Rattle.values.specs.Found.{found_of, else_found}
 use Rattle.values.proofs.lookup.find.Given as goal
 
-abbrev pub invariant-loop-entry : goal.invariant-loop-entry
-invariant-loop-entry l =
-    found_of (standing (keyed l.name l.vendor) (entries l.region))
-    ≡ else_found (found_of (first (is_entry_def 0x3F (keyed l.name l.vendor)) (from l.region l.at)))
-    (else_found l.replacing (found_of (first (is_entry_def 0x3E (keyed l.name l.vendor)) (from l.region l.at))))
-
-abbrev pub decreases-loop-entry : goal.decreases-loop-entry
-decreases-loop-entry l = length l.region - l.at
+abbrev pub invariant-loop-e : goal.invariant-loop-e
+invariant-loop-e l =
+    (goal.iterator-loop-e).can_next l.e-iterator × (goal.iterator-loop-e).is_finite l.e-iterator
+    × (found_of (standing (keyed l.name l.vendor) (entries l.region))
+    ≡ else_found (found_of (first (is_entry_def 0x3F (keyed l.name l.vendor)) (left l.e-iterator)))
+    (else_found l.replacing (found_of (first (is_entry_def 0x3E (keyed l.name l.vendor)) (left l.e-iterator)))))
