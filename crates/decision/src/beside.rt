@@ -9,16 +9,11 @@ ghost use Rattle.model.specs.Rules.{first_broken};
 ghost use Rattle.decision.specs.Parts.{moves_by, beside_found, deploys_by, roomed_by};
 ghost use Rattle.decision.specs.Joint.{taken_by, coming_by, joint_after};
 
+use crate::modes::{AUDIT, ENTRY};
 use crate::{Change, joint, rules};
 use layout::fixed;
 use model::{Layout, Rule, Terms};
 use region::Placed;
-
-// The byte that PlatMode stores in audit mode.
-const AUDIT: u8 = 2;
-
-// The rounded size of PlatMode's entry with one byte.
-const MODE_ENTRY: usize = 80;
 
 // Whether a set takes out the value of its name, or puts one where none is.
 fn moves(what: Change, old: Option<Placed>) -> bool
@@ -65,7 +60,7 @@ fn coming(deploys: bool, name: usize, size: usize) -> usize
 {
     let own = layout::entry_size(Layout::AUTHENTICATED, name, size);
     if deploys {
-        return own + MODE_ENTRY;
+        return own + ENTRY;
     }
     own
 }

@@ -77,10 +77,8 @@ fn stamp_over(region: &[u8], old: Option<Placed>, given: &[u8; 16]) -> [u8; 16]
 fn kept_stamp(region: &[u8], old: Option<Placed>, attributes: u32, given: &[u8; 16]) -> [u8; 16]
     ensures { result ≡ stamp_kept region.now old attributes given.now }
 {
-    if policy::appends(attributes) {
-        if policy::time_based(attributes) {
-            return stamp_over(region, old, given);
-        }
+    if policy::appends(attributes) && policy::time_based(attributes) {
+        return stamp_over(region, old, given);
     }
     *given
 }
@@ -151,21 +149,18 @@ fn classed(error: bool, own: bool, size: usize) -> Sums
     if error {
         return Sums {
             records: size,
-            own: 0,
-            others: 0,
+            ..Sums::default()
         };
     }
     if own {
         return Sums {
-            records: 0,
             own: size,
-            others: 0,
+            ..Sums::default()
         };
     }
     Sums {
-        records: 0,
-        own: 0,
         others: size,
+        ..Sums::default()
     }
 }
 
@@ -178,11 +173,7 @@ fn freed(region: &[u8], old: Option<Placed>, own: bool) -> Sums
             let size = list::size_of(Layout::AUTHENTICATED, region, at, entry);
             classed(layout::is_error_record(entry.attributes), own, size)
         }
-        None => Sums {
-            records: 0,
-            own: 0,
-            others: 0,
-        },
+        None => Sums::default(),
     }
 }
 

@@ -37,9 +37,8 @@ fn leaving(region: &[u8], old: Option<Placed>, comes: usize) -> Weight
             comes,
         },
         None => Weight {
-            at: 0,
-            gone: 0,
             comes,
+            ..Weight::default()
         },
     }
 }
@@ -50,11 +49,7 @@ fn weight(region: &[u8], old: Option<Placed>, what: Change, name: usize, size: u
     ensures { result ≡ weight_by region.now old what (rounded (header_size_def + name + size)) }
 {
     match what {
-        Change::Nothing => Weight {
-            at: 0,
-            gone: 0,
-            comes: 0,
-        },
+        Change::Nothing => Weight::default(),
         Change::Remove => leaving(region, old, 0),
         Change::Put => leaving(
             region,

@@ -70,7 +70,7 @@ struct Joined {
 }
 
 // Rounded entry sizes by class: of the error records; and of the other values those of the side that asks, and those of the other side.
-#[derive(Clone, Copy)]
+#[derive(Clone, Copy, Default)]
 pub struct Sums {
     pub records: usize,
     pub own: usize,
@@ -302,8 +302,8 @@ pub fn decide(
 {
     let places = lookup::places(region, name, vendor);
     let old = lookup::standing(places);
-    let value = effect::value(region, old, asking.attributes, bytes);
     let joined = decide_over(t, limits, region, tail, old, name, vendor, asking, bytes);
+    let value = effect::value(region, old, asking.attributes, bytes);
     match joined {
         Ok(joined) => Decided {
             what: Ok(joined.what),

@@ -17,11 +17,11 @@ use session::Locks;
 use values::{Places, lookup};
 
 // The modes that a request may name, each by the byte that PlatMode stores, and the rounded size of PlatMode's entry.
-const AUDIT: u8 = 2;
+pub(crate) const AUDIT: u8 = 2;
 
-const DEPLOYED: u8 = 3;
+pub(crate) const DEPLOYED: u8 = 3;
 
-const ENTRY: usize = 80;
+pub(crate) const ENTRY: usize = 80;
 
 // What a mode request comes to: the first broken rule or a put; the offset of PK's entry if that goes; the byte to store; and the places of PlatMode's entries.
 #[derive(Clone, Copy)]
@@ -91,12 +91,7 @@ fn another(m: PlatMode, to: u32) -> bool
 {
     match m {
         PlatMode::Setup => to != u32::from(AUDIT),
-        PlatMode::User => {
-            if to == u32::from(AUDIT) {
-                return false;
-            }
-            to != u32::from(DEPLOYED)
-        }
+        PlatMode::User => to != u32::from(AUDIT) && to != u32::from(DEPLOYED),
         PlatMode::Audit => true,
         PlatMode::Deployed => true,
     }
@@ -119,14 +114,9 @@ fn is_barred(held: Locks, locks: &[u8], lost: bool) -> bool
     let sizes = held.sizes;
     let vendor = fixed::global_vendor();
     let name = fixed::mode_name();
-    if session::is_barred(held.phase, held.used, sizes, locks, &name, &vendor) {
-        return true;
-    }
-    if lost {
-        let key = fixed::pk_name();
-        return session::is_barred(held.phase, held.used, sizes, locks, &key, &vendor);
-    }
-    false
+    let key = fixed::pk_name();
+    session::is_barred(held.phase, held.used, sizes, locks, &name, &vendor)
+        || lost && session::is_barred(held.phase, held.used, sizes, locks, &key, &vendor)
 }
 
 // Rules 22, 6 and 24 in a mode. PlatMode is ours.

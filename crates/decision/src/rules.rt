@@ -7,14 +7,12 @@ ghost use Rattle.policy.specs.Verdict.{verdicts_of};
 ghost use Rattle.decision.specs.Decision.{request_of};
 ghost use Rattle.decision.specs.Parts.{judged_of, on_found, stands, stores_by, found_pk, found_mode, mode_by_def, standing_by, not_later_def, verdict_by};
 
+use crate::modes::DEPLOYED;
 use layout::fixed;
 use model::{Layout, Rule, Terms};
 use policy::Wanted;
 use region::{Placed, walk};
 use values::lookup;
-
-// The byte that PlatMode stores in deployed mode.
-const DEPLOYED: u8 = 3;
 
 // Rules 3, 22, 4, 5, 17 and 6, on the call itself.
 pub(crate) fn request(t: Terms, name: &[u8], vendor: &[u8; 16], attributes: u32) -> Result<(), Rule>
@@ -112,10 +110,7 @@ pub fn stores(region: &[u8], there: Option<Placed>, mode: u8) -> bool
 fn is_deployed(region: &[u8], user: bool) -> bool
     ensures { result ≡ (user && stores_by region.now deployed_mode (found_mode region.now)) }
 {
-    if user {
-        return stores(region, platform(region), DEPLOYED);
-    }
-    false
+    user && stores(region, platform(region), DEPLOYED)
 }
 
 // Verdict wanted. PK is looked up for key names only, and PlatMode for those in person: custom mode does not count in deployed.
@@ -132,10 +127,8 @@ pub fn wanted(
 {
     if fixed::is_key_name(name, vendor) {
         let user = user_mode(region);
-        if policy::in_person(custom, presence) {
-            if !is_deployed(region, user) {
-                return Wanted::Free;
-            }
+        if policy::in_person(custom, presence) && !is_deployed(region, user) {
+            return Wanted::Free;
         }
         return policy::key_verdicts(user, name, vendor);
     }
@@ -178,10 +171,8 @@ pub fn verdict(
     if policy::appends(attributes) {
         return Ok(());
     }
-    if policy::verdict_wanted(wanted) {
-        if not_later(region, old, stamp) {
-            return Err(Rule::Stamp);
-        }
+    if policy::verdict_wanted(wanted) && not_later(region, old, stamp) {
+        return Err(Rule::Stamp);
     }
     Ok(())
 }

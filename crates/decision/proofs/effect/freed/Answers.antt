@@ -15,4 +15,6 @@ returns-in-Some c =
 
 pub returns-in-None : goal.returns-in-None
 unfolding old_sums
-returns-in-None c = rw c.in-None.is
+returns-in-None c =
+    let e = c.default.ensures in
+    rw c.in-None.is (λ i. record { records = e.0 i; own = e.1.0 i; others = e.1.1 i })

@@ -2,7 +2,7 @@
 use mathlib.Core.Path.{sym, ◌∙◌}
 use Rattle.decision.specs.Parts.{stamp_kept}
 use Rattle.decision.proofs.effect.kept_stamp.Goals as goal
-use Rattle.decision.proofs.effect.kept_stamp.Goals.{then-appends+else-time_based, else-appends}
+use Rattle.decision.proofs.effect.kept_stamp.Goals.{else-appends-via-then-appends+else-time_based, else-appends-via-else-appends}
 
 pub returns-then-time_based : goal.returns-then-time_based
 unfolding stamp_kept
@@ -17,7 +17,7 @@ pub returns : goal.returns
 unfolding stamp_kept
 returns c =
     let appends = c.appends.ensures in
-    elim c.if-appends.branch [
-      | then-appends+else-time_based w ↦ rw (sym appends ∙ w.if-appends.true, sym w.time_based.ensures ∙ w.if-time_based.false)
-      | else-appends w ↦ rw (sym appends ∙ w.if-appends.false)
+    elim c.else-appends.branch [
+      | else-appends-via-then-appends+else-time_based w ↦ rw (sym appends ∙ w.if-appends.true, sym w.time_based.ensures ∙ w.if-time_based.false)
+      | else-appends-via-else-appends w ↦ rw (sym appends ∙ w.if-appends.false)
     ]

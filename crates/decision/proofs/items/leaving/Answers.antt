@@ -8,4 +8,4 @@ returns-in-Some c = rw (c.in-Some.is, c.size_of.ensures)
 
 pub returns-in-None : goal.returns-in-None
 unfolding leaving_by
-returns-in-None c = rw c.in-None.is
+returns-in-None c = rw (c.in-None.is, c.default.ensures.0, c.default.ensures.1.0)

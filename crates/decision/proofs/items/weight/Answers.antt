@@ -11,7 +11,9 @@ entry_size-requires c =
 
 pub returns-in-Nothing : goal.returns-in-Nothing
 unfolding weight_by
-returns-in-Nothing c = rw c.in-Nothing.is
+returns-in-Nothing c =
+    let e = c.default.ensures in
+    rw c.in-Nothing.is (λ i. record { at = e.0 i; gone = e.1.0 i; comes = e.1.1 i })
 
 pub returns-in-Remove : goal.returns-in-Remove
 unfolding weight_by

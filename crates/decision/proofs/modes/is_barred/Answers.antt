@@ -9,8 +9,9 @@ pub returns-then-is_barred : goal.returns-then-is_barred
 unfolding key_mode
 returns-then-is_barred c =
     let a = c.args in
-    let here = c.is_barred.ensures ∙ ap (barring a.held a.locks.now) (ap₂ keyed c.mode_name-name.ensures c.global_vendor-vendor.ensures) in
-    rw (sym here ∙ c.if-is_barred.true)
+    let vendor = c.global_vendor-vendor.ensures in
+    let here = c.is_barred.ensures ∙ ap (barring a.held a.locks.now) (ap₂ keyed c.mode_name-name.ensures vendor) in
+    rw (sym here ∙ c.if-is_barred.true) c.if-is_barred.true
 
 pub returns-then-lost : goal.returns-then-lost
 unfolding key_pk key_mode
@@ -21,9 +22,10 @@ returns-then-lost c =
     let key = c.is_barred-then-lost.ensures ∙ ap (barring a.held a.locks.now) (ap₂ keyed c.pk_name-key.ensures vendor) in
     rw (sym here ∙ c.if-is_barred.false, c.if-lost.true) key
 
-pub returns : goal.returns
+pub returns-else-lost : goal.returns-else-lost
 unfolding key_mode
-returns c =
+returns-else-lost c =
     let a = c.args in
-    let here = c.is_barred.ensures ∙ ap (barring a.held a.locks.now) (ap₂ keyed c.mode_name-name.ensures c.global_vendor-vendor.ensures) in
+    let vendor = c.global_vendor-vendor.ensures in
+    let here = c.is_barred.ensures ∙ ap (barring a.held a.locks.now) (ap₂ keyed c.mode_name-name.ensures vendor) in
     rw (sym here ∙ c.if-is_barred.false, c.if-lost.false)
