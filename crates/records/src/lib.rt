@@ -26,6 +26,7 @@ fn is_state(r: u8) -> bool
 }
 
 // The look after one more record, with i before it: "no used record after an unused one" holds where all i are used.
+#[tactic(auto, unfolding(crate::specs::Passed::onward))]
 fn after_record(l: Look, i: usize, r: u8) -> Look
     requires { (l.used ≤ i) × (i < 0xFFFFFFFFFFFFFFFF) }
     ensures { result ≡ onward l i r }
