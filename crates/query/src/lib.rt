@@ -24,6 +24,7 @@ fn is_visible(runtime: bool, attributes: u32) -> bool
 }
 
 // Whether an entry is a value that is seen.
+#[tactic(auto, unfolding(crate::specs::Query::is_seen_def, region::specs::Walk::entry_as, model::specs::Walk::placed))]
 fn is_seen(region: &[u8], placed: Placed, runtime: bool) -> bool
     ensures { result ≡ is_seen_def runtime (entries region.now) (entry_at region.now placed.at placed.entry) }
 {
@@ -33,6 +34,7 @@ fn is_seen(region: &[u8], placed: Placed, runtime: bool) -> bool
 }
 
 // Whether an entry is a value that is seen, of this name and GUID; what is cheap to look at comes first.
+#[tactic(auto, unfolding(crate::specs::Query::is_sought_def, crate::specs::Query::is_seen_def, model::specs::Region::is_value, region::specs::Walk::entry_as, model::specs::Walk::placed))]
 fn is_sought(region: &[u8], placed: Placed, runtime: bool, name: &[u8], vendor: &[u8]) -> bool
     ensures { result ≡ is_sought_def runtime (keyed name.now vendor.now) (entries region.now) (entry_at region.now placed.at placed.entry) }
 {
@@ -100,6 +102,7 @@ pub fn to_get(
 }
 
 // Whether a name is the two-byte empty one, with which next-name begins.
+#[tactic(auto, unfolding(model::specs::Name::empty_name))]
 pub fn is_empty_name(name: &[u8]) -> bool
     ensures { result ≡ same name.now empty_name }
 {
@@ -107,6 +110,7 @@ pub fn is_empty_name(name: &[u8]) -> bool
 }
 
 // Whether an entry is a value that is seen, and a side's own.
+#[tactic(auto, unfolding(crate::specs::Query::is_shown_def))]
 fn is_shown(region: &[u8], placed: Placed, runtime: bool, guid: &[u8; 16], modem: bool) -> bool
     ensures { result ≡ is_shown_def guid.now modem runtime (entries region.now) (entry_at region.now placed.at placed.entry) }
 {
@@ -116,6 +120,7 @@ fn is_shown(region: &[u8], placed: Placed, runtime: bool, guid: &[u8; 16], modem
 }
 
 // And of this name and GUID.
+#[tactic(auto, unfolding(crate::specs::Query::is_passed_def, crate::specs::Query::is_sought_def, crate::specs::Query::is_shown_def))]
 fn is_passed(
     region: &[u8],
     placed: Placed,

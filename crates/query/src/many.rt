@@ -37,6 +37,7 @@ impl From<Offsets> for Met {
 }
 
 // The GUID and name of a place, of so many bytes; none, where they are not wholly lent or have no room in a place.
+#[tactic(auto, unfolding(model::specs::Beside::asked_bytes))]
 pub fn asked(keys: &[u8], k: usize, size: u32) -> &[u8]
     requires { k < 64 }
     ensures { result.now ≡ asked_bytes keys.now k size }
@@ -71,6 +72,7 @@ fn index(keys: &[u8], sizes: &[u32], noted: &mut [u8])
 }
 
 // The names to which the table leads.
+#[tactic(auto, unfolding(crate::specs::Many::leads, crate::specs::Many::within))]
 fn names(told: u8, n: usize) -> Range<usize>
     requires { n ≤ 64 }
     ensures { (result.start ≤ result.end) × (result.end ≤ n) × ((k : ℕ) → k < n → leads told k ≡ true → within result.start result.end k ≡ true) }
@@ -86,6 +88,7 @@ fn names(told: u8, n: usize) -> Range<usize>
 }
 
 // With one more entry of a name, in a live state; the first in a state counts.
+#[tactic(auto, unfolding(crate::specs::Many::first_of))]
 fn with(found: Offsets, state: u8, at: u16) -> Offsets
     requires { live_state_def state ≡ true }
     ensures { result ≡ noted_at (eqb state 0x3F) (eqb state 0x3E) at found }
@@ -155,6 +158,7 @@ fn note_entry(
 }
 
 // A list in which no name is met.
+#[tactic(auto, unfolding(crate::specs::Many::none_met_def))]
 pub fn none_met() -> [Offsets; 64]
     ensures { result ≡ none_met_def }
 {

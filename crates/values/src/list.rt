@@ -62,6 +62,7 @@ pub fn next_value(y: Layout, region: &[u8], at: usize) -> Option<(Placed, usize)
 }
 
 // The rounded size of the entry that a value is written as: of a name and data that the region cuts off, what it holds of them.
+#[tactic(auto, using(crate::proofs::Sizes::lengths))]
 pub fn size_of(y: Layout, region: &[u8], at: usize, e: Entry) -> usize
     ensures { result ≡ entry_size_in y (entry_value_def (entry_as y region.now at e)) }
 {
@@ -71,6 +72,7 @@ pub fn size_of(y: Layout, region: &[u8], at: usize, e: Entry) -> usize
 }
 
 // Whether a value is a side's own. Under another GUID than the modem's it is ours, whatever its name.
+#[tactic(auto, unfolding(model::specs::Sides::owns, model::specs::Sides::modem_name, region::specs::Walk::entry_as, model::specs::Walk::placed, region::specs::Walk::vendor_as))]
 pub fn is_own(y: Layout, region: &[u8], at: usize, e: Entry, guid: &[u8; 16], modem: bool) -> bool
     ensures { result ≡ owns guid.now modem (key_of (entry_value_def (entry_as y region.now at e))) }
 {
@@ -83,6 +85,7 @@ pub fn is_own(y: Layout, region: &[u8], at: usize, e: Entry, guid: &[u8; 16], mo
 }
 
 // With one more value, of these attributes and this size, the side's own or not.
+#[tactic(auto, unfolding(crate::specs::Sums::counted))]
 fn counted(t: Tally, attributes: u32, own: bool, size: usize) -> Tally
     requires { (t.number + 1 < 2 ^ 64) × (t.records + size < 2 ^ 64) × (t.own + size < 2 ^ 64) × (t.others + size < 2 ^ 64) }
     ensures { result ≡ counted t attributes own size }

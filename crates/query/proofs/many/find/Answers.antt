@@ -1,26 +1,17 @@
 use native.Mathlib.Omega.{arith}
-use mathlib.Core.Path.{sym, ap, ◌∙◌}
+use mathlib.Core.Path.{ap, ◌∙◌}
 use lib.ListN.{length}
 use Rattle.model.specs.Layout.{authenticated}
 use Rattle.region.proofs.Turns.{at_entry, at-end}
 use Rattle.region.proofs.Marked.{here-mark}
-use Rattle.query.proofs.Several.{none-long, marks-long, ahead-begin, ahead-next, ahead-end, sought-leads, noted-nowhere}
+use Rattle.query.proofs.Several.{none-long, ahead-begin, ahead-next, ahead-end, sought-leads, noted-nowhere}
 use Rattle.query.proofs.many.find.Goals as goal
-
-pub slice_bounds-index-end : goal.slice_bounds-index-end
-slice_bounds-index-end c = sym (ap length c.no_marks-table.ensures ∙ marks-long)
-
-pub index-requires : goal.index-requires
-index-requires c = (c.requires.1, ap length c.no_marks-table.ensures ∙ marks-long)
 
 pub loop-entry-init : goal.loop-entry-init
 loop-entry-init c =
     let a = c.args in
     let p = c.requires in
     (ap length p.2 ∙ none-long, ahead-begin a.keys.now a.sizes.now a.region.now p.2 p.1)
-
-pub shape_of-found : goal.shape_of-found
-shape_of-found c = c.loop-entry.invariant.0 ∙ sym (ap length c.requires.2 ∙ none-long)
 
 pub returns : goal.returns
 returns c = ahead-end c.loop-entry.invariant.1 (at-end c.turn.ensures c.in_default.is)
@@ -30,12 +21,6 @@ slice_bounds-mark_of-count c = (at_entry c.turn.ensures c.in-Some.is).inside
 
 pub slice_bounds-mark_of-start : goal.slice_bounds-mark_of-start
 slice_bounds-mark_of-start c = let w = at_entry c.turn.ensures c.in-Some.is in omega arith
-
-pub slice_bounds-mark_of-end : goal.slice_bounds-mark_of-end
-slice_bounds-mark_of-end c = let w = at_entry c.turn.ensures c.in-Some.is in omega arith
-
-pub bounds-table-mark : goal.bounds-table-mark
-bounds-table-mark c = c.mark_of-mark.ensures.1
 
 pub note_entry-requires : goal.note_entry-requires
 note_entry-requires c =

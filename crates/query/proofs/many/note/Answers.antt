@@ -1,5 +1,5 @@
 use native.Mathlib.Omega.{arith}
-use mathlib.Core.Path.{◌≡◌, sym, ap₂, ◌∙◌}
+use mathlib.Core.Path.{sym, ap₂, ◌∙◌}
 use mathlib.Core.Bool.{Bool}
 use lib.ListN.{get_or, length-set}
 use Rattle.query.specs.Many.{noted_at, unmet}
@@ -28,8 +28,3 @@ loop-k-preserved c =
           let other = asked-other a.keys.now a.sizes.now a.region.now a.placed.at a.placed.entry k (sym c.is_asked.ensures ∙ w.if-is_asked.false) in
           rw w.found-is (c.loop-k.invariant.0, noted-pass a.keys.now a.sizes.now a.region.now a.placed.at a.placed.entry c.loop-k.invariant.1 (omega arith) (other 0x3F) (other 0x3E))
     ]
-
-pub returns : goal.returns
-returns c =
-    let n : c.loop-k.k ≡ c.args.names.end = omega arith in
-    rw (← n) c.loop-k.invariant.1

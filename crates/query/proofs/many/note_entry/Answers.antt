@@ -3,12 +3,6 @@ use mathlib.Core.Path.{sym, ◌∙◌}
 use Rattle.query.proofs.Several.{noted-all, noted_other}
 use Rattle.query.proofs.many.note_entry.Goals as goal
 
-pub note-requires : goal.note-requires
-note-requires c =
-    let p = c.requires in
-    let r = c.names.ensures in
-    (p.0, r.0, r.1, p.1, p.2, sym c.is_live.ensures ∙ c.if-is_live.true, p.3)
-
 pub returns-then-is_live : goal.returns-then-is_live
 returns-then-is_live c =
     let a = c.args in
