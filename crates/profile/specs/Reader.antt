@@ -1,5 +1,5 @@
 -- What the reader of a profile gives, at places of the file.
-use Rattle.std.specs.Prelude.{ℕ, ◌+◌, ◌*◌, ◌-◌, ◌≤◌, ◌<◌, ◌≡◌, cond, List, map, length, take, drop, get_or, eqb, Option, Some, None}
+use Rattle.std.specs.Prelude.{ℕ, ◌+◌, ◌≤◌, ◌<◌, ◌≡◌, List, map, length, take, drop, get_or, Option, Some, None}
 use Rattle.std.proofs.Math.Option as math
 use Rattle.model.specs.Lists.{part}
 use Rattle.model.specs.Request.{Request}
@@ -17,10 +17,6 @@ number_of s None = math.none
 abbrev pub Below : ℕ → ℕ → Option Numeral → Type 0
 Below most size (Some n) = (n.value < most) × (n.next ≤ size)
 Below most size None = Unit {0}
-
--- a group with its top bit set, before the groups that follow
-abbrev pub joined_as : ℕ → Numeral → Option Numeral
-joined_as b n = cond (eqb n.value 0) None (Some (record { value = b - 128 + 128 * n.value; next = n.next }))
 
 -- the set that an item asks for
 unfoldable pub request_in : List ℕ → Setting → Request

@@ -6,14 +6,17 @@ ghost use Rattle.std.specs.List.{list_any, slice_range};
 ghost use Rattle.model.specs.Lists.{part, among};
 ghost use Rattle.model.specs.Name.{same_key_def};
 ghost use Rattle.model.specs.Request.{request_key};
-ghost use Rattle.model.specs.Profile.{number, number_at, item_attributes, item_body, item_at, items_at, shares_name_def};
-ghost use Rattle.profile.specs.Reader.{number_of, Below, joined_as, request_in, item_of, Ends, requests_in, no_setting, ReadsAs, Reads};
+ghost use Rattle.model.specs.Profile.{number_at, item_attributes, item_body, item_at, items_at, shares_name_def};
+ghost use Rattle.profile.specs.Reader.{number_of, Below, request_in, item_of, Ends, requests_in, no_setting, ReadsAs, Reads};
 
 // How many items a profile may hold.
 const MOST: usize = 8;
 
 // The bytes of a GUID.
 const GUID: usize = 16;
+
+// The most groups of a number.
+const GROUPS: usize = 3;
 
 // A number that was read, and the place after it.
 #[derive(Clone, Copy)]
@@ -38,60 +41,27 @@ pub struct Settings {
     pub list: [Setting; MOST],
 }
 
-// A group with its top bit set, before the groups that follow: they are not 0.
-fn joined(b: usize, rest: Numeral) -> Option<Numeral>
-    requires { (128 ≤ b) × (b < 256) × (rest.value < 2 ^ 14) }
-    ensures { result ≡ joined_as b rest }
-{
-    if rest.value == 0 {
-        return None;
-    }
-    Some(Numeral {
-        value: b - 128 + 128 * rest.value,
-        next: rest.next,
-    })
-}
-
-// A number of one group.
-fn last_group(s: &[u8], at: usize) -> Option<Numeral>
-    ensures { (number_of s.now result ≡ number 1 (drop at s.now)) × Below (2 ^ 7) (length s.now) result }
-{
-    let b = usize::from(*s.get(at)?);
-    if b < 128 {
-        return Some(Numeral {
-            value: b,
-            next: at + 1,
-        });
-    }
-    None
-}
-
-// A number of two groups at most.
-fn two_groups(s: &[u8], at: usize) -> Option<Numeral>
-    ensures { (number_of s.now result ≡ number 2 (drop at s.now)) × Below (2 ^ 14) (length s.now) result }
-{
-    let b = usize::from(*s.get(at)?);
-    if b < 128 {
-        return Some(Numeral {
-            value: b,
-            next: at + 1,
-        });
-    }
-    joined(b, last_group(s, at + 1)?)
-}
-
-// A number: "groups of seven bits, low group first, top bit set where another follows, shortest form, three at most".
+// A number: "groups of seven bits, low group first, top bit set where another follows, shortest form, three at most": a last group of 0 is alone only.
 pub fn number(s: &[u8], at: usize) -> Option<Numeral>
     ensures { (number_of s.now result ≡ number_at (drop at s.now)) × Below (2 ^ 21) (length s.now) result }
 {
-    let b = usize::from(*s.get(at)?);
-    if b < 128 {
-        return Some(Numeral {
-            value: b,
-            next: at + 1,
-        });
+    let mut next = at;
+    let mut value = 0;
+    let mut weight = 1;
+    for i in 0..GROUPS {
+        let b = usize::from(*s.get(next)?);
+        next += 1;
+        if b < 128 {
+            if 0 < i && b == 0 {
+                return None;
+            }
+            value += weight * b;
+            return Some(Numeral { value, next });
+        }
+        value += weight * (b - 128);
+        weight *= 128;
     }
-    joined(b, two_groups(s, at + 1)?)
+    None
 }
 
 // "Attributes are 0x03 or 0x07".
