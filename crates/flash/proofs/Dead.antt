@@ -362,11 +362,6 @@ reach-next-dead dead c at from r img d k h l e =
 pub reach-no-dead : (c : List ℕ) (at from r : ℕ) (dead img : List ℕ) → from + r ≤ length c → r ≡ reach (take 0 dead) (run_of 1 c at from r) img
 reach-no-dead c at from r dead img h = sym (reach-none (run_of 1 c at from r) img ∙ length-run_of c at from r h)
 
-pub short-at : (c : List ℕ) (at from : ℕ) (img : List ℕ) (k : ℕ) {a b : ℕ} → a ≡ b
-    → cond (leb at a && ltb a (at + k) && falls (get_or img a 0) (get_or c (from + (a - at)) 0)) (a - at) k
-    ≡ cond (leb at b && ltb b (at + k) && falls (get_or img b 0) (get_or c (from + (b - at)) 0)) (b - at) k
-short-at c at from img k e = ap (λ (x : ℕ). cond (leb at x && ltb x (at + k) && falls (get_or img x 0) (get_or c (from + (x - at)) 0)) (x - at) k) e
-
 -- no more bytes than there are
 pub reach-within : (dead c : List ℕ) (at from r : ℕ) (img : List ℕ) (k : ℕ) → from + r ≤ length c → k ≡ reach dead (run_of 1 c at from r) img → k ≤ r
 reach-within dead c at from r img k h e =
@@ -437,14 +432,6 @@ asked-as e w held long i img l f b =
 pub turned_as : {s t : Step} → s ≡ t → (dead : List ℕ) (w : ℕ) (c : List ℕ) (i left : ℕ) (img : List ℕ) (r : ℕ) {img' : List ℕ}
     → Turned dead w c t i left img img' r → Turned dead w c s i left img img' r
 turned_as e dead w c i left img r t = rw e t
-
--- an address that is touched is not before the bytes
-pub touched-behind : (at a n : ℕ) (t : Bool) → (leb at a && ltb a (at + n) && t) ≡ true → at ≤ a
-touched-behind at a n t h = go (leb at a) refl h
-  where
-    go : (u : Bool) → leb at a ≡ u → (u && ltb a (at + n) && t) ≡ true → at ≤ a
-    go true e f = leb-true at a e
-    go false e f = absurd (true≢false (sym f))
 
 -- the places of a header
 pub header-short : {w i : ℕ} → i < cond (eqb w 1) 59 60 → w ≡ 1 → i < 59

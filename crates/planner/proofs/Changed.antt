@@ -90,13 +90,13 @@ module _ (r : List ℕ) where
 -- what each item puts can be stored, said of the items and of their changes
 pub each-put : (rs : List Request) (vs : List Value) → EachItem (λ r. (v : Value) → change_in r vs ≡ put v → Valid v) rs → EachPut Valid (changes_alone rs vs)
 unfolding changes_alone
-each-put [] vs h = tt
-each-put (r ∷ rs) vs h = (h.0, each-put rs vs h.1)
+each-put [] ws h = tt
+each-put (r ∷ rs) ws h = (h.0, each-put rs ws h.1)
 
 each_item : (rs : List Request) (vs : List Value) → EachPut Valid (changes_alone rs vs) → EachItem (λ r. (v : Value) → change_in r vs ≡ put v → Valid v) rs
 unfolding changes_alone
-each_item [] vs h = tt
-each_item (r ∷ rs) vs h = (h.0, each_item rs vs h.1)
+each_item [] ws h = tt
+each_item (r ∷ rs) ws h = (h.0, each_item rs ws h.1)
 
 -- what the rules leave to the folding
 pub foldable : {img : List ℕ} {b tail used : ℕ} {rs : List Request} {leave : List ℕ} {stores : List Bool} → IsReady img b tail used → EachItem Formed rs → shares_name_def rs ≡ false
