@@ -2,66 +2,27 @@
 -- and the one to name, is found there or among the rest.
 -- Assumes nothing.
 use Prim.Native.Nat.{ℕ}
-use mathlib.Core.Path.{◌≡◌, refl, sym, ap, ◌∙◌}
+use mathlib.Core.Path.{◌≡◌, refl, ap, ◌∙◌}
 use mathlib.Core.Bool.{Bool, true, false, ◌&&◌, and-true, and-false, true≢false}
 use mathlib.Core.List.{List, [], ◌∷◌}
 use mathlib.Core.Option.{none, some}
-use lib.Dec.{eqb}
-use borrow.Author.Tests.{eq-eqb, eqb-false}
 use Rattle.model.specs.Layout.{authenticated}
 use Rattle.model.specs.Lists.{same, keep, first, head}
 use Rattle.model.specs.Name.{Key, same_key_def, empty_name}
 use Rattle.model.specs.Sides.{owns}
-use Rattle.model.specs.Entry.{key_of}
 use Rattle.model.specs.Walk as walk
-use Rattle.model.specs.Region.{entries, is_entry_def, is_value}
+use Rattle.model.specs.Region.{entries}
 use Rattle.model.specs.Beside.{from}
-use Rattle.model.proofs.Tests.{and_split, or_split}
+use Rattle.model.proofs.Tests.{and_split}
 use Rattle.model.proofs.Walking.{entries_from}
 use Rattle.layout.specs.declared.Entry as numbers
-use Rattle.region.specs.Walk.{entry_at, entry_as}
-use Rattle.region.specs.Judge.{live_state_def}
+use Rattle.region.specs.Walk.{entry_at}
 use Rattle.region.proofs.Turns.{Turned, Ended}
-use Rattle.values.proofs.Listed.{value-other}
-use Rattle.query.specs.Query.{visible, is_seen_def, is_sought_def, is_shown_def, is_passed_def, entry_following, going_on, entry_to_name}
+use Rattle.query.specs.Query.{is_seen_def, is_sought_def, is_shown_def, is_passed_def, entry_following, going_on, entry_to_name}
 
 -- the entries that are seen from an offset on
 unfoldable pub seen_from : Bool → List ℕ → ℕ → List walk.Entry
 seen_from runtime r at = keep (is_seen_def runtime (entries r)) (from r at)
-
--- ---- of one entry
-
-module _ (runtime : Bool) (r : List ℕ) (at : ℕ) (e : numbers.Entry) where
-  pub seen_value : visible runtime e.attributes ≡ true → is_seen_def runtime (entries r) (entry_at r at e) ≡ is_value (entries r) (entry_at r at e)
-  unfolding is_seen_def entry_as walk.placed
-  seen_value h = rw h (and-true (is_value (entries r) (entry_at r at e)))
-
-  pub not-visible : visible runtime e.attributes ≡ false → is_seen_def runtime (entries r) (entry_at r at e) ≡ false
-  unfolding is_seen_def entry_as walk.placed
-  not-visible h = rw h (and-false (is_value (entries r) (entry_at r at e)))
-
-  -- an entry that is not live, or of another name, is not sought
-  pub sought-dead : (k : Key) → live_state_def e.state ≡ false
-      → is_sought_def runtime k (entries r) (entry_at r at e) ≡ false
-  unfolding is_seen_def is_sought_def
-  sought-dead k h =
-      let p = or_split (eqb e.state 0x3F) (eqb e.state 0x3E) h in
-      let v = value-other authenticated r at e (eqb-false e.state 0x3F p.0) (eqb-false e.state 0x3E p.1) in
-      rw v (and-false (same_key_def (walk.entry_key (entry_at r at e)) k))
-
-  own-state : (k : Key) → is_entry_def e.state k (entry_at r at e) ≡ same_key_def (walk.entry_key (entry_at r at e)) k
-  unfolding entry_as walk.placed
-  own-state k = rw (eq-eqb e.state e.state refl)
-
-  pub sought-other : (k : Key) → is_entry_def e.state k (entry_at r at e) ≡ false
-      → is_sought_def runtime k (entries r) (entry_at r at e) ≡ false
-  unfolding is_sought_def
-  sought-other k h = rw (sym (own-state k) ∙ h)
-
-  pub sought-named : (k : Key) → is_entry_def e.state k (entry_at r at e) ≡ true
-      → is_sought_def runtime k (entries r) (entry_at r at e) ≡ is_seen_def runtime (entries r) (entry_at r at e)
-  unfolding is_sought_def
-  sought-named k h = rw (sym (own-state k) ∙ h)
 
 -- ---- of the walk from an offset on
 
@@ -116,24 +77,6 @@ module _ {r : List ℕ} {at : ℕ} {e : numbers.Entry} {n : ℕ} (w : Turned aut
           let other : same_key_def (walk.entry_key (entry_at r at e)) k ≡ false = rw (s, and-true) at h in
           ap (first (λ y. same_key_def (walk.entry_key y) k)) (seen_here s) ∙ rw other
       go false s = ap (first (λ y. same_key_def (walk.entry_key y) k)) (seen_next s)
-
--- ---- of one entry that a side is shown
-
-module _ (guid : List ℕ) (modem runtime : Bool) (r : List ℕ) (at : ℕ) (e : numbers.Entry) where
-  pub shown-seen : is_seen_def runtime (entries r) (entry_at r at e) ≡ true → is_shown_def guid modem runtime (entries r) (entry_at r at e) ≡ owns guid modem (key_of (walk.entry_value_def (entry_at r at e)))
-  unfolding is_shown_def
-  shown-seen h = rw h
-
-  pub shown-unseen : is_seen_def runtime (entries r) (entry_at r at e) ≡ false → is_shown_def guid modem runtime (entries r) (entry_at r at e) ≡ false
-  unfolding is_shown_def
-  shown-unseen h = rw h
-
-  pub passed-sought : (k : Key) → is_sought_def runtime k (entries r) (entry_at r at e) ≡ true
-      → is_passed_def guid modem runtime k (entries r) (entry_at r at e) ≡ owns guid modem (key_of (walk.entry_value_def (entry_at r at e)))
-  unfolding is_sought_def is_passed_def is_shown_def
-  passed-sought k h =
-      let p = and_split (same_key_def (walk.entry_key (entry_at r at e)) k) (is_seen_def runtime (entries r) (entry_at r at e)) h in
-      rw (p.0, p.1)
 
 -- what is not sought is not passed
 pub passed-other : (guid : List ℕ) (modem runtime : Bool) (k : Key) (es : List walk.Entry) (x : walk.Entry) → is_sought_def runtime k es x ≡ false

@@ -1,30 +1,30 @@
 -- Many names sought in one walk: the table leads to every name that an entry may have, since equal names with equal GUIDs have equal marks; and with one entry more a
 -- name is met where it was, or there.
 -- Assumes nothing.
-use Prim.Native.Nat.{ℕ, zero, suc, ◌+◌, ◌-◌, ◌*◌, ◌≤◌, ◌<◌}
+use Prim.Native.Nat.{ℕ, ◌+◌, ◌≤◌, ◌<◌}
 use native.Mathlib.Omega.{arith}
 use mathlib.Core.Path.{◌≡◌, refl, sym, ap, ap₂, ◌∙◌}
 use mathlib.Core.Bool.{Bool, true, false, cond, ◌&&◌, ◌||◌, or-true, and-true, and-false, true≢false}
-use mathlib.Core.List.{List, [], ◌∷◌}
+use mathlib.Core.List.{List, ◌∷◌}
 use Rattle.std.specs.Prelude.{Option, Some, None}
 use Rattle.std.specs.Option.{option_or}
-use lib.ListN.{drop, length-take, length-drop, length, get_or, set, get_or-replicate}
+use lib.ListN.{length, get_or, set, get_or-replicate}
 use lib.Seq.{get_or-set_same, get_or-set_other}
 use lib.Dec.{eqb, leb, ltb}
-use borrow.Author.Tests.{eqb-true, eqb-false, eq-eqb, ne_eqb, le-leb, lt-leb, lt-ltb, le-ltb, leb-true, ltb-true, ltb-false}
+use borrow.Author.Tests.{eqb-true, eqb-false, eq-eqb, ne_eqb, le-leb, lt-ltb, le-ltb, leb-true, ltb-true, ltb-false}
 use Rattle.model.specs.Layout.{authenticated}
-use Rattle.model.specs.Lists.{first, part}
+use Rattle.model.specs.Lists.{first}
 use Rattle.model.specs.Name.{same_key_def}
 use Rattle.model.specs.Image.{region_header_size}
 use Rattle.model.specs.Walk.{Entry, state_of, entry_key, placed}
 use Rattle.model.specs.Region.{entries, is_entry_def, added, replacing}
-use Rattle.model.specs.Beside.{from_in, asked_bytes}
+use Rattle.model.specs.Beside.{from_in}
 use Rattle.model.proofs.Tests.{and_split, or_split, true-and}
 use Rattle.model.proofs.Walking.{entries_from}
 use Rattle.layout.specs.declared.Entry as numbers
 use Rattle.region.specs.Walk.{entry_as, entry_at}
 use Rattle.region.specs.Judge.{live_state_def}
-use Rattle.region.specs.Marks.{key_mark, mark_at, no_marks_def}
+use Rattle.region.specs.Marks.{key_mark, mark_at}
 use Rattle.region.specs.Met.{key_from, is_sought_def, offset_of, met_of}
 use Rattle.region.specs.declared.Mark.{Mark}
 use Rattle.region.specs.declared.Met.{Met}
@@ -33,26 +33,6 @@ use Rattle.region.proofs.Passing.{at_place}
 use Rattle.region.proofs.Marked.{sought-mark}
 use Rattle.query.specs.Many.{key_bytes, is_asked_def, leads, Indexed, within, first_of, noted_at, unmet, none_met_def, NotedIn, Noted, met_as, AllMet}
 use Rattle.query.specs.declared.many.Offsets.{Offsets}
-
--- ---- the bytes of a name
-
-module _ (keys : List ℕ) (k size : ℕ) where
-  pub asked-long : 144 < size → [] ≡ asked_bytes keys k size
-  unfolding asked_bytes
-  asked-long h = sym (rw (lt-leb size 144 h))
-
-  pub asked-whole : size ≤ 144 → 144 * k + size ≤ length keys → {place : List ℕ} → place ≡ part (144 * k) size keys → place ≡ asked_bytes keys k size
-  unfolding asked_bytes
-  asked-whole h l {place} p =
-      let n : length (part (144 * k) size keys) ≡ size = simp (length-take, length-drop) (omega arith) in
-      p ∙ sym (rw (le-leb size 144 h, eq-eqb (length (part (144 * k) size keys)) size n))
-
-pub asked-past : (keys : List ℕ) (k size : ℕ) → length keys < 144 * k + size → [] ≡ asked_bytes keys k size
-unfolding asked_bytes
-asked-past keys k zero h = refl
-asked-past keys k (suc size) h =
-    let n : length (part (144 * k) (suc size) keys) ≡ suc size → ⊥ = λ e. omega (arith, length-take (suc size) (drop (144 * k) keys), length-drop (144 * k) keys, e) in
-    sym (rw (ne_eqb (length (part (144 * k) (suc size) keys)) (suc size) n, and-false (leb (suc size) 144)))
 
 -- ---- the table
 
@@ -96,18 +76,7 @@ indexed-next {keys} {sizes} {table} {k} i p l q {new} n = record { leading = λ 
         rw (same, ← q, get_or-set_same table p new 0 l, n) (leads-own (get_or table p 0) k)
     at j h false e = other j (i.leading j (let d = eqb-false j k e in omega (arith, d))) (eqb (key_mark (key_bytes keys sizes j)).place p) refl
 
-pub indexed-none : (keys sizes table : List ℕ) → Indexed keys sizes table 0
-indexed-none keys sizes table = record { leading = λ k h. absurd (omega arith) }
-
 -- ---- a range of names
-
-pub within_all : (n k : ℕ) → k < n → within 0 n k ≡ true
-unfolding within
-within_all n k h = true-and (le-leb 0 k (omega arith)) (lt-ltb k n h)
-
-pub within-one : (start end k : ℕ) → end ≡ k + 1 → start + 1 ≡ end → within start end k ≡ true
-unfolding within
-within-one start end k e s = true-and (le-leb start k (omega arith)) (lt-ltb k end (omega arith))
 
 -- to a name the table leads by its number and one more, if not by what leads to all
 led-number : (told k : ℕ) → leads told k ≡ true → (told ≡ 255 → ⊥) → told ≡ k + 1
@@ -118,14 +87,8 @@ led-number told k h n = go (eqb told (k + 1)) refl h
     go true z h = eqb-true told (k + 1) z
     go false z h = absurd (n (eqb-true told 255 h))
 
-pub led-one : (told k : ℕ) → leads told k ≡ true → (told ≡ 255 → ⊥) → within (told - 1) told k ≡ true
-led-one told k h n = let e = led-number told k h n in within-one (told - 1) told k e (omega arith)
-
 pub led-none : (told k : ℕ) → leads told k ≡ true → (told ≡ 255 → ⊥) → told ≡ 0 → within 0 0 k ≡ true
 led-none told k h n z = let e = led-number told k h n in absurd (omega arith)
-
-pub led-past : (told k : ℕ) → leads told k ≡ true → (told ≡ 255 → ⊥) → {n : ℕ} → k < n → n < told → within 0 0 k ≡ true
-led-past told k h m b p = let e = led-number told k h m in absurd (omega arith)
 
 within_none : (start k : ℕ) → within start start k ≡ false
 unfolding within
@@ -268,10 +231,6 @@ none-there k h = get_or-replicate 64 k unmet unmet h
 pub none-long : length none_met_def ≡ 64
 unfolding none_met_def
 none-long = refl
-
-pub marks-long : length no_marks_def ≡ 1280
-unfolding no_marks_def
-marks-long = refl
 
 pub ahead-begin : (keys sizes r : List ℕ) {found : List Offsets} → found ≡ none_met_def → length sizes ≤ 64 → Ahead keys sizes r found region_header_size
 ahead-begin keys sizes r a l = record {

@@ -8,16 +8,15 @@ use mathlib.Core.List.{List, [], ◌∷◌}
 use lib.ListN.{length}
 use Rattle.model.specs.declared.Layout.{Layout}
 use Rattle.model.specs.Layout.{authenticated}
-use Rattle.model.specs.Lists.{any, keep, same}
+use Rattle.model.specs.Lists.{any, keep}
 use Rattle.model.specs.Entry.{Value, key_of, entry_size_in}
-use Rattle.model.specs.Name.{Key, keyed}
+use Rattle.model.specs.Name.{Key}
 use Rattle.model.specs.Sides.{modem_name, owns, view, side_sizes}
 use Rattle.model.specs.Walk as walk
 use Rattle.model.specs.Region.{entries, entries_in, values}
 use Rattle.model.specs.Change.{entry_sizes_in, is_error_record_def, record_sizes, other_sizes}
 use Rattle.layout.specs.declared.Entry as numbers
-use Rattle.layout.proofs.Owners.{modem-elsewhere}
-use Rattle.region.specs.Walk.{entry_as, vendor_as}
+use Rattle.region.specs.Walk.{entry_as}
 use Rattle.values.specs.declared.Tally.{Tally}
 use Rattle.values.specs.Sums.{sizes_in, is_other, is_stamped_def, side_sizes_in, Tallied, counted}
 use Rattle.values.proofs.Listed.{listed_in}
@@ -49,18 +48,6 @@ owns_not guid false k = sym (twice (modem_name guid k))
     twice : (b : Bool) → not (not b) ≡ b
     twice true = refl
     twice false = refl
-
--- under another GUID than the modem's it is ours
-pub owns-elsewhere : (guid name vendor : List ℕ) (m : Bool) → same vendor guid ≡ false → not m ≡ owns guid m (keyed name vendor)
-unfolding owns
-owns-elsewhere guid name vendor true h = sym (modem-elsewhere guid name vendor h)
-owns-elsewhere guid name vendor false h = sym (ap not (modem-elsewhere guid name vendor h))
-
--- the key of an entry's value, by its name and its GUID
-pub key-of : (y : Layout) (guid : List ℕ) (m : Bool) (r : List ℕ) (at : ℕ) (e : numbers.Entry)
-    → owns guid m (keyed (entry_as y r at e).name (vendor_as y r at)) ≡ owns guid m (key_of (walk.entry_value_def (entry_as y r at e)))
-unfolding entry_as walk.placed vendor_as
-key-of y guid m r at e = refl
 
 no-sizes : (y : Layout) (guid : List ℕ) (m : Bool) → side_sizes_in y guid m [] + side_sizes_in y guid (not m) [] ≡ sizes_in y is_other []
 unfolding view entry_sizes_in

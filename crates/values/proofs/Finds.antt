@@ -39,10 +39,6 @@ pub next-at : {y : Layout} {r : List ℕ} {at : ℕ} {e : numbers.Entry} {k : �
 unfolding entry_as walk.placed
 next-at {at = at} {e} w = ap (next_placed at e) w.next
 
--- what is found first stays
-pub else-found : {g : Option Placed} {at : ℕ} {e : numbers.Entry} → g ≡ placed_at at e → (h : Option Placed) → else_found g h ≡ placed_at at e
-else-found p h = ap (λ (g : Option Placed). else_found g h) p
-
 -- the same from a later offset on
 pub found-later : {x : Option Placed} {o o' : Maybe walk.Entry} (g : Option Placed) → x ≡ else_found g (found_of o) → o ≡ o' → x ≡ else_found g (found_of o')
 found-later g p q = p ∙ ap (λ (o : Maybe walk.Entry). else_found g (found_of o)) q

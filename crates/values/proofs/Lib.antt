@@ -1,7 +1,7 @@
 -- Laws that the proofs of this crate and of its callers share.
 -- What one turn of the walk says of the first entry that passes a test
 pub mod Finds
--- Which entries are values, and the values from an offset on
+-- The values from an offset on
 pub mod Listed
 -- What is found is the entry that the numbers found make up; the values taken one by one
 pub mod Stands
