@@ -1,11 +1,11 @@
 -- Items that are compared one after another: an item, and those after it.
 -- Assumes nothing.
-use Prim.Native.Nat.{ℕ, ◌+◌, ◌-◌, ◌≤◌, ◌<◌}
+use Prim.Native.Nat.{ℕ, zero, suc, ◌+◌, ◌-◌, ◌≤◌, ◌<◌}
 use native.Mathlib.Omega.{arith}
-use mathlib.Core.Path.{◌≡◌, refl, ◌∙◌}
-use mathlib.Core.Bool.{Bool, true, false, ◌||◌}
+use mathlib.Core.Path.{◌≡◌, refl, sym, ap}
+use mathlib.Core.Bool.{Bool, false, ◌||◌}
 use mathlib.Core.List.{List, [], ◌∷◌, map}
-use Rattle.std.specs.List.{list_any, slice_range}
+use Rattle.std.specs.List.{list_any, slice_range, range_with_len}
 use Rattle.std.proofs.lemmas.List.{drop-take}
 use lib.ListN.{length, take, drop, get_or}
 use Rattle.model.specs.Lists.{any}
@@ -43,12 +43,13 @@ module _ (file : List ℕ) (list : List Setting) (count : ℕ) (eight : length l
       let after : drop (i + 1) (take count list) ≡ slice_range list (i + 1) count = rw n at (drop-take (i + 1) (count - (i + 1)) list) in
       rw (any-of (alike file (get_or list i no_setting)) file (slice_range list (i + 1) count), ← after, from-item list count eight few i h)
 
-  pub shares-here : i < count → recurs_in file list count i ≡ true → shares_from file list count i ≡ true
-  shares-here h e = shares-split h ∙ rw e
+shares-nowhere : (file : List ℕ) (list : List Setting) (count : ℕ) → length list ≡ 8 → count ≤ 8 → shares_from file list count count ≡ false
+unfolding shares_name_def
+shares-nowhere file list count eight few = rw (none_left list count eight few count (omega arith))
 
-  pub shares-after : i < count → recurs_in file list count i ≡ false → shares_from file list count i ≡ shares_from file list count (i + 1)
-  shares-after h e = shares-split h ∙ rw e
-
-  pub shares-nowhere : count ≤ i → shares_from file list count i ≡ false
-  unfolding shares_name_def
-  shares-nowhere h = rw (none_left list count eight few i h)
+-- those from the i-th on, searched one after another
+pub shares-searched : (file : List ℕ) (list : List Setting) (count : ℕ) → length list ≡ 8 → count ≤ 8 → (n i : ℕ) → i + n ≡ count
+    → list_any (λ j. recurs_in file list count j) (range_with_len i n) ≡ shares_from file list count i
+shares-searched file list count eight few zero i e = let all : i ≡ count = omega arith in rw all (sym (shares-nowhere file list count eight few))
+shares-searched file list count eight few (suc n) i e =
+    rw (shares-split file list count eight few i (omega arith)) (ap (λ (b : Bool). recurs_in file list count i || b) (shares-searched file list count eight few n (i + 1) (omega arith)))

@@ -193,10 +193,5 @@ pub fn shares_name(file: &[u8], p: Settings) -> bool
     requires { p.count ≤ 8 }
     ensures { result ≡ shares_name_def (requests_in file.now p) }
 {
-    for i in 0..p.count {
-        if recurs(file, p, i) {
-            return true;
-        }
-    }
-    false
+    (0..p.count).any(|i| recurs(file, p, i))
 }

@@ -1,29 +1,25 @@
--- `profile::shares_name` meets its contract: the items that were passed share their name and GUID with none after them. Assumes nothing.
+-- `profile::shares_name` meets its contract: each item is searched for among those after it. Assumes nothing.
+use Prim.Native.Nat.{ℕ}
 use native.Mathlib.Omega.{arith}
-use mathlib.Core.Path.{◌≡◌, sym, ◌∙◌}
+use native.Mathlib.Nat.{zero-add}
+use mathlib.Core.Path.{◌≡◌, refl, sym, ◌∙◌}
 use lib.ListN.{length}
+use Rattle.std.proofs.Common.{rules}
+use Rattle.std.proofs.lemmas.Iterator.{YieldsList-from_range}
+use Rattle.std.proofs.lemmas.Iterator.Search.{any_from_yields_List}
+use Rattle.std.specs.List.{list_any, range_with_len}
 use Rattle.profile.specs.Reader.{requests_in}
-use Rattle.profile.proofs.Keys.{from_first, shares-here, shares-after, shares-nowhere}
+use Rattle.profile.proofs.Keys.{recurs_in, from_first, shares-searched}
 use Rattle.profile.proofs.shares_name.Goals as goal
 
-pub loop-i-init : goal.loop-i-init
-unfolding requests_in
-loop-i-init c = from_first c.args.file.now c.args.p.list c.args.p.count
-
-pub returns-then-recurs : goal.returns-then-recurs
-returns-then-recurs c =
-    let a = c.args in
-    let eight : length a.p.list ≡ 8 = omega arith in
-    sym (c.loop-i.invariant ∙ shares-here a.file.now a.p.list a.p.count eight c.requires c.loop-i.i c.loop-i-test.true (sym c.if-recurs.ensures))
-
-pub loop-i-preserved : goal.loop-i-preserved
-loop-i-preserved c =
-    let a = c.args in
-    let eight : length a.p.list ≡ 8 = omega arith in
-    c.loop-i.invariant ∙ shares-after a.file.now a.p.list a.p.count eight c.requires c.loop-i.i c.loop-i-test.true (sym c.if-recurs.ensures)
-
 pub returns : goal.returns
+unfolding requests_in
 returns c =
     let a = c.args in
     let eight : length a.p.list ≡ 8 = omega arith in
-    sym (c.loop-i.invariant ∙ shares-nowhere a.file.now a.p.list a.p.count eight c.requires c.loop-i.i c.loop-i-test.false)
+    let test = λ (i : ℕ). recurs_in a.file.now a.p.list a.p.count i in
+    let chain = YieldsList-from_range 0 a.p.count a.p.count refl (omega arith) in
+    let searched : c.any.result ≡ list_any test (range_with_len 0 a.p.count) = any_from_yields_List test _ _ c.any.result c.any.ensures.ran chain (λ x b q k. search rules) in
+    searched
+    ∙ shares-searched a.file.now a.p.list a.p.count eight c.requires a.p.count 0 (zero-add a.p.count)
+    ∙ sym (from_first a.file.now a.p.list a.p.count)
