@@ -138,10 +138,12 @@ fn front_nonzero(name: &[u8]) -> bool
     ensures yes { result ≡ true → NonZero name.now 0 (length name.now - 2) }
     ensures no { result ≡ false → zero_ended name.now ≡ false }
 {
-    for k in 0..(name.len() / 2).saturating_sub(1) {
-        if character(name, 2 * k) == 0 {
+    let mut i = 0;
+    while i + 2 < name.len() {
+        if character(name, i) == 0 {
             return false;
         }
+        i += 2;
     }
     true
 }

@@ -1,8 +1,11 @@
--- The characters before the k-th are not zero, so the name is zero-ended just if what begins there is.
-use Rattle.std.proofs.Common.{◌≡◌, ◌*◌, drop}
+-- The characters before an offset are not zero, so the name is zero-ended just if what begins there is.
+use Rattle.std.proofs.Common.{◌≡◌, ◌-◌, ◌%◌, ◌≤◌, length, drop}
 use Rattle.model.specs.Name.{zero_ended}
 use Rattle.slices.specs.Characters.{NonZero}
 use Rattle.slices.proofs.front_nonzero.Given as goal
 
-abbrev pub invariant-loop-k : goal.invariant-loop-k
-invariant-loop-k l = NonZero l.name 0 (2 * l.k) × (zero_ended l.name ≡ zero_ended (drop (2 * l.k) l.name))
+abbrev pub invariant-loop-i : goal.invariant-loop-i
+invariant-loop-i l = (l.i ≤ length l.name) × (l.i % 2 ≡ 0) × NonZero l.name 0 l.i × (zero_ended l.name ≡ zero_ended (drop l.i l.name))
+
+abbrev pub decreases-loop-i : goal.decreases-loop-i
+decreases-loop-i l = length l.name - l.i
