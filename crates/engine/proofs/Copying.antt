@@ -1,21 +1,16 @@
--- Bytes copied to the front of a buffer: after i turns its first i bytes are those of the source, and the rest is as it was. Bytes copied there, and others behind
--- them, are the joined bytes copied.
+-- Bytes copied to the front of a buffer, and others behind them, are the joined bytes copied.
 -- Assumes nothing.
-use Prim.Native.Nat.{ℕ, ◌+◌, ◌-◌, ◌<◌, ◌≤◌}
+use Prim.Native.Nat.{ℕ, ◌+◌, ◌-◌, ◌≤◌}
 use native.Mathlib.Nat.{zero-add}
-use native.Mathlib.Numerals.{add-one}
 use mathlib.Core.Path.{◌≡◌, refl, sym, ap, ◌∙◌}
 use mathlib.Core.List.{List, ◌++◌, append_assoc, append-nil}
-use lib.ListN.{length, get_or, set, take, drop, length-append}
-use lib.Seq.{paste, paste-suc, take-length, take_at, drop_at, drop-drop, drop-length}
+use lib.ListN.{length, take, drop, length-append}
+use lib.Seq.{paste, take-length, take_at, drop_at, drop-drop, drop-length}
 use borrow.Rule.Slice.PartMut.{mid_of, put_mid, Post-is}
 use Rattle.model.specs.Lists.{overlay}
 use Rattle.region.proofs.Turns.{rest}
 
 module _ (d s : List ℕ) where
-  pub copy-next : (i : ℕ) → i < length d → i < length s → set (paste d 0 s i) i (get_or s i 0) ≡ paste d 0 s (i + 1)
-  copy-next i hd hs = simp (zero-add, add-one) (simp zero-add at (paste-suc d 0 s i 0 (simp zero-add hd) hs))
-
   pub copy-all : (i : ℕ) → i ≡ length s → paste d 0 s i ≡ overlay 0 s d
   copy-all i h = rw (h, take-length s)
 

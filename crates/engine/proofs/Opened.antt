@@ -7,16 +7,16 @@ use mathlib.Core.Path.{◌≡◌, refl, sym, ap, ap₂, ◌∙◌}
 use mathlib.Core.Bool.{Bool, true, false, not, cond, ◌&&◌, ◌||◌}
 use mathlib.Core.List.{List, [], ◌∷◌, ◌++◌}
 use mathlib.Core.Option.{Option, none, some}
+use Rattle.std.specs.Prelude.{Ok, Err}
 use lib.ListN.{length, take, drop, length-append}
 use lib.Seq.{sets, length-sets, sets-eq, take_at, drop_at}
 use lib.Dec.{eqb, leb}
 use borrow.Author.Tests.{leb-true}
 use Rattle.model.specs.Layout.{authenticated}
 use Rattle.model.specs.Lists.{on_some, or_else, part, same}
-use Rattle.model.specs.Image.{blocks, region, work}
+use Rattle.model.specs.Image.{region}
 use Rattle.model.specs.Name.{Key, keyed, well_named, zero_ended, empty_name}
-use Rattle.model.specs.Region.{entries, tail_at}
-use Rattle.model.specs.Work.{used_records}
+use Rattle.model.specs.Region.{entries}
 use Rattle.model.specs.Rules.{first_broken, rule1, rule2, image_rules, image_rules_in}
 use Rattle.model.specs.Answers.{rule_number}
 use Rattle.model.proofs.Tests.{and_split, same-eq}
@@ -24,13 +24,10 @@ use Rattle.model.proofs.Requests.{broken-append}
 use Rattle.model.specs.declared.Rule.{Rule}
 use Rattle.model.specs.declared.Rule.TheVariants.{Length, Unready, Name, Side}
 use Rattle.region.specs.Met.{key_from, met_of}
-use Rattle.region.specs.declared.Met.{Met}
-use Rattle.image.specs.Check.{call_in, call_of, checked_in, IsReady}
-use Rattle.image.specs.declared.Check.{Check}
-use Rattle.image.specs.declared.Checked.{Checked}
-use Rattle.image.specs.declared.Check.TheVariants.{Ready, Refused}
-use Rattle.image.proofs.Ready.{is-ready, checked_call, checked-met}
-use Rattle.engine.specs.Read.{open_of, broken_later_def, Opened}
+use Rattle.image.specs.Check.{call_in, call_of, IsReady}
+use Rattle.image.specs.declared.Ready.{Ready}
+use Rattle.image.proofs.Readiness.{is-ready, refused-rule}
+use Rattle.engine.specs.Read.{open_of}
 
 -- ---- the key that is sought
 
@@ -66,51 +63,30 @@ module _ (img : List ℕ) where
   unfolding first_broken
   with-name named foreign = broken-append (image_rules img) ((Name, not named) ∷ (Side, foreign) ∷ [])
 
-  -- what rules 1 and 2 leave, or one that is broken after them
-  open_own : open_of img true false ≡ call_of img
-  unfolding open_of call_in
-  open_own = rw (with-name true false) (go (first_broken (image_rules img)))
-    where
-      go : (o : Option Rule) → on_some (or_else o none) Refused (Ready (blocks img) (tail_at (region img)) (used_records (work img)))
-          ≡ on_some o Refused (Ready (blocks img) (tail_at (region img)) (used_records (work img)))
-      go (some x) = refl
-      go none = refl
+  -- rule 1 or 2 is broken
+  pub open-first : {rule : Rule} → call_of img ≡ Err rule → (named foreign : Bool) → open_of img named foreign ≡ Err rule
+  unfolding open_of
+  open-first {rule} p named foreign = rw (with-name named foreign, refused-rule authenticated img rule p)
 
-  later-rule : (rule : Rule) (o : Option Rule)
-      → on_some (or_else o (some rule)) Refused (Ready (blocks img) (tail_at (region img)) (used_records (work img)))
-      ≡ broken_later_def rule (on_some o Refused (Ready (blocks img) (tail_at (region img)) (used_records (work img))))
-  later-rule rule (some x) = refl
-  later-rule rule none = refl
+  -- they are kept
+  module _ {ready : Ready} (p : call_of img ≡ Ok ready) where
+    open-ready : (named foreign : Bool) → open_of img named foreign ≡ on_some (cond (not named) (some Name) (cond foreign (some Side) none)) Err (call_of img)
+    unfolding open_of call_in
+    open-ready named foreign = rw (with-name named foreign, (is-ready authenticated p).unbroken)
 
-  pub open-foreign : open_of img true true ≡ broken_later_def Side (call_of img)
-  unfolding open_of call_in
-  open-foreign = rw (with-name true true) (later-rule Side (first_broken (image_rules img)))
+    pub open-unnamed : (foreign : Bool) → open_of img false foreign ≡ Err Name
+    open-unnamed foreign = open-ready false foreign
 
-  pub open-unnamed : (foreign : Bool) → open_of img false foreign ≡ broken_later_def Name (call_of img)
-  unfolding open_of call_in
-  open-unnamed foreign = rw (with-name false foreign) (later-rule Name (first_broken (image_rules img)))
+    pub open-foreign : open_of img true true ≡ Err Side
+    open-foreign = open-ready true true
 
-  -- of a name that the call takes
-  pub opened-own : (name vendor : List ℕ) → length vendor ≡ 16 → (c : Checked) → c ≡ checked_in authenticated img (vendor ++ name)
-      → Opened img true false (keyed name vendor) c
-  opened-own name vendor l c e =
-      let k : key_from (vendor ++ name) ≡ keyed name vendor = ap₂ keyed (drop_at vendor name 16 l) (take_at vendor name 16 l) in
-      record {
-        check = checked_call authenticated img (vendor ++ name) c e ∙ sym open_own;
-        met = λ b t u p. checked-met authenticated img (vendor ++ name) c e p ∙ ap (λ (j : Key). met_of j (entries (region img))) k;
-      }
+    pub open_own : open_of img true false ≡ Ok ready
+    open_own = open-ready true false ∙ p
 
-  -- of another
-  never-ready : (rule : Rule) (x : Check) {b t u : ℕ} → broken_later_def rule x ≡ Ready b t u → (m n : Met) → m ≡ n
-  never-ready rule (Ready b t u) p m n = let z : ◌≡◌ {A = ℕ} 0 1 = cc in absurd (omega arith)
-  never-ready rule (Refused first) p m n = let z : ◌≡◌ {A = ℕ} 0 1 = cc in absurd (omega arith)
-
-  pub opened-broken : (named foreign : Bool) (k : Key) (rule : Rule) (c : Checked) → open_of img named foreign ≡ broken_later_def rule (call_of img)
-      → (x : Check) → x ≡ call_of img → c.check ≡ broken_later_def rule x → Opened img named foreign k c
-  opened-broken named foreign k rule c p x e q = record {
-    check = q ∙ ap (broken_later_def rule) e ∙ sym p;
-    met = λ b t u r. never-ready rule x (sym q ∙ r) c.met (met_of k (entries (region img)));
-  }
+  -- the name is that of the key
+  pub its-key : (name vendor : List ℕ) → length vendor ≡ 16 → met_of (key_from (vendor ++ name)) (entries (region img)) ≡ met_of (keyed name vendor) (entries (region img))
+  its-key name vendor l =
+      ap (λ (j : Key). met_of j (entries (region img))) (ap₂ keyed (drop_at vendor name 16 l) (take_at vendor name 16 l))
 
   -- ---- what they leave to the later rules
 
@@ -123,17 +99,16 @@ module _ (img : List ℕ) where
       go false true = refl
       go false false = refl
 
-  pub record Opens (b t u : ℕ) (named foreign : Bool) : Type 0 where
-    pub ready : IsReady img b t u
+  pub record Opens (x : Ready) (named foreign : Bool) : Type 0 where
+    pub ready : IsReady img x.blocks x.tail x.used
     pub later : (ts : List (Rule × Bool)) → first_broken (image_rules img ++ ((Name, not named) ∷ (Side, foreign) ∷ ts)) ≡ first_broken ts
 
-  pub opens : {b t u : ℕ} (named foreign : Bool) → open_of img named foreign ≡ Ready b t u → Opens b t u named foreign
+  pub opens : {x : Ready} (named foreign : Bool) → open_of img named foreign ≡ Ok x → Opens x named foreign
   unfolding open_of call_in first_broken
-  opens {b} {t} {u} named foreign p = go (first_broken (image_rules img)) refl named refl foreign refl
+  opens {x} named foreign p = go (first_broken (image_rules img)) refl named refl foreign refl
     where
-      go : (o : Option Rule) → first_broken (image_rules img) ≡ o → (n : Bool) → named ≡ n → (f : Bool) → foreign ≡ f → Opens b t u named foreign
-      go (some x) q n m f e =
-          let p : on_some (first_broken (image_rules img ++ ((Name, not named) ∷ (Side, foreign) ∷ []))) Refused (Ready (blocks img) (tail_at (region img)) (used_records (work img))) ≡ Ready b t u = p in
+      go : (o : Option Rule) → first_broken (image_rules img) ≡ o → (n : Bool) → named ≡ n → (f : Bool) → foreign ≡ f → Opens x named foreign
+      go (some rule) q n m f e =
           let p' = rw (with-name named foreign, q) at p in
           let z : ◌≡◌ {A = ℕ} 0 1 = cc in
           absurd (omega arith)
@@ -154,7 +129,7 @@ module _ (img : List ℕ) where
     pub before-14 : eqb (rule_number rule) 14 ≡ false
     pub broken : (ts : List (Rule × Bool)) → first_broken (image_rules img ++ ((Name, not named) ∷ (Side, foreign) ∷ ts)) ≡ some rule
 
-  pub refuses : (rule : Rule) (named foreign : Bool) → open_of img named foreign ≡ Refused rule → Refuses rule named foreign
+  pub refuses : (rule : Rule) (named foreign : Bool) → open_of img named foreign ≡ Err rule → Refuses rule named foreign
   unfolding open_of first_broken
   refuses rule named foreign p = go (first_broken (image_rules img)) refl named refl foreign refl
     where

@@ -4,9 +4,10 @@
 use Prim.Native.Nat.{ℕ, ◌*◌}
 use native.Mathlib.Omega.{arith}
 use mathlib.Core.Path.{◌≡◌, refl, sym, ap, ap₂, ◌∙◌, subst}
-use mathlib.Core.Bool.{Bool, true, false, not}
+use mathlib.Core.Bool.{Bool, true, false}
 use mathlib.Core.List.{List, [], ◌∷◌, ◌++◌, append_assoc}
 use mathlib.Core.Option.{Option, none, some}
+use Rattle.std.specs.Prelude.{Some, Result, Ok, Err, IfOk}
 use lib.ListN.{length}
 use Rattle.model.specs.Layout.{authenticated}
 use Rattle.model.specs.declared.Session.{Session}
@@ -42,13 +43,12 @@ use Rattle.profile.specs.declared.Settings.{Settings}
 use Rattle.profile.specs.Reader.{requests_in, Reads}
 use Rattle.profile.specs.Folded.{Folds}
 use Rattle.profile.proofs.Whole.{read-form, read-items}
-use Rattle.image.proofs.Ready.{refused-rule}
+use Rattle.image.proofs.Readiness.{refused-rule}
 use Rattle.image.specs.Check.{call_of, IsReady}
-use Rattle.image.specs.declared.Check.TheVariants.{Refused}
 use Rattle.planner.proofs.Ready.{region-size}
 use Rattle.planner.proofs.Changed.{foldable}
-use Rattle.decision.specs.declared.Decision.{Decision}
-use Rattle.decision.specs.declared.Decision.TheVariants as decision
+use Rattle.decision.specs.declared.Change as deciding
+use Rattle.decision.specs.declared.Change.TheVariants as decision
 use Rattle.decision.specs.Decision.{broken_of}
 use Rattle.decision.proofs.Accepted.{weighed-rule, weighed-nothing, weighed-put, weighed-remove}
 use Rattle.decision.specs.Profile.{told_of, limits_of, weighed_of, Weighable}
@@ -82,7 +82,7 @@ module _ (m : Bool) (s : Session) (file img : List ℕ) where
   refused-by e = rw e
 
   -- rule 1 or 2
-  pub image-refused : (rule : Rule) → call_of img ≡ Refused rule → profile_plan m s file img ≡ refuse rule
+  pub image-refused : (rule : Rule) → call_of img ≡ Err rule → profile_plan m s file img ≡ refuse rule
   image-refused rule h = refused-by (stages ∙ rw (refused-rule authenticated img rule h))
 
   module _ (kept : first_broken (image_rules img) ≡ none) where
@@ -102,16 +102,16 @@ module _ (m : Bool) (s : Session) (file img : List ℕ) where
 
 -- ---- the file as it was read
 
-module _ {file : List ℕ} {p : Settings} (reads : Reads file p) (good : p.good ≡ true) where
+module _ {file : List ℕ} {p : Settings} (reads : Reads file (Some p)) where
   pub formed : rule25 file ≡ false
-  formed = read-form reads ∙ ap not good
+  formed = read-form reads
 
   pub twice : (b : Bool) → shares_name_def (requests_in file p) ≡ b → rule26 (items_in file) ≡ b
   unfolding rule26
-  twice b h = ap shares_name_def (read-items reads good) ∙ h
+  twice b h = ap shares_name_def (read-items reads) ∙ h
 
   pub in-form : EachItem InForm (requests_in file p)
-  in-form = subst (EachItem InForm) (read-items reads good) (file-form file)
+  in-form = subst (EachItem InForm) (read-items reads) (file-form file)
 
 -- ---- what is said to each name
 
@@ -122,10 +122,10 @@ alone-as told told' limits limits' t l [] vs = refl
 alone-as told told' limits limits' t l (r ∷ rs) vs = rw (t (request_key r), l (request_key r), alone-as told told' limits limits' t l rs vs)
 
 -- what the judging of the items asks of the region that was cut
-pub weigh-asked : {file img r : List ℕ} {p : Settings} {b at used : ℕ} → IsReady img b at used → r ≡ part 0 (4096 * b) img → Reads file p → p.good ≡ true
+pub weigh-asked : {file img r : List ℕ} {p : Settings} {b at used : ℕ} → IsReady img b at used → r ≡ part 0 (4096 * b) img → Reads file (Some p)
     → shares_name_def (requests_in file p) ≡ false
     → Weighable r file p
-weigh-asked ready cut reads good apart =
+weigh-asked ready cut reads apart =
     let is = cut ∙ ready.cut in
     let n = ap length is in
     record {
@@ -133,14 +133,14 @@ weigh-asked ready cut reads good apart =
       small = omega (arith, ready.few, ready.long);
       few = reads.few;
       within = reads.within;
-      formed = in-form reads good;
+      formed = in-form reads;
       apart = apart;
     }
 
 -- the region that was cut, with what was decided over it
-module _ (t : Terms) (held : Locks) (locks table : List ℕ) {file img r : List ℕ} {p : Settings} {b at used : ℕ} {what : Decision}
+module _ (t : Terms) (held : Locks) (locks table : List ℕ) {file img r : List ℕ} {p : Settings} {b at used : ℕ} {what : Result deciding.Change Rule}
     (ready : IsReady img b at used) (cut : r ≡ part 0 (4096 * b) img)
-    (reads : Reads file p) (good : p.good ≡ true) (apart : shares_name_def (requests_in file p) ≡ false)
+    (reads : Reads file (Some p)) (apart : shares_name_def (requests_in file p) ≡ false)
     (d : what ≡ weighed_of t (told_of t held locks) (limits_of t table) (requests_in file p) (length r) (values (entries r))) where
   its-region : r ≡ region img
   its-region = cut ∙ ready.cut
@@ -149,12 +149,12 @@ module _ (t : Terms) (held : Locks) (locks table : List ℕ) {file img r : List 
   unfolding values_in
   decided-so =
       let long : length (region img) ≡ region_size img = ready.long ∙ sym (region-size img b ready.number) in
-      let f : ℕ → List ℕ → Decision = λ n x. weighed_of t (told_of t held locks) (limits_of t table) (requests_in file p) n (values (entries x)) in
+      let f : ℕ → List ℕ → Result deciding.Change Rule = λ n x. weighed_of t (told_of t held locks) (limits_of t table) (requests_in file p) n (values (entries x)) in
       sym (d ∙ ap (λ (x : List ℕ). f (length x) x) its-region ∙ ap (λ (n : ℕ). f n (region img)) long)
 
   module _ (m : Bool) (s : Session) (says : SaysAll m s t held locks table) where
     pub its-changes : changes_in (items_in file) (values_of img) ≡ changes_alone (requests_in file p) (values_of img)
-    its-changes = ap (λ (xs : List Request). changes_in xs (values_of img)) (read-items reads good) ∙ changes-alone (requests_in file p) (values_of img) apart
+    its-changes = ap (λ (xs : List Request). changes_in xs (values_of img)) (read-items reads) ∙ changes-alone (requests_in file p) (values_of img) apart
 
     its-limits : (k : Key) → limits_for s.setup k ≡ limits_in table t.rules k
     unfolding terms_for_def
@@ -162,8 +162,8 @@ module _ (t : Terms) (held : Locks) (locks table : List ℕ) {file img r : List 
 
     its-rules : first_broken (items_rules m s (items_in file) (values_of img)) ≡ first_broken (items_alone (told_of t held locks) (limits_of t table) (requests_in file p) (values_of img))
     its-rules =
-        ap (λ (xs : List Request). first_broken (items_rules m s xs (values_of img))) (read-items reads good)
-        ∙ items-alone m s (requests_in file p) (values_of img) (in-form reads good) apart
+        ap (λ (xs : List Request). first_broken (items_rules m s xs (values_of img))) (read-items reads)
+        ∙ items-alone m s (requests_in file p) (values_of img) (in-form reads) apart
         ∙ ap first_broken (alone-as (terms_of m s) (told_of t held locks) (limits_for s.setup) (limits_of t table) says.each its-limits (requests_in file p) (values_of img))
 
     its-room : rule13 (terms_for_def m s) (region_size img) (changes_in (items_in file) (values_of img)) (values_of img)
@@ -175,14 +175,14 @@ module _ (t : Terms) (held : Locks) (locks table : List ℕ) {file img r : List 
         let vs : List Value = values_of img in
         let a : List (Rule × Bool) = items_alone (told_of t held locks) (limits_of t table) (requests_in file p) vs in
         let e : List (Rule × Bool) = (Room, rule13 t (region_size img) (changes_alone (requests_in file p) vs) vs) ∷ [] in
-        items-broken m s file img ready.unbroken (formed reads good) (twice reads good false apart)
+        items-broken m s file img ready.unbroken (formed reads) (twice reads false apart)
         ∙ broken-append (items_rules m s (items_in file) vs) ((Room, rule13 (terms_for_def m s) (region_size img) (changes_in (items_in file) vs) vs) ∷ [])
         ∙ ap₂ or_else its-rules (ap (λ (x : Bool). first_broken ((Room, x) ∷ [])) its-room)
         ∙ sym (broken-append a e)
         ∙ sym (weighed-rule t (told_of t held locks) (limits_of t table) (requests_in file p) (region_size img) vs)
         ∙ ap broken_of decided-so
 
-    pub items_refused : {rule : Rule} → what ≡ decision.Broken rule → profile_plan m s file img ≡ refuse rule
+    pub items_refused : {rule : Rule} → what ≡ Err rule → profile_plan m s file img ≡ refuse rule
     items_refused h = refused-by m s file img (broken ∙ ap broken_of h)
 
     -- the changes of a profile are folded in, also where there are none
@@ -200,38 +200,38 @@ module _ (t : Terms) (held : Locks) (locks table : List ℕ) {file img r : List 
 
     -- no stores, or one compaction
 
-    pub items-nothing : what ≡ decision.Nothing → profile_plan m s file img ≡ make [] []
+    pub items-nothing : what ≡ Ok decision.Nothing → profile_plan m s file img ≡ make [] []
     unfolding folded_plan
     items-nothing h =
         plan (ap broken_of h)
         ∙ rw (weighed-nothing t (told_of t held locks) (limits_of t table) (requests_in file p) (region_size img) (values_of img) (decided-so ∙ h)).1
 
-    pub never-removed : what ≡ decision.Remove → ⊥
+    pub never-removed : what ≡ Ok decision.Remove → ⊥
     never-removed h = weighed-remove t (told_of t held locks) (limits_of t table) (requests_in file p) (region_size img) (values_of img) (decided-so ∙ h)
 
-    pub fold-plan : what ≡ decision.Put → profile_plan m s file img ≡ compact_plan img (steps (changes_alone (requests_in file p) (values_of img)) (values_of img))
+    pub fold-plan : what ≡ Ok decision.Put → profile_plan m s file img ≡ compact_plan img (steps (changes_alone (requests_in file p) (values_of img)) (values_of img))
     unfolding folded_plan
     fold-plan h =
         plan (ap broken_of h)
         ∙ rw (weighed-put t (told_of t held locks) (limits_of t table) (requests_in file p) (region_size img) (values_of img) (decided-so ∙ h)).1
 
     -- what they put can be stored, and all fits
-    pub fold-fits : what ≡ decision.Put → Fitting (changes_alone (requests_in file p) (values_of img)) (values_of img) (region_size img)
+    pub fold-fits : what ≡ Ok decision.Put → Fitting (changes_alone (requests_in file p) (values_of img)) (values_of img) (region_size img)
     fold-fits h =
         subst (λ (cs : List Change). Fitting cs (values_of img) (region_size img)) its-changes (profile-fitting m s file img (broken ∙ ap broken_of h))
 
-    pub fold-asked : what ≡ decision.Put → (leave : List ℕ) (stores : List Bool) → Folds r (requests_in file p) leave stores
+    pub fold-asked : what ≡ Ok decision.Put → (leave : List ℕ) (stores : List Bool) → Folds r (requests_in file p) leave stores
         → Foldable img b used (requests_in file p) leave stores
     fold-asked h leave stores folds =
-        foldable ready (in-form reads good) apart (subst (λ (x : List ℕ). Folds x (requests_in file p) leave stores) its-region folds) (fold-fits h)
+        foldable ready (in-form reads) apart (subst (λ (x : List ℕ). Folds x (requests_in file p) leave stores) its-region folds) (fold-fits h)
 
     -- *what was planned*
-    pub fold-plans : what ≡ decision.Put → Bytes img → Bytes file → (before : List ℕ) {c : List ℕ} {q : Planned}
+    pub fold-plans : what ≡ Ok decision.Put → Bytes img → Bytes file → (before : List ℕ) {c : List ℕ} {q : Result Planned Rule}
         → FoldPlanned img (changes_alone (requests_in file p) (values_of img)) c q → Plans (profile_plan m s file img) img before c q
     fold-plans h bytes-img bytes-file before {c} {q} f =
         record {
           same = f.same ∙ sym (fold-plan h);
-          decides = ap (λ (x : Plan). decides_right x q) (fold-plan h) ∙ f.decides;
+          decides = subst (λ (x : Plan). IfOk q (λ y. decides_right x y ≡ true)) (sym (fold-plan h)) f.decides;
           kept = made_kept before c (fold-plan h);
           ready =
               f.ready

@@ -7,7 +7,8 @@ use native.Mathlib.Omega.{arith}
 use mathlib.Core.Path.{◌≡◌, refl, sym, ap, subst, ◌∙◌}
 use mathlib.Core.Bool.{Bool, true, false}
 use mathlib.Core.List.{List, [], ◌∷◌}
-use mathlib.Core.Option.{Option, none, some}
+use mathlib.Core.Option.{Option as Maybe, none, some}
+use Rattle.std.specs.Prelude.{Option, Some, None}
 use lib.ListN.{length, drop, length-take}
 use lib.Dec.{eqb, ltb}
 use Rattle.model.specs.Layout.{authenticated}
@@ -37,38 +38,38 @@ use Rattle.model.specs.declared.Got.{Got}
 use Rattle.layout.specs.declared.Entry as numbers
 use Rattle.region.specs.Walk.{entry_at, vendor_at, entry_as, vendor_as}
 use Rattle.region.proofs.Entries.{vendor}
-use Rattle.values.specs.declared.Found.{Found}
-use Rattle.values.specs.declared.Found.TheVariants.{At, Nothing}
+use Rattle.region.specs.declared.Placed.{Placed}
 use Rattle.values.proofs.Sizes.{lengths}
 use Rattle.query.specs.Query.{entry_in}
 use Rattle.query.proofs.Held.{value_in}
 use Rattle.engine.specs.Read.{found_broken, read_broken, reply_of, found_reply, short_of, reply_to, refused_got, Answered, next_at, next_broken_at, next_reply_at}
+use Rattle.image.specs.declared.Ready.{Ready}
 use Rattle.engine.proofs.Opened.{Opens, Refuses}
 
 -- no stores: done with 0, whatever the context is
-pub no_stores : (x : Context) (broken : Option Rule) (img : List ℕ)
+pub no_stores : (x : Context) (broken : Maybe Rule) (img : List ℕ)
     → outcome x (on_some broken refuse (make [] [])) img ≡ on_some broken (λ rule. refused (rule_number rule)) (done 0)
 unfolding outcome reach stores
 no_stores x none img = ended-done x.limit 0 0 (omega arith) (omega arith)
 no_stores x (some rule) img = refl
 
 -- a rule before 14 is broken
-pub answered-refused : (rule : Rule) → eqb (rule_number rule) 14 ≡ false → (broken : Option Rule) → broken ≡ some rule
-    → (found : Option Value) (bytes : Value → List ℕ) (attributes : Value → ℕ) (buffer : List ℕ)
+pub answered-refused : (rule : Rule) → eqb (rule_number rule) 14 ≡ false → (broken : Maybe Rule) → broken ≡ some rule
+    → (found : Maybe Value) (bytes : Value → List ℕ) (attributes : Value → ℕ) (buffer : List ℕ)
     → Answered broken (reply_of broken found bytes attributes buffer) (refused_got rule 0) buffer
 unfolding reply_of refusal
 answered-refused rule n broken b found bytes attributes buffer =
     rw b (record { answer = refl; size = refl; attributes = refl; needed = rw n; buffer = refl })
 
 -- nothing is found
-pub answered-absent : (found : Option Value) → found ≡ none → (bytes : Value → List ℕ) (attributes : Value → ℕ) (buffer : List ℕ)
+pub answered-absent : (found : Maybe Value) → found ≡ none → (bytes : Value → List ℕ) (attributes : Value → ℕ) (buffer : List ℕ)
     → Answered (found_broken found bytes buffer) (found_reply found bytes attributes buffer) (refused_got Absent 0) buffer
 unfolding found_broken first_broken rule11_read
 answered-absent found f bytes attributes buffer =
     answered-refused Absent refl (found_broken found bytes buffer) (rw f) found bytes attributes buffer
 
 -- a value is found, and its bytes are handed out
-pub answered-found : (v : Value) (found : Option Value) → found ≡ some v → (bytes : Value → List ℕ) (attributes : Value → ℕ) (buffer : List ℕ)
+pub answered-found : (v : Value) (found : Maybe Value) → found ≡ some v → (bytes : Value → List ℕ) (attributes : Value → ℕ) (buffer : List ℕ)
     → (given : List ℕ) → given ≡ bytes v → (bits : ℕ) → bits ≡ attributes v → {got : Got} {after : List ℕ}
     → Answered (short_of given buffer) (reply_to given bits buffer) got after
     → Answered (found_broken found bytes buffer) (found_reply found bytes attributes buffer) got after
@@ -91,12 +92,12 @@ module _ (bytes : List ℕ) (attributes : ℕ) (buffer : List ℕ) where
 
 -- ---- the value of the entry found
 
-module _ (r : List ℕ) (f : Found) (o : Option Entry) (q : entry_in r f ≡ o) (value : Option Value) (held : value_in o ≡ value) where
-  pub value_found : (at : ℕ) (e : numbers.Entry) → f ≡ At at e → value ≡ some (entry_value_def (entry_at r at e))
-  value_found at e p = sym held ∙ ap value_in (sym q) ∙ ap (λ (x : Found). value_in (entry_in r x)) p
+module _ (r : List ℕ) (f : Option Placed) (o : Maybe Entry) (q : entry_in r f ≡ o) (value : Maybe Value) (held : value_in o ≡ value) where
+  pub value_found : (p : Placed) → f ≡ Some p → value ≡ some (entry_value_def (entry_at r p.at p.entry))
+  value_found p e = sym held ∙ ap value_in (sym q) ∙ ap (λ (x : Option Placed). value_in (entry_in r x)) e
 
-  pub value_none : f ≡ Nothing → value ≡ none
-  value_none p = sym held ∙ ap value_in (sym q) ∙ ap (λ (x : Found). value_in (entry_in r x)) p
+  pub value_none : f ≡ None → value ≡ none
+  value_none p = sym held ∙ ap value_in (sym q) ∙ ap (λ (x : Option Placed). value_in (entry_in r x)) p
 
 pub entry-attributes : (r : List ℕ) (at : ℕ) (e : numbers.Entry) → e.attributes ≡ (entry_at r at e).header.attributes
 unfolding entry_as placed
@@ -118,16 +119,16 @@ short-vendor r at = rw (vendor authenticated r at, length-take 16 (drop (at + 44
 
 -- ---- rules 1, 2, 3 and 22 before 11 and 14
 
-module _ (img : List ℕ) (found : Option Value) (bytes : Value → List ℕ) (attributes : Value → ℕ) (buffer : List ℕ) where
+module _ (img : List ℕ) (found : Maybe Value) (bytes : Value → List ℕ) (attributes : Value → ℕ) (buffer : List ℕ) where
   abbrev Read : Bool → Bool → Got → List ℕ → Type 0
   Read named foreign got after =
       Answered (read_broken img named foreign found bytes buffer) (reply_of (read_broken img named foreign found bytes buffer) found bytes attributes buffer) got after
 
-  pub read_found : {b t u : ℕ} {named foreign : Bool} → Opens img b t u named foreign → {got : Got} {after : List ℕ}
+  pub read_found : {x : Ready} {named foreign : Bool} → Opens img x named foreign → {got : Got} {after : List ℕ}
       → Answered (found_broken found bytes buffer) (found_reply found bytes attributes buffer) got after → Read named foreign got after
   unfolding read_broken found_broken
   read_found o {got} {after} h =
-      subst (λ (x : Option Rule). Answered x (reply_of x found bytes attributes buffer) got after)
+      subst (λ (x : Maybe Rule). Answered x (reply_of x found bytes attributes buffer) got after)
       (sym (o.later ((Absent, rule11_read found) ∷ (Buffer, rule14 found bytes buffer) ∷ []))) h
 
   pub read-refused : {rule : Rule} {named foreign : Bool} → Refuses img rule named foreign → Read named foreign (refused_got rule 0) buffer
@@ -136,11 +137,11 @@ module _ (img : List ℕ) (found : Option Value) (bytes : Value → List ℕ) (a
       answered-refused rule x.before-14 (read_broken img named foreign found bytes buffer)
       (x.broken ((Absent, rule11_read found) ∷ (Buffer, rule14 found bytes buffer) ∷ [])) found bytes attributes buffer
 
-pub read_as : (img : List ℕ) (bytes : Value → List ℕ) (attributes : Value → ℕ) (buffer : List ℕ) {found found' : Option Value} {named named' foreign foreign' : Bool} {got : Got} {after : List ℕ}
+pub read_as : (img : List ℕ) (bytes : Value → List ℕ) (attributes : Value → ℕ) (buffer : List ℕ) {found found' : Maybe Value} {named named' foreign foreign' : Bool} {got : Got} {after : List ℕ}
     → found ≡ found' → named ≡ named' → foreign ≡ foreign'
     → Read img found bytes attributes buffer named foreign got after → Read img found' bytes attributes buffer named' foreign' got after
 read_as img bytes attributes buffer {found} {found'} {named} {named'} {foreign} {foreign'} {got} {after} f n o h =
-    subst (λ (x : Option Value). Read img x bytes attributes buffer named' foreign' got after) f
+    subst (λ (x : Maybe Value). Read img x bytes attributes buffer named' foreign' got after) f
     (subst (λ (x : Bool). Read img found bytes attributes buffer x foreign' got after) n
     (subst (λ (x : Bool). Read img found bytes attributes buffer named x got after) o h))
 
@@ -174,7 +175,7 @@ no-attributes : (m : Bool) (s : Session) (k : Key) (buffer img : List ℕ) → (
 unfolding next_reply refusal written
 no-attributes m s k buffer img = go (next_broken m s k buffer img) (value_named m s k img)
   where
-    go : (o : Option Rule) (v : Option Value)
+    go : (o : Maybe Rule) (v : Maybe Value)
         → (on_some o (λ rule. refusal rule (on_some v (λ w. length (named_bytes w)) 0) buffer) (on_some v (λ w. written (named_bytes w) 0 buffer) (written [] 0 buffer))).attributes ≡ 0
     go (some rule) v = refl
     go none (some w) = refl

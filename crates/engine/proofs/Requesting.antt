@@ -4,13 +4,12 @@
 use Prim.Native.Nat.{ℕ, ◌*◌, ◌≤◌}
 use native.Mathlib.Omega.{arith}
 use mathlib.Core.Path.{◌≡◌, refl, sym, ap, ap₂, ◌∙◌, subst}
-use mathlib.Core.Logic.{◌≢◌}
 use mathlib.Core.Bool.{Bool, true, false, cond, false≢true}
 use mathlib.Core.List.{List, [], ◌∷◌, ◌++◌, append_assoc}
-use mathlib.Core.Option.{Option, none, some}
+use mathlib.Core.Option.{Option as Maybe, none, some}
+use Rattle.std.specs.Prelude.{Option, Some, None, Result, Ok, Err, IfOk}
 use lib.ListN.{length}
 use lib.Dec.{eqb}
-use borrow.Author.Tests.{eq-eqb, ne_eqb}
 use Rattle.model.specs.Layout.{authenticated}
 use Rattle.model.specs.declared.Session.{Session}
 use Rattle.model.specs.declared.Terms.{Terms}
@@ -33,20 +32,19 @@ use Rattle.model.proofs.Requests.{broken-append, mode-fitting}
 use Rattle.model.proofs.Joint.{mode-valid}
 use Rattle.recovery.proofs.Bits.{marks-clear-one-bit}
 use Rattle.values.specs.Found.{found_of, else_found}
-use Rattle.values.specs.declared.Found.{Found}
+use Rattle.region.specs.declared.Placed.{Placed}
 use Rattle.values.specs.declared.Places.{Places}
 use Rattle.values.proofs.Finds.{found-else}
-use Rattle.image.proofs.Ready.{refused-rule}
+use Rattle.image.proofs.Readiness.{refused-rule}
 use Rattle.image.specs.Check.{call_of, IsReady}
-use Rattle.image.specs.declared.Check.TheVariants.{Refused}
 use Rattle.plan.specs.declared.Planned.{Planned}
 use Rattle.plan.specs.Planned.{decides_right, Kept, Plans}
 use Rattle.plan.proofs.Parts.{made_kept, either-kept}
 use Rattle.planner.specs.Asked.{valued, Asked, PutPlanned, joint_changes, stands_at, Joinable, FoldPlanned}
 use Rattle.planner.proofs.Ready.{region-size}
 use Rattle.session.specs.declared.Locks.{Locks}
-use Rattle.decision.specs.declared.Decision.{Decision}
-use Rattle.decision.specs.declared.Decision.TheVariants as decision
+use Rattle.decision.specs.declared.Change as deciding
+use Rattle.decision.specs.declared.Change.TheVariants as decision
 use Rattle.decision.specs.Decision.{decided, broken_of}
 use Rattle.decision.specs.Parts.{found_pk, offset_of}
 use Rattle.decision.specs.Modes.{barring, transition_rules, transition_of, byte_of, transition_by}
@@ -73,7 +71,7 @@ module _ (m : Bool) (s : Session) (to : ℕ) (img : List ℕ) where
   refused-by e = rw e
 
   -- rule 1 or 2
-  pub image-refused : (rule : Rule) → call_of img ≡ Refused rule → mode_plan m s to img ≡ refuse rule
+  pub image-refused : (rule : Rule) → call_of img ≡ Err rule → mode_plan m s to img ≡ refuse rule
   image-refused rule h = refused-by (stages ∙ rw (refused-rule authenticated img rule h))
 
   -- ---- in a session that says so
@@ -89,7 +87,7 @@ module _ (m : Bool) (s : Session) (to : ℕ) (img : List ℕ) where
     its-room : rule13 (terms_for_def m s) (region_size img) cs (values_of img) ≡ rule13 t (region_size img) cs (values_of img)
     its-room = ap (λ (y : Terms). rule13 y (region_size img) cs (values_of img)) says.terms
 
-    named : (o : Option Rule) → broken_of (decided o decision.Put) ≡ o
+    named : (o : Maybe Rule) → broken_of (decided o (Ok decision.Put)) ≡ o
     named (some rule) = refl
     named none = refl
 
@@ -98,7 +96,7 @@ module _ (m : Bool) (s : Session) (to : ℕ) (img : List ℕ) where
     unfolding transition_of
     its-broken h =
         stages
-        ∙ ap (λ (o : Option Rule). or_else o (first_broken (own_rules ++ room_rule))) h
+        ∙ ap (λ (o : Maybe Rule). or_else o (first_broken (own_rules ++ room_rule))) h
         ∙ ap₂ (λ (x : List (Rule × Bool)) (b : Bool). first_broken (x ++ ((Room, b) ∷ []))) its-rules its-room
         ∙ sym (named (first_broken (transition_rules t (barring held locks) cs ++ ((Room, rule13 t (region_size img) cs (values_of img)) ∷ []))))
 
@@ -115,13 +113,13 @@ region-asked ready cut =
     (ap sound is ∙ ready.sounds, omega (arith, ready.few, ready.long))
 
 -- the region that was cut, with what was decided over it
-module _ (t : Terms) (held : Locks) (locks : List ℕ) (to : ℕ) (places : Places) (pk byte : ℕ) {img r : List ℕ} {b at used : ℕ} {what : Decision}
+module _ (t : Terms) (held : Locks) (locks : List ℕ) (to : ℕ) (places : Places) (pk : Option ℕ) (byte : ℕ) {img r : List ℕ} {b at used : ℕ} {what : Result deciding.Change Rule}
     (ready : IsReady img b at used) (cut : r ≡ part 0 (4096 * b) img)
     (d : (what ≡ transition_of t (barring held locks) to (length r) (values (entries r)))
     × (places.added ≡ found_of (added key_mode (entries r)))
     × (places.replacing ≡ found_of (replacing key_mode (entries r)))
-    × (what ≡ decision.Put → transition_by pk byte ≡ mode_changes to (values (entries r)))
-    × (pk ≢ 0 → pk ≡ offset_of (found_pk r))
+    × (what ≡ Ok decision.Put → transition_by pk byte ≡ mode_changes to (values (entries r)))
+    × ((at : ℕ) → pk ≡ Some at → offset_of (found_pk r) ≡ Some at)
     × (byte ≡ byte_of to)) where
   its-region : r ≡ region img
   its-region = cut ∙ ready.cut
@@ -134,28 +132,28 @@ module _ (t : Terms) (held : Locks) (locks : List ℕ) (to : ℕ) (places : Plac
       ∙ ap (λ (n : ℕ). transition_of t (barring held locks) to n (values (entries (region img)))) long)
 
   -- a rule, or a put
-  only-put : (o : Option Rule) → decided o decision.Put ≡ what → (what ≡ decision.Nothing → ⊥) × (what ≡ decision.Remove → ⊥)
+  only-put : (o : Maybe Rule) → decided o (Ok decision.Put) ≡ what → (what ≡ Ok decision.Nothing → ⊥) × (what ≡ Ok decision.Remove → ⊥)
   only-put (some rule) e = (λ h. let z : ◌≡◌ {A = ℕ} 0 1 = cc in absurd (omega arith), λ h. let z : ◌≡◌ {A = ℕ} 0 1 = cc in absurd (omega arith))
   only-put none e = (λ h. let z : ◌≡◌ {A = ℕ} 0 1 = cc in absurd (omega arith), λ h. let z : ◌≡◌ {A = ℕ} 0 1 = cc in absurd (omega arith))
 
-  pub never-else : (what ≡ decision.Nothing → ⊥) × (what ≡ decision.Remove → ⊥)
+  pub never-else : (what ≡ Ok decision.Nothing → ⊥) × (what ≡ Ok decision.Remove → ⊥)
   unfolding transition_of
   never-else =
       only-put
       (first_broken (transition_rules t (barring held locks) (mode_changes to (values_of img)) ++ ((Room, rule13 t (region_size img) (mode_changes to (values_of img)) (values_of img)) ∷ [])))
       decided-so
 
-  its-changes : what ≡ decision.Put → transition_by pk byte ≡ mode_changes to (values_of img)
+  its-changes : what ≡ Ok decision.Put → transition_by pk byte ≡ mode_changes to (values_of img)
   unfolding values_in
   its-changes h = d.3 h ∙ ap (λ (x : List ℕ). mode_changes to (values (entries x))) its-region
 
-  alone-changes : what ≡ decision.Put → pk ≡ 0 → mode_changes to (values_of img) ≡ put (mode_value byte) ∷ []
+  alone-changes : what ≡ Ok decision.Put → pk ≡ None → mode_changes to (values_of img) ≡ put (mode_value byte) ∷ []
   unfolding transition_by
-  alone-changes h z = sym (its-changes h) ∙ rw (eq-eqb pk 0 z)
+  alone-changes h z = sym (its-changes h) ∙ rw z
 
-  both-changes : what ≡ decision.Put → pk ≢ 0 → mode_changes to (values_of img) ≡ remove key_pk ∷ put (mode_value byte) ∷ []
+  both-changes : what ≡ Ok decision.Put → {at : ℕ} → pk ≡ Some at → mode_changes to (values_of img) ≡ remove key_pk ∷ put (mode_value byte) ∷ []
   unfolding transition_by
-  both-changes h n = sym (its-changes h) ∙ rw (ne_eqb pk 0 n)
+  both-changes h n = sym (its-changes h) ∙ rw n
 
   -- it is a byte that says that PlatMode's value comes
   some_byte : eqb byte 0 ≡ false
@@ -174,14 +172,14 @@ module _ (t : Terms) (held : Locks) (locks : List ℕ) (to : ℕ) (places : Plac
   joint = rw some_byte
 
   -- the offsets of what stands
-  offset-of : (o : Option walk.Entry) → offset_of (found_of o) ≡ on_some o (λ e. e.at) 0
+  offset-of : (o : Maybe walk.Entry) → offset_of (found_of o) ≡ on_some o (λ e. Some e.at) None
   offset-of (some e) = refl
   offset-of none = refl
 
-  pk-at : pk ≢ 0 → pk ≡ stands_at key_pk (region img)
-  pk-at n = d.4 n ∙ ap (λ (x : List ℕ). offset_of (found_pk x)) its-region ∙ offset-of (standing key_pk (entries (region img)))
+  pk-at : {at : ℕ} → pk ≡ Some at → Some at ≡ stands_at key_pk (region img)
+  pk-at {at} n = sym (d.4 at n) ∙ ap (λ (x : List ℕ). offset_of (found_pk x)) its-region ∙ offset-of (standing key_pk (entries (region img)))
 
-  mode-at : {there : ℕ} {f : Found} → f ≡ else_found places.added places.replacing → there ≡ offset_of f → there ≡ stands_at key_mode (region img)
+  mode-at : {there : Option ℕ} {f : Option Placed} → f ≡ else_found places.added places.replacing → there ≡ offset_of f → there ≡ stands_at key_mode (region img)
   unfolding standing
   mode-at e h =
       let es = entries r in
@@ -193,19 +191,19 @@ module _ (t : Terms) (held : Locks) (locks : List ℕ) (to : ℕ) (places : Plac
     broken : mode_broken m s to img ≡ broken_of what
     broken = its-broken m s to img says ready.unbroken ∙ ap broken_of decided-so
 
-    pub mode-refused : {rule : Rule} → what ≡ decision.Broken rule → mode_plan m s to img ≡ refuse rule
+    pub mode-refused : {rule : Rule} → what ≡ Err rule → mode_plan m s to img ≡ refuse rule
     mode-refused h = refused-by m s to img (broken ∙ ap broken_of h)
 
-    plan : (cs : List Change) → what ≡ decision.Put → mode_changes to (values_of img) ≡ cs → mode_plan m s to img ≡ changes_plan false img cs
+    plan : (cs : List Change) → what ≡ Ok decision.Put → mode_changes to (values_of img) ≡ cs → mode_plan m s to img ≡ changes_plan false img cs
     unfolding plan_of
     plan cs h e = rw (broken ∙ ap broken_of h, e)
 
-    fits : (cs : List Change) → what ≡ decision.Put → mode_changes to (values_of img) ≡ cs → space_of (steps cs (values_of img)) ≤ region_size img
+    fits : (cs : List Change) → what ≡ Ok decision.Put → mode_changes to (values_of img) ≡ cs → space_of (steps cs (values_of img)) ≤ region_size img
     fits cs h e = rw (← e) (mode-fitting m s to img (broken ∙ ap broken_of h)).room
 
     -- ---- the mode alone
 
-    pub alone-asked : what ≡ decision.Put → pk ≡ 0 → Asked img b at used places (mode_value byte)
+    pub alone-asked : what ≡ Ok decision.Put → pk ≡ None → Asked img b at used places (mode_value byte)
     unfolding steps
     alone-asked h z = record {
       ready = ready;
@@ -215,23 +213,23 @@ module _ (t : Terms) (held : Locks) (locks : List ℕ) (to : ℕ) (places : Plac
       room = fits (put (mode_value byte) ∷ []) h (alone-changes h z);
     }
 
-    alone-plan : what ≡ decision.Put → pk ≡ 0 → mode_plan m s to img ≡ put_plan img (mode_value byte)
+    alone-plan : what ≡ Ok decision.Put → pk ≡ None → mode_plan m s to img ≡ put_plan img (mode_value byte)
     unfolding change_plan
     alone-plan h z = plan (put (mode_value byte) ∷ []) h (alone-changes h z)
 
-    alone-kept : what ≡ decision.Put → pk ≡ 0 → (before c : List ℕ) → Kept (mode_plan m s to img) before c
+    alone-kept : what ≡ Ok decision.Put → pk ≡ None → (before c : List ℕ) → Kept (mode_plan m s to img) before c
     unfolding put_plan
     alone-kept h z before c =
         subst (λ (p : Plan). Kept p before c) (sym (alone-plan h z)) (either-kept (fits_tail (region img) (mode_value byte)) _ _ _ _ before c)
 
-    pub alone-plans : what ≡ decision.Put → pk ≡ 0 → Bytes img → (before : List ℕ) {c : List ℕ} {p : Planned} → PutPlanned img (mode_value byte) c p
+    pub alone-plans : what ≡ Ok decision.Put → pk ≡ None → Bytes img → (before : List ℕ) {c : List ℕ} {p : Result Planned Rule} → PutPlanned img (mode_value byte) c p
         → Plans (mode_plan m s to img) img before c p
     unfolding in_place_def
     alone-plans h z bytes-img before {c} {p} q =
         let is = alone-plan h z in
         record {
           same = q.same ∙ sym is;
-          decides = ap (λ (x : Plan). decides_right x p) is ∙ q.decides;
+          decides = subst (λ (x : Plan). IfOk p (λ y. decides_right x y ≡ true)) (sym is) q.decides;
           kept = alone-kept h z before c;
           ready =
               q.ready
@@ -242,8 +240,8 @@ module _ (t : Terms) (held : Locks) (locks : List ℕ) (to : ℕ) (places : Plac
 
     -- ---- PK goes first
 
-    pub losing-asked : what ≡ decision.Put → pk ≢ 0 → {there : ℕ} {f : Found} → f ≡ else_found places.added places.replacing → there ≡ offset_of f
-        → Joinable img b used pk there false no_value byte
+    pub losing-asked : what ≡ Ok decision.Put → {at : ℕ} → pk ≡ Some at → {there : Option ℕ} {f : Option Placed} → f ≡ else_found places.added places.replacing → there ≡ offset_of f
+        → Joinable img b used (Some at) there false no_value byte
     losing-asked h n e o = record {
       tail = at;
       ready = ready;
@@ -254,19 +252,19 @@ module _ (t : Terms) (held : Locks) (locks : List ℕ) (to : ℕ) (places : Plac
       room = rw joint (fits (remove key_pk ∷ put (mode_value byte) ∷ []) h (both-changes h n));
     }
 
-    losing-plan : what ≡ decision.Put → pk ≢ 0 → mode_plan m s to img ≡ compact_plan img (steps (joint_changes false no_value byte) (values_of img))
+    losing-plan : what ≡ Ok decision.Put → {at : ℕ} → pk ≡ Some at → mode_plan m s to img ≡ compact_plan img (steps (joint_changes false no_value byte) (values_of img))
     unfolding folded_plan
     losing-plan h n =
         plan (remove key_pk ∷ put (mode_value byte) ∷ []) h (both-changes h n)
         ∙ ap (λ (cs : List Change). compact_plan img (steps cs (values_of img))) (sym joint)
 
-    pub losing-plans : what ≡ decision.Put → pk ≢ 0 → Bytes img → (before : List ℕ) {c : List ℕ} {p : Planned} → FoldPlanned img (joint_changes false no_value byte) c p
+    pub losing-plans : what ≡ Ok decision.Put → {at : ℕ} → pk ≡ Some at → Bytes img → (before : List ℕ) {c : List ℕ} {p : Result Planned Rule} → FoldPlanned img (joint_changes false no_value byte) c p
         → Plans (mode_plan m s to img) img before c p
     losing-plans h n bytes-img before {c} {p} q =
         let is = losing-plan h n in
         record {
           same = q.same ∙ sym is;
-          decides = ap (λ (x : Plan). decides_right x p) is ∙ q.decides;
+          decides = subst (λ (x : Plan). IfOk p (λ y. decides_right x y ≡ true)) (sym is) q.decides;
           kept = made_kept before c is;
           ready = q.ready (λ w. subst (λ (ss : List Store). ClearsOne (is_record img) ss img) (ap (stores_of w) is) (marks-clear-one-bit w img bytes-img (mode m s to) tt).0);
         }

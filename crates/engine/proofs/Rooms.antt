@@ -27,8 +27,9 @@ use Rattle.model.proofs.Requests.{broken-append}
 use Rattle.model.proofs.Space.{all-sizes}
 use Rattle.values.proofs.Counting.{both-sides}
 use Rattle.image.specs.Check.{call_of, IsReady}
-use Rattle.image.specs.declared.Check.TheVariants as call
-use Rattle.image.proofs.Ready.{is-ready, refused-rule}
+use Rattle.image.specs.declared.Ready.{Ready}
+use Rattle.std.specs.Prelude.{Ok, Err}
+use Rattle.image.proofs.Readiness.{is-ready, refused-rule}
 
 -- ---- attributes that no value has
 
@@ -78,11 +79,11 @@ module _ (t : Terms) (img : List ℕ) (a : ℕ) where
   unfolding query_outcome query_gives
   told-rule rule b e = rw (e, b) (refl, refl, refl, refl)
 
-  pub told-refused : {q : Queried} (rule : Rule) → call_of img ≡ call.Refused rule → q ≡ record { answer = Refused rule; storage = 0; remaining = 0; largest = 0 } → Told t img a q
+  pub told-refused : {q : Queried} (rule : Rule) → call_of img ≡ Err rule → q ≡ record { answer = Refused rule; storage = 0; remaining = 0; largest = 0 } → Told t img a q
   told-refused rule p = told-rule rule (judged ∙ rw (refused-rule authenticated img rule p))
 
-  module _ {b at u : ℕ} (p : call_of img ≡ call.Ready b at u) where
-    ready : IsReady img b at u
+  module _ {x : Ready} (p : call_of img ≡ Ok x) where
+    ready : IsReady img x.blocks x.tail x.used
     ready = is-ready authenticated p
 
     pub told-unknown : {q : Queried} → (rule4 runtime a || eqb a 0) ≡ true → q ≡ record { answer = Refused Attributes; storage = 0; remaining = 0; largest = 0 } → Told t img a q

@@ -5,11 +5,10 @@ use Prim.Native.Nat.{ℕ, ◌*◌, ◌^◌, ◌≤◌}
 use native.Mathlib.Omega.{arith}
 use mathlib.Core.Path.{◌≡◌, refl, sym, ap, ap₂, ◌∙◌, subst}
 use mathlib.Core.Bool.{Bool, true, false, not, cond, ◌&&◌, false≢true}
-use mathlib.Core.Logic.{◌≢◌}
 use mathlib.Core.List.{List, [], ◌∷◌, ◌++◌}
-use mathlib.Core.Option.{Option, none, some}
+use mathlib.Core.Option.{Option as Maybe, none, some}
+use Rattle.std.specs.Prelude.{Option, Some, None, Result, Ok, Err, IfOk}
 use lib.ListN.{length}
-use borrow.Author.Tests.{ne_eqb}
 use Rattle.model.specs.Layout.{authenticated}
 use Rattle.model.specs.declared.Session.{Session}
 use Rattle.model.specs.declared.Terms.{Terms}
@@ -34,12 +33,11 @@ use Rattle.model.proofs.Tests.{key-eq}
 use Rattle.model.proofs.Requests.{broken-append, set_rules, kept-valid, kept-room, kept-fits, remove-present}
 use Rattle.values.specs.Found.{found_of, else_found}
 use Rattle.values.specs.declared.Places.{Places}
-use Rattle.image.proofs.Ready.{refused-rule}
+use Rattle.image.proofs.Readiness.{refused-rule}
 use Rattle.image.specs.Check.{call_of, IsReady}
-use Rattle.image.specs.declared.Check.TheVariants.{Refused}
 use Rattle.model.specs.Book.{set, plan_of, set_plan, Sized, ClearsOne, is_state_def, is_record, in_place_def}
 use Rattle.recovery.proofs.Bits.{marks-clear-one-bit}
-use Rattle.plan.specs.declared.Op.{Op}
+use Rattle.plan.specs.declared.Step.{Step}
 use Rattle.plan.specs.declared.Planned.{Planned}
 use Rattle.plan.specs.Planned.{accepted, decides_right, Kept, Plans}
 use Rattle.plan.proofs.Parts.{mark-decides, accepted-plans, either-kept, made_kept}
@@ -49,8 +47,8 @@ use Rattle.planner.proofs.EntryReady.{delete-ready}
 use Rattle.planner.proofs.Found.{places-below}
 use Rattle.planner.specs.Asked.{Asked, PutPlanned, Joinable, FoldPlanned, joint_changes, change_mode, stands_at}
 use Rattle.planner.proofs.Ready.{image-long, region-size, ready-clean}
-use Rattle.decision.specs.declared.Decision.{Decision}
-use Rattle.decision.specs.declared.Decision.TheVariants as decision
+use Rattle.decision.specs.declared.Change as deciding
+use Rattle.decision.specs.declared.Change.TheVariants as decision
 use Rattle.decision.specs.Decision.{request_of, decision_of, broken_of, beside_by}
 use Rattle.decision.specs.Parts.{found_mode, offset_of}
 use Rattle.decision.proofs.Accepted.{rules-broken, nothing-change, remove-change, put-change}
@@ -58,7 +56,7 @@ use Rattle.engine.specs.Write.{byte_by}
 use Rattle.engine.proofs.Bits.{remove-clears}
 
 -- rule 1 or 2 is broken
-pub image-refused : (m : Bool) (s : Session) (q : Request) (img : List ℕ) (rule : Rule) → call_of img ≡ Refused rule → set_plan m s q img ≡ refuse rule
+pub image-refused : (m : Bool) (s : Session) (q : Request) (img : List ℕ) (rule : Rule) → call_of img ≡ Err rule → set_plan m s q img ≡ refuse rule
 unfolding plan_of set_broken
 image-refused m s q img rule h =
     let vs : List Value = values_of img in
@@ -68,7 +66,7 @@ image-refused m s q img rule h =
     let d : List (Rule × Bool) = room_rules (terms_of m s (request_key q)) (region_size img) (changes_of q vs) vs in
     let first : first_broken i ≡ some rule = refused-rule authenticated img rule h in
     let broken : first_broken (i ++ a ++ e ++ d) ≡ some rule = broken-append (i ++ a ++ e) d ∙ rw (broken-append (i ++ a) e, broken-append i a, first) in
-    ap (λ (o : Option Rule). on_some o refuse (changes_plan false img (changes_of q vs))) broken
+    ap (λ (o : Maybe Rule). on_some o refuse (changes_plan false img (changes_of q vs))) broken
 
 -- what is said of the name
 pub said-foreign : (m : Bool) (s : Session) (k : Key) {t : Terms} {table : List ℕ} → Says m s k t table → t.foreign ≡ rule22 t.vendor t.modem k
@@ -76,11 +74,11 @@ unfolding terms_of
 said-foreign m s k says = subst (λ (y : Terms). y.foreign ≡ rule22 y.vendor y.modem k) says.0 refl
 
 -- a joint change by other names for the same numbers
-pub joinable-as : {img : List ℕ} {b used pk pk' mode byte byte' : ℕ} {comes : Bool} {v v' : Value} → pk ≡ pk' → v ≡ v' → byte ≡ byte'
+pub joinable-as : {img : List ℕ} {b used byte byte' : ℕ} {pk pk' mode : Option ℕ} {comes : Bool} {v v' : Value} → pk ≡ pk' → v ≡ v' → byte ≡ byte'
     → Joinable img b used pk' mode comes v' byte' → Joinable img b used pk mode comes v byte
 joinable-as p q r j = rw (p, q, r) j
 
-pub folded-as : {img content : List ℕ} {byte byte' : ℕ} (comes : Bool) {v v' : Value} {p : Planned} → v ≡ v' → byte ≡ byte'
+pub folded-as : {img content : List ℕ} {byte byte' : ℕ} (comes : Bool) {v v' : Value} {p : Result Planned Rule} → v ≡ v' → byte ≡ byte'
     → FoldPlanned img (joint_changes comes v byte) content p → FoldPlanned img (joint_changes comes v' byte') content p
 folded-as {img} {content} comes {p = p} q r f =
     subst (λ (cs : List Change). FoldPlanned img cs content p) (ap₂ (λ (x : Value) (y : ℕ). joint_changes comes x y) q r) f
@@ -94,14 +92,14 @@ region-asked ready cut =
 
 -- the region that was cut, with the decision over it and the places found in it
 module _ (t : Terms) (table name vendor : List ℕ) (a : ℕ) (bytes : List ℕ) (presence verdict : ℕ) (places : Places) (deploys : Bool)
-    {img r : List ℕ} {b at used : ℕ} {what : Decision} {v : Value} {beside : ℕ} (ready : IsReady img b at used) (cut : r ≡ part 0 (4096 * b) img)
+    {img r : List ℕ} {b at used : ℕ} {what : Result deciding.Change Rule} {v : Value} {beside : Option ℕ} (ready : IsReady img b at used) (cut : r ≡ part 0 (4096 * b) img)
     (d : (what ≡ decision_of (limits_in table t.rules (keyed name vendor)) t (request_of name vendor a bytes presence verdict) (length r) (values (entries r)))
     × (broken_of what ≡ none → beside_by beside deploys
     ≡ beside_pk (change_in (request_of name vendor a bytes presence verdict) (values (entries r))) (values (entries r)))
-    × (beside ≢ 0 → beside ≡ offset_of (found_mode r))
+    × ((at : ℕ) → beside ≡ Some at → offset_of (found_mode r) ≡ Some at)
     × (places.added ≡ found_of (added (keyed name vendor) (entries r)))
     × (places.replacing ≡ found_of (replacing (keyed name vendor) (entries r)))
-    × (what ≡ decision.Put → v ≡ new_value (request_of name vendor a bytes presence verdict) (find (keyed name vendor) (values (entries r))))) where
+    × (what ≡ Ok decision.Put → v ≡ new_value (request_of name vendor a bytes presence verdict) (find (keyed name vendor) (values (entries r))))) where
   abbrev q : Request
   q = request_of name vendor a bytes presence verdict
 
@@ -134,7 +132,7 @@ module _ (t : Terms) (table name vendor : List ℕ) (a : ℕ) (bytes : List ℕ)
   pub remove-asked : Below (2 ^ 62) places.added × Below (2 ^ 62) places.replacing
   remove-asked = below (2 ^ 62) (omega (arith, ready.long, ready.few))
 
-  asked-change : what ≡ decision.Put → change_in q (values_of img) ≡ put v
+  asked-change : what ≡ Ok decision.Put → change_in q (values_of img) ≡ put v
   unfolding values_in
   asked-change h =
       put-change ls t q (region_size img) (values_of img) (decided ∙ h)
@@ -146,13 +144,13 @@ module _ (t : Terms) (table name vendor : List ℕ) (a : ℕ) (bytes : List ℕ)
   unfolding values_in
   its-beside n = sym (d.1 n ∙ ap (λ (x : List ℕ). beside_pk (change_in q (values (entries x))) (values (entries x))) its-region)
 
-  alone : broken_of what ≡ none → beside ≡ 0 → changes_of q (values_of img) ≡ change_in q (values_of img) ∷ []
+  alone : broken_of what ≡ none → beside ≡ None → changes_of q (values_of img) ≡ change_in q (values_of img) ∷ []
   unfolding changes_of beside_by
   alone n z = ap (λ (cs : List Change). change_in q (values_of img) ∷ cs) (its-beside n ∙ rw z)
 
-  joined : broken_of what ≡ none → beside ≢ 0 → beside_pk (change_in q (values_of img)) (values_of img) ≡ change_mode (byte_by deploys) ∷ []
+  joined : broken_of what ≡ none → {mode : ℕ} → beside ≡ Some mode → beside_pk (change_in q (values_of img)) (values_of img) ≡ change_mode (byte_by deploys) ∷ []
   unfolding beside_by byte_by
-  joined n z = its-beside n ∙ rw (ne_eqb beside 0 z) (go deploys)
+  joined n z = its-beside n ∙ rw z (go deploys)
     where
       go : (x : Bool) → cond x (put (mode_value deployed_mode) ∷ []) (remove key_mode ∷ []) ≡ change_mode (cond x deployed_mode 0) ∷ []
       go true = refl
@@ -176,7 +174,7 @@ module _ (t : Terms) (table name vendor : List ℕ) (a : ℕ) (bytes : List ℕ)
       go true y f h = key-eq (key_of v) key_pk f
       go false y f h = let z : ◌≡◌ {A = ℕ} 0 1 = cc in absurd (omega arith)
 
-  pub put-asked : what ≡ decision.Put → beside ≡ 0 → Asked img b at used places v
+  pub put-asked : what ≡ Ok decision.Put → beside ≡ None → Asked img b at used places v
   unfolding new_value
   put-asked h z =
       let accepted : first_broken (set_rules t ls q img) ≡ none = kept ∙ ap broken_of h in
@@ -194,27 +192,27 @@ module _ (t : Terms) (table name vendor : List ℕ) (a : ℕ) (bytes : List ℕ)
   found_at : (k : Key) → offset_of (found_of (standing k (entries (region img)))) ≡ stands_at k (region img)
   found_at k = go (standing k (entries (region img)))
     where
-      go : (o : Option walk.Entry) → offset_of (found_of o) ≡ on_some o (λ e. e.at) 0
+      go : (o : Maybe walk.Entry) → offset_of (found_of o) ≡ on_some o (λ e. Some e.at) None
       go (some e) = refl
       go none = refl
 
-  abbrev old : ℕ
+  abbrev old : Option ℕ
   old = offset_of (else_found places.added places.replacing)
 
-  module _ (comes : Bool) (c : Change) (n : broken_of what ≡ none) (z : beside ≢ 0) (change : change_in q (values_of img) ≡ c) (key : keyed name vendor ≡ key_pk)
+  module _ (comes : Bool) (c : Change) (n : broken_of what ≡ none) {mode : ℕ} (z : beside ≡ Some mode) (change : change_in q (values_of img) ≡ c) (key : keyed name vendor ≡ key_pk)
       (is : c ≡ cond comes (put v) (remove key_pk)) where
     joint-changes : changes_of q (values_of img) ≡ joint_changes comes v (byte_by deploys)
     unfolding changes_of
     joint-changes = rw (joined n z) (ap (λ (x : Change). x ∷ change_mode (byte_by deploys) ∷ []) (change ∙ is))
 
-    joint-asked : (comes ≡ true → key_of v ≡ key_pk) → (comes ≡ true → length v.vendor ≡ 16) → Joinable img b used old beside comes v (byte_by deploys)
+    joint-asked : (comes ≡ true → key_of v ≡ key_pk) → (comes ≡ true → length v.vendor ≡ 16) → Joinable img b used old (Some mode) comes v (byte_by deploys)
     joint-asked named long = record {
       tail = at;
       ready = ready;
       first =
           ap offset_of (standing-is [] places (keyed name vendor) (entries (region img)) found-added found-replacing) ∙ found_at (keyed name vendor)
           ∙ ap (λ (k : Key). stands_at k (region img)) key;
-      second = d.2 z ∙ ap (λ (x : List ℕ). offset_of (found_mode x)) its-region ∙ found_at key_mode;
+      second = sym (d.2 mode z) ∙ ap (λ (x : List ℕ). offset_of (found_mode x)) its-region ∙ found_at key_mode;
       named = named;
       valid = λ e.
           kept-valid t ls q img (kept ∙ n) v (change ∙ is ∙ ap (λ (x : Bool). cond x (put v) (remove key_pk)) e)
@@ -222,24 +220,24 @@ module _ (t : Terms) (table name vendor : List ℕ) (a : ℕ) (bytes : List ℕ)
       room = subst (λ (cs : List Change). space_of (steps cs (values_of img)) ≤ region_size img) joint-changes (kept-room t ls q img (kept ∙ n));
     }
 
-  gone-change : what ≡ decision.Remove → change_in q (values_of img) ≡ remove (keyed name vendor)
+  gone-change : what ≡ Ok decision.Remove → change_in q (values_of img) ≡ remove (keyed name vendor)
   gone-change h = remove-change ls t q (region_size img) (values_of img) (decided ∙ h)
 
-  gone-key : what ≡ decision.Remove → beside ≢ 0 → keyed name vendor ≡ key_pk
+  gone-key : what ≡ Ok decision.Remove → {mode : ℕ} → beside ≡ Some mode → keyed name vendor ≡ key_pk
   gone-key h z = of-pk (change_in q (values_of img)) (change_mode (byte_by deploys)) (joined (ap broken_of h) z) (gone-change h)
 
-  put-key : what ≡ decision.Put → beside ≢ 0 → key_of v ≡ key_pk
+  put-key : what ≡ Ok decision.Put → {mode : ℕ} → beside ≡ Some mode → key_of v ≡ key_pk
   put-key h z = puts-pk (change_in q (values_of img)) (change_mode (byte_by deploys)) (joined (ap broken_of h) z) (asked-change h)
 
-  its-name : what ≡ decision.Put → key_of v ≡ keyed name vendor
+  its-name : what ≡ Ok decision.Put → key_of v ≡ keyed name vendor
   unfolding new_value
   its-name h = ap key_of (d.5 h)
 
-  pub removed-asked : what ≡ decision.Remove → beside ≢ 0 → Joinable img b used old beside false v (byte_by deploys)
+  pub removed-asked : what ≡ Ok decision.Remove → {mode : ℕ} → beside ≡ Some mode → Joinable img b used old (Some mode) false v (byte_by deploys)
   removed-asked h z =
       joint-asked false (remove key_pk) (ap broken_of h) z (gone-change h ∙ ap remove (gone-key h z)) (gone-key h z) refl (λ e. absurd (false≢true e)) (λ e. absurd (false≢true e))
 
-  pub enrolled-asked : what ≡ decision.Put → beside ≢ 0 → length v.vendor ≡ 16 → Joinable img b used old beside true v (byte_by deploys)
+  pub enrolled-asked : what ≡ Ok decision.Put → {mode : ℕ} → beside ≡ Some mode → length v.vendor ≡ 16 → Joinable img b used old (Some mode) true v (byte_by deploys)
   enrolled-asked h z long =
       joint-asked true (put v) (ap broken_of h) z (asked-change h) (sym (its-name h) ∙ put-key h z) refl (λ e. put-key h z) (λ e. long)
 
@@ -257,27 +255,27 @@ module _ (t : Terms) (table name vendor : List ℕ) (a : ℕ) (bytes : List ℕ)
     unfolding plan_of
     plans n = rw (broken ∙ n)
 
-    plan : (c : Change) → broken_of what ≡ none → beside ≡ 0 → change_in q (values_of img) ≡ c → set_plan m s q img ≡ change_plan img c
+    plan : (c : Change) → broken_of what ≡ none → beside ≡ None → change_in q (values_of img) ≡ c → set_plan m s q img ≡ change_plan img c
     plan c n z e = plans n ∙ rw (alone n z, e)
 
     -- refused, or no stores
 
-    pub set-refused : {rule : Rule} → what ≡ decision.Broken rule → set_plan m s q img ≡ refuse rule
+    pub set-refused : {rule : Rule} → what ≡ Err rule → set_plan m s q img ≡ refuse rule
     unfolding plan_of
     set-refused h = rw (broken ∙ ap broken_of h)
 
-    pub set-nothing : what ≡ decision.Nothing → set_plan m s q img ≡ make [] []
+    pub set-nothing : what ≡ Ok decision.Nothing → set_plan m s q img ≡ make [] []
     unfolding change_plan changes_of beside_pk
     set-nothing h = plans (ap broken_of h) ∙ rw (nothing-change ls t q (region_size img) (values_of img) (decided ∙ h))
 
     -- a delete
 
-    pub remove-plan : what ≡ decision.Remove → beside ≡ 0 → set_plan m s q img ≡ make (delete_to (keyed name vendor) (entries (region img))) []
+    pub remove-plan : what ≡ Ok decision.Remove → beside ≡ None → set_plan m s q img ≡ make (delete_to (keyed name vendor) (entries (region img))) []
     unfolding change_plan
     remove-plan h z = plan (remove (request_key q)) (ap broken_of h) z (remove-change ls t q (region_size img) (values_of img) (decided ∙ h))
 
     -- rule 11: an entry of the name stands
-    stands : what ≡ decision.Remove → is_some (standing (keyed name vendor) (entries (region img))) ≡ true
+    stands : what ≡ Ok decision.Remove → is_some (standing (keyed name vendor) (entries (region img))) ≡ true
     unfolding values_in
     stands h =
         let k = keyed name vendor in
@@ -288,52 +286,52 @@ module _ (t : Terms) (table name vendor : List ℕ) (a : ℕ) (bytes : List ℕ)
         find-standing (length (region img)) es k (sound-parts authenticated (region img) ready.sounds).1 in
         go (standing k es) (ap is_some (sym looked) ∙ present)
       where
-        go : (o : Option walk.Entry) → is_some (on_some o (λ e. some (walk.entry_value_def e)) none) ≡ true → is_some o ≡ true
+        go : (o : Maybe walk.Entry) → is_some (on_some o (λ e. some (walk.entry_value_def e)) none) ≡ true → is_some o ≡ true
         go (some e) p = refl
         go none p = p
 
     -- its mark decides
-    remove-decides : what ≡ decision.Remove → (c : List ℕ) {ops : List Op} {p : Planned} → ops ≡ delete_plan places → p ≡ accepted ops 1
-        → decides_right (make (delete_to (keyed name vendor) (entries (region img))) []) p ≡ true
+    remove-decides : what ≡ Ok decision.Remove → (c : List ℕ) {ops : List Step} → ops ≡ delete_plan places
+        → decides_right (make (delete_to (keyed name vendor) (entries (region img))) []) (accepted ops (Some 1)) ≡ true
     unfolding delete_plan
-    remove-decides h c o e =
+    remove-decides h c o =
         let k = keyed name vendor in
         let es = entries (region img) in
-        mark-decides c (delete_plan places) 1 (delete_to k es) [] e o (remove-marks c places k es found-added found-replacing (stands h))
+        mark-decides c (delete_plan places) 1 (delete_to k es) [] o (remove-marks c places k es found-added found-replacing (stands h))
         (delete-to c places k es found-added found-replacing)
 
     -- *what was planned*
-    pub remove-plans : what ≡ decision.Remove → beside ≡ 0 → Bytes img → Sized (set m s q) → (before c : List ℕ) {ops : List Op} {p : Planned} → ops ≡ delete_plan places → p ≡ accepted ops 1
-        → Plans (set_plan m s q img) img before c p
+    pub remove-plans : what ≡ Ok decision.Remove → beside ≡ None → Bytes img → Sized (set m s q) → (before c : List ℕ) {ops : List Step} → ops ≡ delete_plan places
+        → Plans (set_plan m s q img) img before c (Ok (accepted ops (Some 1)))
     unfolding block
-    remove-plans h z bytes-img args before c {ops} {p} o e =
+    remove-plans h z bytes-img args before c o =
         let k = keyed name vendor in
         let es = entries (region img) in
         let l = image-long img b ready.right ready.number in
         let x = below (length img) (omega (arith, ready.long, l.1)) in
         let clears = remove-clears m s q img k bytes-img args (alone (ap broken_of h) z ∙ ap (λ (c : Change). c ∷ []) (gone-change h)) (remove-plan h z) in
-        accepted-plans before c img (set_plan m s q img) (delete_plan places) 1 (delete_to k es) [] e o (delete-to c places k es found-added found-replacing)
-        (delete-on c places k es found-added found-replacing) (remove-plan h z) (remove-decides h c o e) (delete-ready c img places k found-added found-replacing x.0 x.1 clears)
+        accepted-plans before c img (set_plan m s q img) (delete_plan places) (Some 1) (delete_to k es) [] o (delete-to c places k es found-added found-replacing)
+        (delete-on c places k es found-added found-replacing) (remove-plan h z) (remove-decides h c o) (delete-ready c img places k found-added found-replacing x.0 x.1 clears)
 
     -- a put
 
-    pub put-plan : what ≡ decision.Put → beside ≡ 0 → set_plan m s q img ≡ put_plan img v
+    pub put-plan : what ≡ Ok decision.Put → beside ≡ None → set_plan m s q img ≡ put_plan img v
     unfolding change_plan
     put-plan h z = plan (put v) (ap broken_of h) z (asked-change h)
 
-    put-kept : (before c : List ℕ) → what ≡ decision.Put → beside ≡ 0 → Kept (set_plan m s q img) before c
+    put-kept : (before c : List ℕ) → what ≡ Ok decision.Put → beside ≡ None → Kept (set_plan m s q img) before c
     unfolding put_plan
     put-kept before c h z =
         subst (λ (p : Plan). Kept p before c) (sym (put-plan h z)) (either-kept (fits_tail (region img) v) _ _ _ _ before c)
 
     -- *what was planned*
-    pub put-plans : what ≡ decision.Put → beside ≡ 0 → Bytes img → Sized (set m s q) → (before : List ℕ) {c : List ℕ} {p : Planned} → PutPlanned img v c p
+    pub put-plans : what ≡ Ok decision.Put → beside ≡ None → Bytes img → Sized (set m s q) → (before : List ℕ) {c : List ℕ} {p : Result Planned Rule} → PutPlanned img v c p
         → Plans (set_plan m s q img) img before c p
     unfolding in_place_def
     put-plans h z bytes-img args before {c} {p} d =
         record {
           same = d.same ∙ sym (put-plan h z);
-          decides = ap (λ (x : Plan). decides_right x p) (put-plan h z) ∙ d.decides;
+          decides = subst (λ (x : Plan). IfOk p (λ y. decides_right x y ≡ true)) (sym (put-plan h z)) d.decides;
           kept = put-kept before c h z;
           ready =
               d.ready
@@ -344,7 +342,7 @@ module _ (t : Terms) (table name vendor : List ℕ) (a : ℕ) (bytes : List ℕ)
 
     -- both at once
 
-    module _ (comes : Bool) (c : Change) (n : broken_of what ≡ none) (z : beside ≢ 0) (change : change_in q (values_of img) ≡ c) (key : keyed name vendor ≡ key_pk)
+    module _ (comes : Bool) (c : Change) (n : broken_of what ≡ none) {mode : ℕ} (z : beside ≡ Some mode) (change : change_in q (values_of img) ≡ c) (key : keyed name vendor ≡ key_pk)
         (is : c ≡ cond comes (put v) (remove key_pk)) where
       joint-plan : set_plan m s q img ≡ compact_plan img (steps (joint_changes comes v (byte_by deploys)) (values_of img))
       unfolding folded_plan
@@ -354,22 +352,22 @@ module _ (t : Terms) (table name vendor : List ℕ) (a : ℕ) (bytes : List ℕ)
           go true = refl
           go false = refl
 
-      joint-plans : Bytes img → Sized (set m s q) → (before : List ℕ) {content : List ℕ} {p : Planned} → FoldPlanned img (joint_changes comes v (byte_by deploys)) content p
+      joint-plans : Bytes img → Sized (set m s q) → (before : List ℕ) {content : List ℕ} {p : Result Planned Rule} → FoldPlanned img (joint_changes comes v (byte_by deploys)) content p
           → Plans (set_plan m s q img) img before content p
       joint-plans bytes-img args before {content} {p} f =
           record {
             same = f.same ∙ sym joint-plan;
-            decides = ap (λ (x : Plan). decides_right x p) joint-plan ∙ f.decides;
+            decides = subst (λ (x : Plan). IfOk p (λ y. decides_right x y ≡ true)) (sym joint-plan) f.decides;
             kept = made_kept before content joint-plan;
             ready =
                 f.ready
                 (λ w. subst (λ (ss : List Store). ClearsOne (is_record img) ss img) (ap (stores_of w) joint-plan) (marks-clear-one-bit w img bytes-img (set m s q) args).0);
           }
 
-    pub removed-plans : what ≡ decision.Remove → beside ≢ 0 → Bytes img → Sized (set m s q) → (before : List ℕ) {c : List ℕ} {p : Planned}
+    pub removed-plans : what ≡ Ok decision.Remove → {mode : ℕ} → beside ≡ Some mode → Bytes img → Sized (set m s q) → (before : List ℕ) {c : List ℕ} {p : Result Planned Rule}
         → FoldPlanned img (joint_changes false v (byte_by deploys)) c p → Plans (set_plan m s q img) img before c p
     removed-plans h z = joint-plans false (remove key_pk) (ap broken_of h) z (gone-change h ∙ ap remove (gone-key h z)) (gone-key h z) refl
 
-    pub enrolled-plans : what ≡ decision.Put → beside ≢ 0 → Bytes img → Sized (set m s q) → (before : List ℕ) {c : List ℕ} {p : Planned}
+    pub enrolled-plans : what ≡ Ok decision.Put → {mode : ℕ} → beside ≡ Some mode → Bytes img → Sized (set m s q) → (before : List ℕ) {c : List ℕ} {p : Result Planned Rule}
         → FoldPlanned img (joint_changes true v (byte_by deploys)) c p → Plans (set_plan m s q img) img before c p
     enrolled-plans h z = joint-plans true (put v) (ap broken_of h) z (asked-change h) (sym (its-name h) ∙ put-key h z) refl

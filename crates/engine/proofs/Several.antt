@@ -2,18 +2,17 @@
 -- rules 1 and 2, meets 3 and 22, then 11 and 14.
 -- Assumes nothing.
 use Prim.Native.Nat.{ℕ, suc, ◌+◌, ◌*◌, ◌-◌, ◌≤◌, ◌<◌}
-use native.Mathlib.Nat.{zero-add}
 use native.Mathlib.Numerals.{add-one}
 use native.Mathlib.Omega.{arith}
 use mathlib.Core.Path.{◌≡◌, refl, sym, ap, ap₂, subst, ◌∙◌}
 use mathlib.Core.Bool.{Bool, true, false, ◌&&◌}
-use mathlib.Core.List.{List, [], ◌∷◌, ◌++◌, append_assoc, append-nil}
+use mathlib.Core.List.{List, [], ◌∷◌, ◌++◌, append_assoc}
 use mathlib.Core.Option.{Option, none, some}
 use lib.ListN.{length, set, take, drop, length-append, length-drop, take-append-drop}
 use lib.Seq.{sets, sets-eq, length-take-le, drop-cons, drop-length, take-append-add, drop-append-add}
 use lib.Dec.{eqb, leb, ltb}
 use borrow.Author.Tests.{lt-ltb, le-ltb, leb-true}
-use Rattle.model.specs.Lists.{on_some, overlay, part}
+use Rattle.model.specs.Lists.{on_some}
 use Rattle.model.specs.Image.{region}
 use Rattle.model.specs.Name.{Key, well_named, zero_ended}
 use Rattle.model.specs.Entry.{Value}
@@ -24,7 +23,6 @@ use Rattle.model.specs.Answers.{rule_number, refusal, written, done, refused, go
 use Rattle.model.specs.Book as book
 use Rattle.model.specs.Book.{plan_of}
 use Rattle.model.proofs.Tests.{and_split}
-use Rattle.model.proofs.Encode.{length_part}
 use Rattle.model.proofs.Requests.{broken-append, get-over}
 use Rattle.recovery.specs.Interface.{Returned}
 use Rattle.recovery.proofs.Interface.{reading-image}
@@ -71,15 +69,6 @@ named-long key h =
     let l = leb-true 4 (length (drop 16 key)) (and_split (leb 4 (length (drop 16 key))) (leb (length (drop 16 key)) 128) p.0).0 in
     let n = length-drop 16 key in
     omega arith
-
-pub guid-long : (key : List ℕ) → 16 ≤ length key → {bytes : List ℕ} → bytes ≡ part 0 16 key → length bytes ≡ 16
-guid-long key h p = ap length p ∙ length_part 0 16 key h
-
-pub guid-whole : (key bytes guid : List ℕ) → 16 ≤ length key → bytes ≡ part 0 16 key → length guid ≡ 16 → {after : List ℕ} → after ≡ overlay 0 bytes guid → after ≡ part 0 16 key
-guid-whole key bytes guid h p g e =
-    let n = guid-long key h p in
-    let none : drop (0 + length bytes) guid ≡ [] = ap (λ (i : ℕ). drop i guid) (zero-add (length bytes) ∙ n ∙ sym g) ∙ drop-length guid in
-    e ∙ ap (λ (l : List ℕ). bytes ++ l) none ∙ append-nil bytes ∙ p
 
 -- ---- a get of one name
 

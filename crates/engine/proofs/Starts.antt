@@ -6,6 +6,7 @@ use mathlib.Core.Path.{◌≡◌, refl, sym, ap, ◌∙◌, subst}
 use mathlib.Core.Bool.{Bool, true, false, not, cond}
 use mathlib.Core.List.{List, [], ◌∷◌}
 use mathlib.Core.Option.{Option, none, some}
+use Rattle.std.specs.Prelude.{Result, Ok, Err}
 use lib.ListN.{length, drop, length-drop}
 use lib.Seq.{length-take-le}
 use borrow.Author.Tests.{not-true, not-false}
@@ -23,7 +24,7 @@ use Rattle.model.specs.Set.{Plan, refuse, make}
 use Rattle.model.specs.StartUp.{start_up_stores, start_up_plan}
 use Rattle.model.proofs.Requests.{broken-append, start_up-judged}
 use Rattle.image.specs.Check.{start_up_of}
-use Rattle.image.specs.declared.Start.TheVariants.{Pending, Sound, Refused}
+use Rattle.image.specs.declared.Start.TheVariants.{Pending, Sound}
 use Rattle.records.specs.Look.{look_at_def}
 use Rattle.values.specs.Allotted.{allotted_by}
 use Rattle.values.proofs.Allotted.{allotted-by}
@@ -41,14 +42,14 @@ unfolding given
 given-gives share records tenant = (refl, refl, refl)
 
 -- rule 1 or 2
-pub start-refused : (u : Setup) (img : List ℕ) (rule : Rule) → start_up_of img ≡ Refused rule → start_up_plan u img ≡ refuse rule
+pub start-refused : (u : Setup) (img : List ℕ) (rule : Rule) → start_up_of img ≡ Err rule → start_up_plan u img ≡ refuse rule
 unfolding start_up_of start_up_plan start_up_broken
 start-refused u img rule h =
     let a : List (Rule × Bool) = (Length, rule1 img) ∷ (Unready, rule2_start_up img) ∷ [] in
     ap (λ (o : Option Rule). on_some o refuse (make [] (start_up_stores img)))
     (broken-append a ((Side, rule22_start_up u img) ∷ []) ∙ ap (λ (o : Option Rule). or_else o (first_broken ((Side, rule22_start_up u img) ∷ []))) (go (first_broken a) (pending img) h))
   where
-    go : (o : Option Rule) (t : Bool) → on_some o Refused (cond t (Pending (blocks img) (look_at_def (work img))) (Sound (blocks img) (look_at_def (work img)) (clean (region img)))) ≡ Refused rule → o ≡ some rule
+    go : (o : Option Rule) (t : Bool) → on_some o Err (Ok (cond t (Pending (blocks img) (look_at_def (work img))) (Sound (blocks img) (look_at_def (work img)) (clean (region img))))) ≡ Err rule → o ≡ some rule
     go (some x) t h = cc
     go none true h = let z : ◌≡◌ {A = ℕ} 0 1 = cc in absurd (omega arith)
     go none false h = let z : ◌≡◌ {A = ℕ} 0 1 = cc in absurd (omega arith)
@@ -95,5 +96,5 @@ module _ (u : Setup) {share records : ℕ} {tenant : Tenant} (gives : GivesShare
     start-makes h = judged ∙ rw (allots, not-false kept (sym e ∙ h))
 
 -- what was planned as one plan was planned as another that is the same
-pub as-planned : {p q : Plan} {img before content : List ℕ} {r : Planned} → p ≡ q → Plans q img before content r → Plans p img before content r
+pub as-planned : {p q : Plan} {img before content : List ℕ} {r : Result Planned Rule} → p ≡ q → Plans q img before content r → Plans p img before content r
 as-planned {img = img} {before} {content} {r} e h = subst (λ (x : Plan). Plans x img before content r) (sym e) h

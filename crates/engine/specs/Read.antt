@@ -1,12 +1,12 @@
 -- What a call that reads answers, rule by rule as the code checks them: first 1, 2, 3 and 22, then of the value found 11 and 14.
-use Rattle.std.specs.Prelude.{ℕ, ◌≡◌, Bool, not, cond, ◌||◌, List, [], ◌∷◌, ◌++◌, length, ltb}
+use Rattle.std.specs.Prelude.{ℕ, ◌≡◌, Bool, not, cond, ◌||◌, List, [], ◌∷◌, ◌++◌, length, ltb, Result, Ok, Err, IfOk, IfErr}
 use Rattle.std.proofs.Math.Option.{Option, none, some}
+use Rattle.model.specs.Layout.{authenticated}
 use Rattle.model.specs.Lists.{same, on_some}
-use Rattle.model.specs.Image.{blocks, region, work}
+use Rattle.model.specs.Image.{region}
 use Rattle.model.specs.Name.{Key, well_named, empty_name}
 use Rattle.model.specs.Entry.{Value}
-use Rattle.model.specs.Region.{entries, tail_at, values_of}
-use Rattle.model.specs.Work.{used_records}
+use Rattle.model.specs.Region.{entries, values_of}
 use Rattle.model.specs.Rules.{first_broken, image_rules, rule11_read, rule14, rule22_next, named_bytes, value_to_name}
 use Rattle.model.specs.Answers.{rule_number, Reply, refusal, written, answer_of, done, refused}
 use Rattle.model.specs.declared.View.{View}
@@ -15,25 +15,19 @@ use Rattle.model.specs.declared.Rule.TheVariants.{Name, Side, Absent, Buffer}
 use Rattle.model.specs.declared.Answer.TheVariants.{Refused}
 use Rattle.model.specs.declared.Got.{Got}
 use Rattle.region.specs.Met.{met_of}
-use Rattle.image.specs.declared.Check.{Check}
+use Rattle.image.specs.Check.{ready_of}
+use Rattle.image.specs.declared.Ready.{Ready}
 use Rattle.image.specs.declared.Checked.{Checked}
-use Rattle.image.specs.declared.Check.TheVariants as call
 
 -- rules 1, 2, 3 and 22, of an image, of whether the name is one that the call takes, and of whether it is the other side's
-unfoldable pub open_of : List ℕ → Bool → Bool → Check
+unfoldable pub open_of : List ℕ → Bool → Bool → Result Ready Rule
 open_of img named foreign =
-    on_some (first_broken (image_rules img ++ ((Name, not named) ∷ (Side, foreign) ∷ []))) call.Refused
-    (call.Ready (blocks img) (tail_at (region img)) (used_records (work img)))
+    on_some (first_broken (image_rules img ++ ((Name, not named) ∷ (Side, foreign) ∷ []))) Err (Ok (ready_of authenticated img))
 
--- what rules 1 and 2 leave, where a later rule is broken
-abbrev pub broken_later_def : Rule → Check → Check
-broken_later_def rule (call.Ready b t u) = call.Refused rule
-broken_later_def rule (call.Refused first) = call.Refused first
-
--- what all four leave, and if they are kept where the region has the name
-pub record Opened (img : List ℕ) (named foreign : Bool) (k : Key) (c : Checked) : Type 0 where
-  pub check : c.check ≡ open_of img named foreign
-  pub met : (b t u : ℕ) → c.check ≡ call.Ready b t u → c.met ≡ met_of k (entries (region img))
+-- what all four leave, and where the region has the name; or the first of them broken
+pub record Opened (img : List ℕ) (named foreign : Bool) (k : Key) (c : Result Checked Rule) : Type 0 where
+  pub kept : IfOk c (λ x. (open_of img named foreign ≡ Ok x.ready) × (x.met ≡ met_of k (entries (region img))))
+  pub broken : IfErr c (λ rule. open_of img named foreign ≡ Err rule)
 
 -- rules 11 and 14, of the value found and of what the call writes of it
 unfoldable pub found_broken : Option Value → (Value → List ℕ) → List ℕ → Option Rule

@@ -1,6 +1,6 @@
 // The call that makes all changes of a profile as one: planned from the image lent shared, and then carried out up to n. Of a session it is given what that says to
 // every item: there is one that says so, and what the call ensures holds of each.
-ghost use Rattle.std.specs.Prelude.{◌≡◌, Bool, true, false, ℕ, length};
+ghost use Rattle.std.specs.Prelude.{◌≡◌, Bool, false, Some, length};
 ghost use Rattle.model.specs.declared.Session.{Session};
 ghost use Rattle.model.specs.Profile.{shares_name_def};
 ghost use Rattle.model.specs.Stores.{Bytes};
@@ -12,8 +12,8 @@ ghost use Rattle.image.specs.Check.{IsReady};
 ghost use Rattle.plan.specs.Planned.{Kept, Plans};
 ghost use Rattle.engine.specs.Profile.{SaysAll};
 
-use decision::Decision;
-use image::Check;
+use decision::{Change, Weighed};
+use image::Ready;
 use model::{Answer, Context, Layout, Rule, Terms};
 use plan::Planned;
 use profile::Settings;
@@ -26,33 +26,41 @@ fn plan_items(
     locks: &[u8],
     limits: &[u8],
     image: &[u8],
-    b: usize,
-    used: usize,
+    ready: Ready,
     file: &[u8],
     settings: Settings,
     content: &mut [u8],
-) -> Planned
-    requires by_index { ((tail : ℕ) × IsReady image.now b tail used)
-        × Bytes image.now
-        × Bytes file.now
-        × (length content.old ≡ 28672)
-        × ((m : Bool) × (s : Session) × SaysAll m s said held locks.now limits.now) }
-    requires reads { Reads file.now settings × (settings.good ≡ true) × (shares_name_def (requests_in file.now settings) ≡ false) }
+) -> Result<Planned, Rule>
+    requires ready { IsReady image.now ready.blocks ready.tail ready.used }
+    requires bytes { Bytes image.now × Bytes file.now }
+    requires room { length content.old ≡ 28672 }
+    requires says { (m : Bool) × (s : Session) × SaysAll m s said held locks.now limits.now }
+    requires reads { Reads file.now (Some settings) }
+    requires apart { shares_name_def (requests_in file.now settings) ≡ false }
     ensures { (m : Bool) (s : Session) → SaysAll m s said held locks.now limits.now
         → Plans (profile_plan m s file.now image.now) image.now content.old content.new result }
 {
-    let region = slices::cut(image, 0, layout::BLOCK * b);
-    let w = decision::items::weigh(said, held, locks, limits, region, file, settings);
-    let what = w.what;
-    let leave = w.leave;
-    let stores = w.stores;
-    match what {
-        Decision::Broken(rule) => plan::refuse(rule),
-        Decision::Nothing => plan::accept(plan::nothing(), plan::NONE_DECIDES),
-        Decision::Remove => plan::accept(plan::nothing(), plan::NONE_DECIDES),
-        Decision::Put => planner::items::fold(
-            image, b, used, file, settings, leave, stores, content,
-        ),
+    let region = slices::cut(image, 0, layout::BLOCK * ready.blocks);
+    let Weighed {
+        what,
+        leave,
+        stores,
+    } = decision::items::weigh(said, held, locks, limits, region, file, settings);
+    match what? {
+        Change::Nothing | Change::Remove => Ok(Planned {
+            plan: plan::nothing(),
+            deciding: None,
+        }),
+        Change::Put => Ok(planner::items::fold(
+            image,
+            ready.blocks,
+            ready.used,
+            file,
+            settings,
+            leave,
+            stores,
+            content,
+        )),
     }
 }
 
@@ -63,12 +71,11 @@ fn plan_file(
     locks: &[u8],
     limits: &[u8],
     image: &[u8],
-    b: usize,
-    used: usize,
+    ready: Ready,
     file: &[u8],
     content: &mut [u8],
-) -> Planned
-    requires { ((tail : ℕ) × IsReady image.now b tail used)
+) -> Result<Planned, Rule>
+    requires { IsReady image.now ready.blocks ready.tail ready.used
         × Bytes image.now
         × Bytes file.now
         × (length content.old ≡ 28672)
@@ -76,15 +83,12 @@ fn plan_file(
     ensures { (m : Bool) (s : Session) → SaysAll m s said held locks.now limits.now
         → Plans (profile_plan m s file.now image.now) image.now content.old content.new result }
 {
-    let settings = profile::read(file);
-    if !settings.good {
-        return plan::refuse(Rule::File);
-    }
+    let settings = profile::read(file).ok_or(Rule::File)?;
     if profile::shares_name(file, settings) {
-        return plan::refuse(Rule::Twice);
+        return Err(Rule::Twice);
     }
     plan_items(
-        said, held, locks, limits, image, b, used, file, settings, content,
+        said, held, locks, limits, image, ready, file, settings, content,
     )
 }
 
@@ -97,18 +101,13 @@ pub fn plan_profile<'a>(
     image: &[u8],
     file: &[u8],
     content: &mut [u8; layout::CONTENT],
-) -> Planned
+) -> Result<Planned, Rule>
     requires { (m : Bool) × (s : Session) × SaysAll m s said held locks.now limits.now }
     ensures { (m : Bool) (s : Session) → SaysAll m s said held locks.now limits.now
         → Plans (profile_plan m s file.now image.now) image.now content.old content.new result }
 {
-    let check = image::check_call(Layout::AUTHENTICATED, image);
-    match check {
-        Check::Ready(b, _, used) => plan_file(
-            said, held, locks, limits, image, b, used, file, content,
-        ),
-        Check::Refused(rule) => plan::refuse(rule),
-    }
+    let ready = image::check_call(Layout::AUTHENTICATED, image)?;
+    plan_file(said, held, locks, limits, image, ready, file, content)
 }
 
 // A profile: planned, then carried out up to n, or to a store that fails.

@@ -16,9 +16,8 @@ ghost use Rattle.model.specs.Beside.{asked, rule_told_def, Handed};
 ghost use Rattle.engine.specs.Many.{got_numbers, one_broken, one_reply, each_of, AnsweredMany};
 
 use crate::read;
-use image::Check;
 use model::{Answer, Context, Got, Layout, Rule, View};
-use query::many;
+use query::many::{self, Offsets};
 use region::Met;
 
 // How many names one call may have.
@@ -30,7 +29,7 @@ fn guid_of(key: &[u8]) -> [u8; 16]
     ensures { result ≡ part 0 16 key.now }
 {
     let mut guid = [0; 16];
-    read::deliver(&mut guid, slices::cut(key, 0, 16));
+    guid.copy_from_slice(slices::cut(key, 0, 16));
     guid
 }
 
@@ -38,25 +37,14 @@ fn guid_of(key: &[u8]) -> [u8; 16]
 fn is_sized(n: usize) -> bool
     ensures { result ≡ true → (4 ≤ n) × (n ≤ 128) × (n % 2 ≡ 0) }
 {
-    if n < 4 {
-        return false;
-    }
-    if slices::LONGEST_NAME < n {
-        return false;
-    }
-    n % 2 == 0
+    4 <= n && n <= slices::LONGEST_NAME && n % 2 == 0
 }
 
 // Whether a name is well formed: four characters at a time where its size allows it, as most are.
 fn is_named(name: &[u8]) -> bool
     ensures { result ≡ well_named name.now }
 {
-    if is_sized(name.len()) {
-        if slices::is_zero_ended(name) {
-            return true;
-        }
-    }
-    slices::is_named(name)
+    (is_sized(name.len()) && slices::is_zero_ended(name)) || slices::is_named(name)
 }
 
 // What a get of one name answers, after rules 1 and 2: rules 3, 22, 11 and 14.
@@ -85,7 +73,7 @@ fn rule_told(a: Answer) -> u32
     match a {
         Answer::Done(_) => 0,
         Answer::Stopped => 0,
-        Answer::Refused(rule) => model::number(rule),
+        Answer::Refused(rule) => u32::from(rule),
     }
 }
 
@@ -94,22 +82,11 @@ fn tell(g: Got, k: usize, told: &mut [u32])
     requires { (k < 64) × (4 * k + 4 ≤ length told.old) }
     ensures { told.new ≡ sets told.old (4 * k) (got_numbers g) }
 {
-    let a = g.answer;
     let at = 4 * k;
-    told[at] = rule_told(a);
+    told[at] = rule_told(g.answer);
     told[at + 1] = g.size;
     told[at + 2] = g.attributes;
     told[at + 3] = g.needed;
-}
-
-// Where a name was met, by two offsets.
-fn met_at(added: u16, replacing: u16) -> Met
-    ensures { result ≡ record { added = added; replacing = replacing } }
-{
-    Met {
-        added: added as usize,
-        replacing: replacing as usize,
-    }
 }
 
 // One get after another, each with what those before it left of the buffer.
@@ -118,30 +95,26 @@ fn get_each(
     view: View,
     keys: &[u8],
     sizes: &[u32],
-    added: &[u16],
-    replacing: &[u16],
+    found: &[Offsets],
     told: &mut [u32],
     buffer: &mut [u8],
 )
-    requires { (length region.now ≤ 28672) × (length sizes.now ≤ 64) × (length added.now ≡ 64) × (length replacing.now ≡ 64)
-        × (length told.old ≡ 256) × AllMet keys.now sizes.now region.now added.now replacing.now }
+    requires { (length region.now ≤ 28672) × (length sizes.now ≤ 64) × (length found.now ≡ 64)
+        × (length told.old ≡ 256) × AllMet keys.now sizes.now region.now found.now }
     ensures { Handed (each_of view (values (entries region.now)) (asked keys.now sizes.now) buffer.old)
         told.old told.new buffer.new }
 {
     let mut used: usize = 0;
-    let mut k: usize = 0;
-    while k < sizes.len() {
-        let met = met_at(added[k], replacing[k]);
+    for (k, &size) in sizes.iter().enumerate() {
         let g = get_one(
             region,
             view,
-            many::asked(keys, k, sizes[k]),
-            met,
+            many::asked(keys, k, size),
+            Met::from(found[k]),
             &mut buffer[used..],
         );
         used += g.size as usize;
         tell(g, k, told);
-        k += 1;
     }
 }
 
@@ -161,10 +134,9 @@ fn get_all(
     if MOST < sizes.len() {
         return Answer::Refused(Rule::Name);
     }
-    let mut added = many::none_met();
-    let mut replacing = many::none_met();
-    many::find(region, keys, sizes, &mut added, &mut replacing);
-    get_each(region, view, keys, sizes, &added, &replacing, told, buffer);
+    let mut found = many::none_met();
+    many::find(region, keys, sizes, &mut found);
+    get_each(region, view, keys, sizes, &found, told, buffer);
     Answer::Done(0)
 }
 
@@ -186,16 +158,15 @@ pub fn get_many(
         (gets_reply m s (asked keys.now sizes.now) buffer.old image.now)
         told.old told.new buffer.new }
 {
-    let check = image::check_call(Layout::AUTHENTICATED, image);
-    match check {
-        Check::Ready(b, _, _) => get_all(
-            slices::cut(image, 0, layout::BLOCK * b),
+    match image::check_call(Layout::AUTHENTICATED, image) {
+        Ok(ready) => get_all(
+            slices::cut(image, 0, layout::BLOCK * ready.blocks),
             view,
             keys,
             sizes,
             told,
             buffer,
         ),
-        Check::Refused(rule) => Answer::Refused(rule),
+        Err(rule) => Answer::Refused(rule),
     }
 }

@@ -1,6 +1,6 @@
 // A mode request: planned from the image lent shared, and then carried out up to n. Of a session it is given what that says to it: there is one that says so, and what the call
 // ensures holds of each. And the mode that the platform is in.
-ghost use Rattle.std.specs.Prelude.{◌≡◌, Bool, false, length};
+ghost use Rattle.std.specs.Prelude.{◌≡◌, Bool, false, Some, Ok, length};
 ghost use Rattle.model.specs.declared.Session.{Session};
 ghost use Rattle.model.specs.Request.{mode_value};
 ghost use Rattle.model.specs.Stores.{Bytes};
@@ -12,8 +12,9 @@ ghost use Rattle.planner.specs.Asked.{Asked, PutPlanned, Joinable, joint_changes
 ghost use Rattle.plan.specs.Planned.{Kept, Plans};
 ghost use Rattle.engine.specs.Modes.{SaysModes, no_value, platform_of};
 
-use decision::{Decision, modes};
-use image::Check;
+use decision::Change;
+use decision::modes::{self, Transition};
+use image::Ready;
 use layout::fixed;
 use model::{Answer, Context, Layout, PlatMode, Rule, Terms};
 use plan::Planned;
@@ -21,17 +22,10 @@ use planner::Standing;
 use session::Locks;
 use values::lookup;
 
-// The mode of an image that is ready, or the rule that it breaks.
-#[derive(Clone, Copy)]
-pub enum Platform {
-    Mode(PlatMode),
-    Refused(Rule),
-}
-
 // "A mode alone is stored as a set stores": PlatMode's value is put.
 fn plan_alone(image: &[u8], standing: Standing, byte: u8, content: &mut [u8]) -> Planned
-    requires { Asked image.now standing.b standing.tail standing.used standing.places (mode_value byte) × (length content.old ≡ 28672) }
-    ensures { PutPlanned image.now (mode_value byte) content.new result }
+    requires { Asked image.now standing.ready.blocks standing.ready.tail standing.ready.used standing.places (mode_value byte) × (length content.old ≡ 28672) }
+    ensures { PutPlanned image.now (mode_value byte) content.new (Ok result) }
 {
     let name = fixed::mode_name();
     let vendor = fixed::global_vendor();
@@ -46,20 +40,32 @@ fn plan_alone(image: &[u8], standing: Standing, byte: u8, content: &mut [u8]) ->
 // "user to audit, losing PK": one compaction, without PK's entry and PlatMode's, at these offsets, and with PlatMode's value last.
 fn plan_losing(
     image: &[u8],
-    b: usize,
-    used: usize,
+    ready: Ready,
     pk: usize,
-    there: usize,
+    there: Option<usize>,
     byte: u8,
     content: &mut [u8],
 ) -> Planned
-    requires { Joinable image.now b used pk there false no_value byte × (length content.old ≡ 28672) }
-    ensures { FoldPlanned image.now (joint_changes false no_value byte) content.new result }
+    requires { Joinable image.now ready.blocks ready.used (Some pk) there false no_value byte × (length content.old ≡ 28672) }
+    ensures { FoldPlanned image.now (joint_changes false no_value byte) content.new (Ok result) }
 {
     let zeros = [0; 16];
     let none = slices::cut(image, 0, 0);
     planner::joint::fold(
-        image, b, used, pk, there, false, none, &zeros, 0, &zeros, none, none, byte, content,
+        image,
+        ready.blocks,
+        ready.used,
+        Some(pk),
+        there,
+        false,
+        none,
+        &zeros,
+        0,
+        &zeros,
+        none,
+        none,
+        byte,
+        content,
     )
 }
 
@@ -69,44 +75,39 @@ fn plan_ready(
     held: Locks,
     locks: &[u8],
     image: &[u8],
-    b: usize,
-    tail: usize,
-    used: usize,
+    ready: Ready,
     to: u32,
     content: &mut [u8],
-) -> Planned
-    requires { IsReady image.now b tail used
+) -> Result<Planned, Rule>
+    requires { IsReady image.now ready.blocks ready.tail ready.used
         × Bytes image.now
         × (length content.old ≡ 28672)
         × ((m : Bool) × (s : Session) × SaysModes m s said held locks.now) }
     ensures { (m : Bool) (s : Session) → SaysModes m s said held locks.now
         → Plans (mode_plan m s to image.now) image.now content.old content.new result }
 {
-    let region = slices::cut(image, 0, layout::BLOCK * b);
-    let d = modes::decide(said, held, locks, region, to);
-    let what = d.what;
-    let places = d.places;
-    match what {
-        Decision::Broken(rule) => plan::refuse(rule),
-        Decision::Nothing => plan::accept(plan::nothing(), plan::NONE_DECIDES),
-        Decision::Remove => plan::accept(plan::nothing(), plan::NONE_DECIDES),
-        Decision::Put => {
-            if d.pk != 0 {
+    let region = slices::cut(image, 0, layout::BLOCK * ready.blocks);
+    let Transition {
+        what,
+        pk,
+        byte,
+        places,
+    } = modes::decide(said, held, locks, region, to);
+    match what? {
+        Change::Nothing | Change::Remove => Ok(Planned {
+            plan: plan::nothing(),
+            deciding: None,
+        }),
+        Change::Put => match pk {
+            Some(pk) => {
                 let there = modes::offset(lookup::standing(places));
-                return plan_losing(image, b, used, d.pk, there, d.byte, content);
+                Ok(plan_losing(image, ready, pk, there, byte, content))
             }
-            plan_alone(
-                image,
-                Standing {
-                    b,
-                    tail,
-                    used,
-                    places,
-                },
-                d.byte,
-                content,
-            )
-        }
+            None => {
+                let standing = Standing { ready, places };
+                Ok(plan_alone(image, standing, byte, content))
+            }
+        },
     }
 }
 
@@ -118,18 +119,13 @@ pub fn plan_mode(
     image: &[u8],
     to: u32,
     content: &mut [u8; layout::CONTENT],
-) -> Planned
+) -> Result<Planned, Rule>
     requires { (m : Bool) × (s : Session) × SaysModes m s said held locks.now }
     ensures { (m : Bool) (s : Session) → SaysModes m s said held locks.now
         → Plans (mode_plan m s to image.now) image.now content.old content.new result }
 {
-    let check = image::check_call(Layout::AUTHENTICATED, image);
-    match check {
-        Check::Ready(b, tail, used) => plan_ready(
-            said, held, locks, image, b, tail, used, to, content,
-        ),
-        Check::Refused(rule) => plan::refuse(rule),
-    }
+    let ready = image::check_call(Layout::AUTHENTICATED, image)?;
+    plan_ready(said, held, locks, image, ready, to, content)
 }
 
 // A mode request: planned, then carried out up to n, or to a store that fails.
@@ -152,14 +148,10 @@ pub fn mode(
 }
 
 // The mode that the platform is in: rules 1 and 2, then by what is there of PK and PlatMode.
-pub fn present(image: &[u8]) -> Platform
+pub fn present(image: &[u8]) -> Result<PlatMode, Rule>
     ensures { result ≡ platform_of image.now }
 {
-    let check = image::check_call(Layout::AUTHENTICATED, image);
-    match check {
-        Check::Ready(b, _, _) => {
-            Platform::Mode(modes::present(slices::cut(image, 0, layout::BLOCK * b)))
-        }
-        Check::Refused(rule) => Platform::Refused(rule),
-    }
+    let ready = image::check_call(Layout::AUTHENTICATED, image)?;
+    let region = slices::cut(image, 0, layout::BLOCK * ready.blocks);
+    Ok(modes::present(region))
 }

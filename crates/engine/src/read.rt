@@ -14,24 +14,19 @@ ghost use Rattle.model.specs.Book as book;
 ghost use Rattle.recovery.specs.Interface.{Returned};
 ghost use Rattle.region.specs.Met.{met_of};
 ghost use Rattle.image.specs.Check.{checked_in};
-ghost use Rattle.engine.specs.Read.{broken_later_def, Opened, refused_got, Answered, short_of, reply_to, found_broken, found_reply, next_broken_at, next_reply_at};
+ghost use Rattle.engine.specs.Read.{Opened, refused_got, Answered, short_of, reply_to, found_broken, found_reply, next_broken_at, next_reply_at};
 
-use image::{Check, Checked};
+use image::Checked;
 use layout::fixed;
 use model::{Answer, Context, Got, Layout, Named, Rule, View};
-use region::{Met, walk};
-use values::Found;
+use region::{Met, Placed, walk};
 
 // Bytes copied to the front of a buffer.
 pub(crate) fn deliver(buffer: &mut [u8], bytes: &[u8])
     requires { length bytes.now ≤ length buffer.old }
     ensures { buffer.new ≡ overlay 0 bytes.now buffer.old }
 {
-    let mut i = 0;
-    while i < bytes.len() {
-        buffer[i] = bytes[i];
-        i += 1;
-    }
+    buffer[..bytes.len()].copy_from_slice(bytes);
 }
 
 // Refused: nothing is written.
@@ -54,20 +49,19 @@ pub(crate) fn is_foreign(view: View, name: &[u8], vendor: &[u8; 16]) -> bool
     !fixed::is_own(&guid, view.modem, name, vendor)
 }
 
-// A GUID and behind it a name, at the front of a key. What the GUID's type tells is its length.
+// A GUID and behind it a name, at the front of a key.
 fn join(key: &mut [u8; 144], name: &[u8], vendor: &[u8; 16])
     requires { length name.now ≤ 128 }
-    ensures { (key.new ≡ sets key.old 0 (vendor.now ++ name.now))
-        × (length vendor.now ≡ 16) }
+    ensures { key.new ≡ sets key.old 0 (vendor.now ++ name.now) }
 {
     let next = output::put_bytes(key, 0, vendor);
     output::put_bytes(key, next, name);
 }
 
 // Rules 1 and 2, and where the region has a name.
-fn check_name(image: &[u8], name: &[u8], vendor: &[u8; 16]) -> Checked
+fn check_name(image: &[u8], name: &[u8], vendor: &[u8; 16]) -> Result<Checked, Rule>
     requires { length name.now ≤ 128 }
-    ensures { (result ≡ checked_in authenticated image.now (vendor.now ++ name.now)) × (length vendor.now ≡ 16) }
+    ensures { result ≡ checked_in authenticated image.now (vendor.now ++ name.now) }
 {
     let mut key = [0; 144];
     join(&mut key, name, vendor);
@@ -78,42 +72,26 @@ fn check_name(image: &[u8], name: &[u8], vendor: &[u8; 16]) -> Checked
     )
 }
 
-// A rule that is broken, after rules 1 and 2: one of these comes first.
-fn broken_later(check: Check, rule: Rule) -> Checked
-    ensures { result.check ≡ broken_later_def rule check }
-{
-    match check {
-        Check::Ready(_, _, _) => Checked {
-            check: Check::Refused(rule),
-            met: Met {
-                added: 0,
-                replacing: 0,
-            },
-        },
-        Check::Refused(first) => Checked {
-            check: Check::Refused(first),
-            met: Met {
-                added: 0,
-                replacing: 0,
-            },
-        },
-    }
-}
-
-// Rules 1, 2, 3 and 22, the last two as the name was found: what they leave to a call, or the rule broken; and where the region has the name.
-fn open(image: &[u8], named: bool, foreign: bool, name: &[u8], vendor: &[u8; 16]) -> Checked
+// Rules 1, 2, 3 and 22, the last two as the name was found: what they leave to a call, and where the region has the name; or the first of them broken.
+fn open(
+    image: &[u8],
+    named: bool,
+    foreign: bool,
+    name: &[u8],
+    vendor: &[u8; 16],
+) -> Result<Checked, Rule>
     requires { named ≡ true → length name.now ≤ 128 }
     ensures { Opened image.now named foreign (keyed name.now vendor.now) result }
 {
-    if named {
-        let checked = check_name(image, name, vendor);
-        if foreign {
-            let check = checked.check;
-            return broken_later(check, Rule::Side);
-        }
-        return checked;
+    if !named {
+        image::check_call(Layout::AUTHENTICATED, image)?;
+        return Err(Rule::Name);
     }
-    broken_later(image::check_call(Layout::AUTHENTICATED, image), Rule::Name)
+    let checked = check_name(image, name, vendor)?;
+    if foreign {
+        return Err(Rule::Side);
+    }
+    Ok(checked)
 }
 
 // Data handed out, if the buffer holds them.
@@ -180,12 +158,12 @@ pub(crate) fn get_from(
         result buffer.new }
 {
     let found = query::to_get(region, runtime, name, vendor, met);
-    let Found::At(at, e) = found else {
+    let Some(Placed { at, entry }) = found else {
         return refused(Rule::Absent, 0);
     };
     give(
-        walk::data_of(Layout::AUTHENTICATED, region, at, e),
-        e.attributes,
+        walk::data_of(Layout::AUTHENTICATED, region, at, entry),
+        entry.attributes,
         buffer,
     )
 }
@@ -211,12 +189,12 @@ fn name_from(
 {
     let guid = view.vendor;
     let found = query::to_name(region, view.runtime, &guid, view.modem, name, vendor, met);
-    let Found::At(at, e) = found else {
+    let Some(Placed { at, entry }) = found else {
         return refused(Rule::Absent, 0);
     };
     give_name(
         walk::vendor_of(Layout::AUTHENTICATED, region, at),
-        walk::name_of(Layout::AUTHENTICATED, region, at, e),
+        walk::name_of(Layout::AUTHENTICATED, region, at, entry),
         buffer,
     )
 }
@@ -238,25 +216,23 @@ pub fn get(
         (get_reply m s (keyed name.now vendor.now) buffer.old image.now)
         result.size result.attributes result.needed buffer.new }
 {
-    let checked = open(
+    let opened = open(
         image,
         slices::is_named(name),
         is_foreign(view, name, vendor),
         name,
         vendor,
     );
-    let opened = checked.check;
-    let met = checked.met;
     match opened {
-        Check::Ready(b, _, _) => get_from(
-            slices::cut(image, 0, layout::BLOCK * b),
+        Ok(Checked { ready, met }) => get_from(
+            slices::cut(image, 0, layout::BLOCK * ready.blocks),
             view.runtime,
             name,
             vendor,
             met,
             buffer,
         ),
-        Check::Refused(rule) => refused(rule, 0),
+        Err(rule) => refused(rule, 0),
     }
 }
 
@@ -264,20 +240,14 @@ pub fn get(
 fn is_next_named(name: &[u8]) -> bool
     ensures { result ≡ (well_named name.now || same name.now empty_name) }
 {
-    if slices::is_named(name) {
-        return true;
-    }
-    query::is_empty_name(name)
+    slices::is_named(name) || query::is_empty_name(name)
 }
 
 // Whether a name from which next-name goes on is the other side's; the empty one is no side's.
 fn is_next_foreign(view: View, name: &[u8], vendor: &[u8; 16]) -> bool
     ensures { result ≡ rule22_next view.vendor view.modem (keyed name.now vendor.now) }
 {
-    if query::is_empty_name(name) {
-        return false;
-    }
-    is_foreign(view, name, vendor)
+    !query::is_empty_name(name) && is_foreign(view, name, vendor)
 }
 
 // What next-name answers, by what its session says to it.
@@ -287,25 +257,23 @@ fn name_behind(view: View, image: &[u8], name: &[u8], vendor: &[u8; 16], buffer:
         (next_reply_at view (keyed name.now vendor.now) buffer.old image.now)
         result buffer.new }
 {
-    let checked = open(
+    let opened = open(
         image,
         is_next_named(name),
         is_next_foreign(view, name, vendor),
         name,
         vendor,
     );
-    let opened = checked.check;
-    let met = checked.met;
     match opened {
-        Check::Ready(b, _, _) => name_from(
-            slices::cut(image, 0, layout::BLOCK * b),
+        Ok(Checked { ready, met }) => name_from(
+            slices::cut(image, 0, layout::BLOCK * ready.blocks),
             view,
             name,
             vendor,
             met,
             buffer,
         ),
-        Check::Refused(rule) => refused(rule, 0),
+        Err(rule) => refused(rule, 0),
     }
 }
 
@@ -326,11 +294,15 @@ pub fn next_name(
         (next_reply m s (keyed name.now vendor.now) buffer.old image.now)
         result.size 0 result.needed buffer.new }
 {
-    let got = name_behind(view, image, name, vendor, buffer);
-    let answer = got.answer;
+    let Got {
+        answer,
+        size,
+        needed,
+        ..
+    } = name_behind(view, image, name, vendor, buffer);
     Named {
         answer,
-        size: got.size,
-        needed: got.needed,
+        size,
+        needed,
     }
 }

@@ -6,7 +6,6 @@ ghost use Rattle.model.specs.Region.{record_bit, entries, values, values_of};
 ghost use Rattle.model.specs.Answers.{answer_of};
 ghost use Rattle.model.specs.Query.{record_share_def, storage_for, remaining_for, largest_for, query_outcome, query_gives};
 
-use image::Check;
 use model::{Answer, Layout, Queried, Rule, Terms};
 use values::list;
 
@@ -16,25 +15,6 @@ struct Room {
     storage: usize,
     remaining: usize,
     largest: usize,
-}
-
-// A difference, 0 where it would be less.
-fn less(a: usize, b: usize) -> usize
-    ensures { result ≡ a - b }
-{
-    if a < b {
-        return 0;
-    }
-    a - b
-}
-
-fn least(a: usize, b: usize) -> usize
-    ensures { result ≡ min a b }
-{
-    if b < a {
-        return b;
-    }
-    a
 }
 
 // The bytes for error records, which are always ours.
@@ -51,11 +31,11 @@ fn record_share(t: Terms) -> usize
 fn storage(t: Terms, error: bool, size: usize) -> usize
     ensures { (result ≡ storage_for t error size) × (result ≤ size) }
 {
-    let all = less(size, layout::REGION_HEADER);
+    let all = size.saturating_sub(layout::REGION_HEADER);
     if error {
-        return least(all, record_share(t));
+        return all.min(record_share(t));
     }
-    least(all, less(t.share as usize, t.reserve as usize))
+    all.min(t.share.saturating_sub(t.reserve) as usize)
 }
 
 // The bytes that a new value may take, by the sums of those that are there.
@@ -65,21 +45,19 @@ fn remaining(t: Terms, error: bool, size: usize, records: usize, own: usize, oth
         (cond error (record_share_def t - records) (t.share - (own + t.reserve))) / 4 * 4)
         × (result ≤ size) }
 {
-    let all = less(size, layout::REGION_HEADER + records + own + others);
+    let all = size.saturating_sub(layout::REGION_HEADER + records + own + others);
     if error {
-        return least(all, less(record_share(t), records)) / 4 * 4;
+        return all.min(record_share(t).saturating_sub(records)) / 4 * 4;
     }
-    least(all, less(t.share as usize, own + t.reserve as usize)) / 4 * 4
+    all.min((t.share as usize).saturating_sub(own + t.reserve as usize)) / 4 * 4
 }
 
 // The bytes that its name and data may have.
 fn largest(remaining: usize) -> usize
     ensures { (result ≡ largest_for remaining) × (result ≤ remaining) }
 {
-    least(
-        slices::LONGEST_NAME + layout::LARGEST_DATA as usize,
-        less(remaining, Layout::HEADER),
-    )
+    let most = slices::LONGEST_NAME + layout::LARGEST_DATA as usize;
+    most.min(remaining.saturating_sub(Layout::HEADER))
 }
 
 // The room in a region.
@@ -117,10 +95,7 @@ fn refused(rule: Rule) -> Queried
 fn is_unknown(runtime: bool, attributes: u32) -> bool
     ensures { result ≡ (rule4 runtime attributes || eqb attributes 0) }
 {
-    if attributes == 0 {
-        return true;
-    }
-    policy::attributes_broken(runtime, attributes)
+    attributes == 0 || policy::attributes_broken(runtime, attributes)
 }
 
 // A query: rules 1, 2 and 4, then the room for a side's values with these attributes, as its session's terms have it.
@@ -132,13 +107,12 @@ pub fn query(t: Terms, image: &[u8], attributes: u32) -> Queried
         × (result.largest ≡ query_gives t.runtime attributes image.now
         (largest_for (remaining_for t (record_bit attributes) (region_size image.now) (values_of image.now)))) }
 {
-    let check = image::check_call(Layout::AUTHENTICATED, image);
-    match check {
-        Check::Ready(b, _, _) => {
+    match image::check_call(Layout::AUTHENTICATED, image) {
+        Ok(ready) => {
             if is_unknown(t.runtime, attributes) {
                 return refused(Rule::Attributes);
             }
-            let region = slices::cut(image, 0, layout::BLOCK * b);
+            let region = slices::cut(image, 0, layout::BLOCK * ready.blocks);
             let room = room_in(t, region, layout::is_error_record(attributes));
             Queried {
                 answer: Answer::Done(0),
@@ -147,6 +121,6 @@ pub fn query(t: Terms, image: &[u8], attributes: u32) -> Queried
                 largest: room.largest as u32,
             }
         }
-        Check::Refused(rule) => refused(rule),
+        Err(rule) => refused(rule),
     }
 }

@@ -30,12 +30,11 @@ pub fn plan_start_up(
     tenant: Tenant,
     image: &[u8],
     content: &mut [u8; layout::CONTENT],
-) -> Planned
+) -> Result<Planned, Rule>
     ensures { (u : Setup) → GivesShares u share records tenant
         → Plans (start_up_plan u image.now) image.now content.old content.new result }
 {
-    let found = image::check_start(image);
-    match found {
+    match image::check_start(image)? {
         Start::Pending(b, looked) => {
             let size = layout::BLOCK * b;
             if is_side_broken(
@@ -44,9 +43,9 @@ pub fn plan_start_up(
                 records,
                 tenant,
             ) {
-                return plan::refuse(Rule::Side);
+                return Err(Rule::Side);
             }
-            planner::startup::resume(image, b, looked, content)
+            Ok(planner::startup::resume(image, b, looked, content))
         }
         Start::Sound(b, looked, clean) => {
             if is_side_broken(
@@ -55,11 +54,10 @@ pub fn plan_start_up(
                 records,
                 tenant,
             ) {
-                return plan::refuse(Rule::Side);
+                return Err(Rule::Side);
             }
-            planner::startup::tidy(image, b, looked, clean, content)
+            Ok(planner::startup::tidy(image, b, looked, clean, content))
         }
-        Start::Refused(rule) => plan::refuse(rule),
     }
 }
 

@@ -1,6 +1,6 @@
 // The calls that store: set and format. Each is planned by a function that is lent the image shared and knows no n, and then carried out up to n. Of a session a set is
 // given what it says to it: there is one that says so, and what a set ensures holds of each.
-ghost use Rattle.std.specs.Prelude.{◌≡◌, Bool, ◌≤◌, length};
+ghost use Rattle.std.specs.Prelude.{◌≡◌, Bool, ◌≤◌, Some, Ok, length};
 ghost use Rattle.model.specs.declared.Session.{Session};
 ghost use Rattle.model.specs.Name.{keyed};
 ghost use Rattle.model.specs.StartUp.{format_plan};
@@ -18,8 +18,8 @@ ghost use Rattle.decision.specs.Parts.{value_by, offset_of};
 ghost use Rattle.engine.specs.Write.{byte_by};
 ghost use Rattle.plan.specs.Planned.{Kept, Plans};
 
-use decision::{Asking, Decision, NewValue};
-use image::Check;
+use decision::{Asking, Change, Decided, NewValue};
+use image::Ready;
 use model::{Answer, Context, Layout, Rule, Terms};
 use plan::Planned;
 use planner::Standing;
@@ -36,12 +36,12 @@ fn plan_put(
     value: NewValue,
     content: &mut [u8],
 ) -> Planned
-    requires { Asked image.now standing.b standing.tail standing.used standing.places
+    requires { Asked image.now standing.ready.blocks standing.ready.tail standing.ready.used standing.places
         (value_by region.now name.now vendor.now bytes.now (else_found standing.places.added standing.places.replacing) value)
         × (length content.old ≡ 28672) }
     ensures { PutPlanned image.now
         (value_by region.now name.now vendor.now bytes.now (else_found standing.places.added standing.places.replacing) value)
-        content.new result }
+        content.new (Ok result) }
 {
     let places = standing.places;
     let stamp = value.stamp;
@@ -64,10 +64,7 @@ fn plan_put(
 fn byte(deploys: bool) -> u8
     ensures { result ≡ byte_by deploys }
 {
-    if deploys {
-        return 3;
-    }
-    0
+    if deploys { 3 } else { 0 }
 }
 
 // The plan of a set of PK with which PlatMode changes, whose entry is at an offset. PK's value, decided by numbers, comes or it goes.
@@ -80,17 +77,17 @@ fn plan_joint(
     vendor: &[u8; 16],
     bytes: &[u8],
     value: NewValue,
-    beside: usize,
+    mode: usize,
     deploys: bool,
     content: &mut [u8],
 ) -> Planned
-    requires { Joinable image.now standing.b standing.used (offset_of (else_found standing.places.added standing.places.replacing)) beside comes
+    requires { Joinable image.now standing.ready.blocks standing.ready.used (offset_of (else_found standing.places.added standing.places.replacing)) (Some mode) comes
         (value_by region.now name.now vendor.now bytes.now (else_found standing.places.added standing.places.replacing) value) (byte_by deploys)
         × (length content.old ≡ 28672) }
     ensures { FoldPlanned image.now (joint_changes comes
         (value_by region.now name.now vendor.now bytes.now (else_found standing.places.added standing.places.replacing) value)
         (byte_by deploys))
-        content.new result }
+        content.new (Ok result) }
 {
     let places = standing.places;
     let stamp = value.stamp;
@@ -99,10 +96,10 @@ fn plan_joint(
     let own = slices::from(bytes, value.own);
     planner::joint::fold(
         image,
-        standing.b,
-        standing.used,
+        standing.ready.blocks,
+        standing.ready.used,
         pk,
-        beside,
+        Some(mode),
         comes,
         name,
         vendor,
@@ -113,14 +110,6 @@ fn plan_joint(
         byte(deploys),
         content,
     )
-}
-
-// What a check found of an image that is ready: its blocks, the offset of its tail, and how many records are used.
-#[derive(Clone, Copy)]
-struct Ready {
-    b: usize,
-    tail: usize,
-    used: usize,
 }
 
 // A set over an image that is ready: rules 3 to 13, 17, 18, 21, 22 and 24, then what it does to the values.
@@ -134,8 +123,8 @@ fn plan_ready(
     asking: Asking,
     bytes: &[u8],
     content: &mut [u8],
-) -> Planned
-    requires { IsReady image.now ready.b ready.tail ready.used
+) -> Result<Planned, Rule>
+    requires { IsReady image.now ready.blocks ready.tail ready.used
         × Bytes image.now
         × ((m : Bool) (s : Session) → Sized (book.set m s (request_of name.now vendor.now asking.attributes bytes.now asking.presence asking.verdict)))
         × (length content.old ≡ 28672)
@@ -147,56 +136,38 @@ fn plan_ready(
         image.now)
         image.now content.old content.new result }
 {
-    let region = slices::cut(image, 0, layout::BLOCK * ready.b);
-    let d = decision::decide(
+    let region = slices::cut(image, 0, layout::BLOCK * ready.blocks);
+    let Decided {
+        what,
+        places,
+        value,
+        beside,
+        deploys,
+    } = decision::decide(
         terms, limits, region, ready.tail, name, vendor, asking, bytes,
     );
-    let what = d.what;
-    let places = d.places;
-    let value = d.value;
-    let standing = Standing {
-        b: ready.b,
-        tail: ready.tail,
-        used: ready.used,
-        places,
-    };
-    match what {
-        Decision::Broken(rule) => plan::refuse(rule),
-        Decision::Nothing => plan::accept(plan::nothing(), plan::NONE_DECIDES),
-        Decision::Remove => {
-            if d.beside != 0 {
-                return plan_joint(
-                    image, region, standing, false, name, vendor, bytes, value, d.beside,
-                    d.deploys, content,
-                );
-            }
-            plan::accept(planner::entries::delete(places), 1)
-        }
-        Decision::Put => {
-            if d.beside != 0 {
-                return plan_joint(
-                    image, region, standing, true, name, vendor, bytes, value, d.beside, d.deploys,
-                    content,
-                );
-            }
-            plan_put(image, region, standing, name, vendor, bytes, value, content)
-        }
+    let standing = Standing { ready, places };
+    match what? {
+        Change::Nothing => Ok(Planned {
+            plan: plan::nothing(),
+            deciding: None,
+        }),
+        Change::Remove => match beside {
+            Some(mode) => Ok(plan_joint(
+                image, region, standing, false, name, vendor, bytes, value, mode, deploys, content,
+            )),
+            None => Ok(Planned {
+                plan: planner::entries::delete(places),
+                deciding: Some(1),
+            }),
+        },
+        Change::Put => match beside {
+            Some(mode) => Ok(plan_joint(
+                image, region, standing, true, name, vendor, bytes, value, mode, deploys, content,
+            )),
+            None => Ok(plan_put(image, region, standing, name, vendor, bytes, value, content)),
+        },
     }
-}
-
-// What is lent are bytes.
-fn known(s: &[u8]) -> usize
-    ensures { Bytes s.now × (result ≡ length s.now) }
-{
-    slices::cut(s, 0, 0);
-    s.len()
-}
-
-// What a GUID's type tells: sixteen bytes.
-fn guid(vendor: &[u8; 16])
-    ensures { Bytes vendor.now × (length vendor.now ≡ 16) }
-{
-    known(vendor);
 }
 
 // The plan of a set, a delete or an append: rules 1 to 13, 17, 18, 21 and 22, and its operations.
@@ -209,7 +180,7 @@ pub fn plan_set(
     asking: Asking,
     bytes: &[u8],
     content: &mut [u8; layout::CONTENT],
-) -> Planned
+) -> Result<Planned, Rule>
     requires { (m : Bool) × (s : Session) × Says m s (keyed name.now vendor.now) terms limits.now }
     ensures { (m : Bool) (s : Session) → Says m s (keyed name.now vendor.now) terms limits.now
         → Plans
@@ -218,22 +189,10 @@ pub fn plan_set(
         image.now)
         image.now content.old content.new result }
 {
-    guid(vendor);
-    let check = image::check_call(Layout::AUTHENTICATED, image);
-    match check {
-        Check::Ready(b, tail, used) => plan_ready(
-            terms,
-            limits,
-            image,
-            Ready { b, tail, used },
-            name,
-            vendor,
-            asking,
-            bytes,
-            content,
-        ),
-        Check::Refused(rule) => plan::refuse(rule),
-    }
+    let ready = image::check_call(Layout::AUTHENTICATED, image)?;
+    plan_ready(
+        terms, limits, image, ready, name, vendor, asking, bytes, content,
+    )
 }
 
 // A set, a delete or an append: planned, then carried out up to n, or to a store that fails.
@@ -264,14 +223,11 @@ pub fn set(
 }
 
 // The plan of a format: "Formatting meets 1 only".
-pub fn plan_format(image: &[u8], content: &mut [u8; layout::CONTENT]) -> Planned
+pub fn plan_format(image: &[u8], content: &mut [u8; layout::CONTENT]) -> Result<Planned, Rule>
     ensures { Plans (format_plan image.now) image.now content.old content.new result }
 {
-    let b = image::blocks(image);
-    if b == 0 {
-        return plan::refuse(Rule::Length);
-    }
-    planner::format::plan(image, b, content)
+    let b = image::blocks(image).ok_or(Rule::Length)?;
+    Ok(planner::format::plan(image, b, content))
 }
 
 // An empty region: planned, then carried out up to n, or to a store that fails.

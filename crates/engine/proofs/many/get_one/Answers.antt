@@ -22,25 +22,22 @@ guid_of-vendor-requires c =
 pub returns-then-is_foreign : goal.returns-then-is_foreign
 returns-then-is_foreign c =
     let a = c.args in
-    let n = c in
     let vs = values (entries a.region.now) in
-    let key : keyed n.from-name.result.now c.guid_of-vendor.result ≡ key_from a.key.now = ap₂ keyed n.from-name.ensures c.guid_of-vendor.ensures in
+    let key : keyed c.from-name.result.now c.guid_of-vendor.result ≡ key_from a.key.now = ap₂ keyed c.from-name.ensures c.guid_of-vendor.ensures in
     rw c.refused-then-is_foreign.ensures
     (one-as a.view vs a.buffer.now key
-    (foreign-one a.view vs (keyed n.from-name.result.now c.guid_of-vendor.result) a.buffer.now (sym n.is_named.ensures ∙ c.if-not-is_named.false) (sym c.is_foreign.ensures ∙ c.if-is_foreign.true)))
+    (foreign-one a.view vs (keyed c.from-name.result.now c.guid_of-vendor.result) a.buffer.now (sym c.is_named.ensures ∙ c.if-not-is_named.false) (sym c.is_foreign.ensures ∙ c.if-is_foreign.true)))
 
 pub get_from-requires : goal.get_from-requires
 get_from-requires c =
-    let s = c in
-    let a = s.args in
+    let a = c.args in
     let key : keyed c.from-name.result.now c.guid_of-vendor.result ≡ key_from a.key.now = ap₂ keyed c.from-name.ensures c.guid_of-vendor.ensures in
-    (s.requires.0, s.requires.1 ∙ ap (λ (k : Key). met_of k (entries a.region.now)) (sym key))
+    (c.requires.0, c.requires.1 ∙ ap (λ (k : Key). met_of k (entries a.region.now)) (sym key))
 
 pub returns : goal.returns
 returns c =
     let a = c.args in
-    let n = c in
     let vs = values (entries a.region.now) in
-    let key : keyed n.from-name.result.now c.guid_of-vendor.result ≡ key_from a.key.now = ap₂ keyed n.from-name.ensures c.guid_of-vendor.ensures in
+    let key : keyed c.from-name.result.now c.guid_of-vendor.result ≡ key_from a.key.now = ap₂ keyed c.from-name.ensures c.guid_of-vendor.ensures in
     one-as a.view vs a.buffer.now key
-    (found-one a.view vs (keyed n.from-name.result.now c.guid_of-vendor.result) a.buffer.now (sym n.is_named.ensures ∙ c.if-not-is_named.false) (sym c.is_foreign.ensures ∙ c.if-is_foreign.false) c.get_from.ensures)
+    (found-one a.view vs (keyed c.from-name.result.now c.guid_of-vendor.result) a.buffer.now (sym c.is_named.ensures ∙ c.if-not-is_named.false) (sym c.is_foreign.ensures ∙ c.if-is_foreign.false) c.get_from.ensures)

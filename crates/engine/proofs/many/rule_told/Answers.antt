@@ -2,4 +2,4 @@
 use Rattle.engine.proofs.many.rule_told.Goals as goal
 
 pub returns-in-Refused : goal.returns-in-Refused
-returns-in-Refused c = rw c.in-Refused.is c.number.ensures
+returns-in-Refused c = rw c.in-Refused.is c.from.ensures

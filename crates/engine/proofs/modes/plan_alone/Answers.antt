@@ -5,12 +5,10 @@ use Rattle.engine.proofs.modes.plan_alone.Goals as goal
 
 pub put_value-requires : goal.put_value-requires
 put_value-requires c =
-    let s = c in
-    let same = mode-fields s.args.byte c.mode_name-name.ensures c.global_vendor-vendor.ensures c.cut-none.ensures in
-    (asked-as same s.requires.0, s.requires.1)
+    let same = mode-fields c.args.byte c.mode_name-name.ensures c.global_vendor-vendor.ensures c.cut-none.ensures in
+    (asked-as same c.requires.0, c.requires.1)
 
 pub returns : goal.returns
 returns c =
-    let s = c in
-    let same = mode-fields s.args.byte c.mode_name-name.ensures c.global_vendor-vendor.ensures c.cut-none.ensures in
+    let same = mode-fields c.args.byte c.mode_name-name.ensures c.global_vendor-vendor.ensures c.cut-none.ensures in
     planned-as same c.put_value.ensures

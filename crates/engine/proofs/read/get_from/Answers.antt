@@ -29,7 +29,7 @@ pub give-requires : goal.give-requires
 give-requires c =
     let a = c.args in
     let n = ap length c.data_of.ensures in
-    let s = short-data a.region.now c.in-At.at c.in-At.e in
+    let s = short-data a.region.now c.in-Some.field-0.at c.in-Some.field-0.entry in
     omega arith
 
 pub returns : goal.returns
@@ -38,6 +38,6 @@ returns c =
     let r = a.region.now in
     let k = keyed a.name.now a.vendor.now in
     let f = c.to_get-found in
-    let v = value_found r f.result (entry_to_get a.runtime k (entries r)) f.ensures (value_to_get a.runtime k (values (entries r))) (get_value a.runtime k (entries r)) c.in-At.at c.in-At.e c.in-At.is in
-    answered-found (entry_value_def (entry_at r c.in-At.at c.in-At.e)) (value_to_get a.runtime k (values (entries r))) v got_bytes (λ v. v.attributes) a.buffer.now
-    c.data_of.result.now c.data_of.ensures c.in-At.e.attributes (entry-attributes r c.in-At.at c.in-At.e) c.give.ensures
+    let v = value_found r f.result (entry_to_get a.runtime k (entries r)) f.ensures (value_to_get a.runtime k (values (entries r))) (get_value a.runtime k (entries r)) c.in-Some.field-0 c.in-Some.is in
+    answered-found (entry_value_def (entry_at r c.in-Some.field-0.at c.in-Some.field-0.entry)) (value_to_get a.runtime k (values (entries r))) v got_bytes (λ v. v.attributes) a.buffer.now
+    c.data_of.result.now c.data_of.ensures c.in-Some.field-0.entry.attributes (entry-attributes r c.in-Some.field-0.at c.in-Some.field-0.entry) c.give.ensures

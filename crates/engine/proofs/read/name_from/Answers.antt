@@ -31,8 +31,8 @@ give_name-requires c =
     let a = c.args in
     let m = ap length c.vendor_of.ensures in
     let n = ap length c.name_of.ensures in
-    let s = short-name a.region.now c.in-At.at c.in-At.e in
-    let u = short-vendor a.region.now c.in-At.at in
+    let s = short-name a.region.now c.in-Some.field-0.at c.in-Some.field-0.entry in
+    let u = short-vendor a.region.now c.in-Some.field-0.at in
     (omega arith, omega arith)
 
 pub returns : goal.returns
@@ -41,7 +41,7 @@ returns c =
     let r = a.region.now in
     let k = keyed a.name.now a.vendor.now in
     let f = c.to_name-found in
-    let v = value_found r f.result (entry_to_name a.view.vendor a.view.modem a.view.runtime k (entries r)) f.ensures (value_to_name a.view.vendor a.view.modem a.view.runtime k (values (entries r))) (name-value a.view.vendor a.view.modem a.view.runtime k (entries r)) c.in-At.at c.in-At.e c.in-At.is in
-    let guid = c.vendor_of.ensures ∙ entry-vendor r c.in-At.at c.in-At.e in
-    answered-found (entry_value_def (entry_at r c.in-At.at c.in-At.e)) (value_to_name a.view.vendor a.view.modem a.view.runtime k (values (entries r))) v named_bytes (λ v. 0) a.buffer.now
+    let v = value_found r f.result (entry_to_name a.view.vendor a.view.modem a.view.runtime k (entries r)) f.ensures (value_to_name a.view.vendor a.view.modem a.view.runtime k (values (entries r))) (name-value a.view.vendor a.view.modem a.view.runtime k (entries r)) c.in-Some.field-0 c.in-Some.is in
+    let guid = c.vendor_of.ensures ∙ entry-vendor r c.in-Some.field-0.at c.in-Some.field-0.entry in
+    answered-found (entry_value_def (entry_at r c.in-Some.field-0.at c.in-Some.field-0.entry)) (value_to_name a.view.vendor a.view.modem a.view.runtime k (values (entries r))) v named_bytes (λ v. 0) a.buffer.now
     (c.vendor_of.result.now ++ c.name_of.result.now) (ap₂ ◌++◌ guid c.name_of.ensures) 0 refl c.give_name.ensures

@@ -7,4 +7,4 @@ use Rattle.engine.proofs.read.next_name.Goals as goal
 pub returns : goal.returns
 returns c =
     let a = c.args in
-    next-answered a.c a.view (keyed a.name.now a.vendor.now) a.buffer.now a.image.now c.name_behind-got.ensures
+    next-answered a.c a.view (keyed a.name.now a.vendor.now) a.buffer.now a.image.now c.name_behind-answer.ensures

@@ -7,4 +7,4 @@ use Rattle.engine.proofs.room.largest.Goals as goal
 
 pub returns : goal.returns
 unfolding largest_for
-returns c = let e = c.least.ensures in let l = c.less.ensures in (rw (e, l) refl, omega (arith, e, l))
+returns c = let e = c.min.ensures in let l = c.saturating_sub.ensures in (rw (e, l) refl, omega (arith, e, l))

@@ -6,6 +6,6 @@ pub returns-then-deploys : goal.returns-then-deploys
 unfolding byte_by
 returns-then-deploys c = rw c.if-deploys.true
 
-pub returns : goal.returns
+pub returns-else-deploys : goal.returns-else-deploys
 unfolding byte_by
-returns c = rw c.if-deploys.false
+returns-else-deploys c = rw c.if-deploys.false

@@ -10,15 +10,13 @@ use Rattle.engine.proofs.write.plan_joint.Goals as goal
 pub fold-requires : goal.fold-requires
 unfolding value_by
 fold-requires c =
-    let m = c in
-    let a = m.args in
+    let a = c.args in
     let same = ap₂ (λ (x y : List ℕ). valued a.name.now a.vendor.now a.value.attributes a.value.stamp (x ++ y)) c.kept-kept.ensures c.from-own.ensures in
-    (joinable-as (c.offset-pk.ensures ∙ ap offset_of c.standing.ensures) same c.byte.ensures m.requires.0, m.requires.1)
+    (joinable-as (c.offset-pk.ensures ∙ ap offset_of c.standing.ensures) same c.byte.ensures c.requires.0, c.requires.1)
 
 pub returns : goal.returns
 unfolding value_by
 returns c =
-    let m = c in
-    let a = m.args in
+    let a = c.args in
     let same = ap₂ (λ (x y : List ℕ). valued a.name.now a.vendor.now a.value.attributes a.value.stamp (x ++ y)) c.kept-kept.ensures c.from-own.ensures in
     folded-as a.comes same c.byte.ensures c.fold.ensures

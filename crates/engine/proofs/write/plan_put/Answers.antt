@@ -10,15 +10,13 @@ use Rattle.engine.proofs.write.plan_put.Goals as goal
 pub put_value-requires : goal.put_value-requires
 unfolding value_by
 put_value-requires c =
-    let m = c in
-    let a = m.args in
+    let a = c.args in
     let same = ap₂ (λ (x y : List ℕ). valued a.name.now a.vendor.now a.value.attributes a.value.stamp (x ++ y)) c.kept-kept.ensures c.from-own.ensures in
-    (asked-as same m.requires.0, m.requires.1)
+    (asked-as same c.requires.0, c.requires.1)
 
 pub returns : goal.returns
 unfolding value_by
 returns c =
-    let m = c in
-    let a = m.args in
+    let a = c.args in
     let same = ap₂ (λ (x y : List ℕ). valued a.name.now a.vendor.now a.value.attributes a.value.stamp (x ++ y)) c.kept-kept.ensures c.from-own.ensures in
     planned-as same c.put_value.ensures
