@@ -40,7 +40,7 @@ fn run_file(rt: &(impl Files + Print + Eprint), path: &[u8]) {
     print::word(rt, path);
     print::end(rt);
     let mut bytes = [0; 65536];
-    let n = match open(rt, path) {
+    let (n, _) = match open(rt, path) {
         Ok(file) => streams::read_full(file, &mut bytes),
         Err(e) => {
             let name = str::from_utf8(path).unwrap_or("a path");

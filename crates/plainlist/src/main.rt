@@ -5,7 +5,7 @@ use model::Layout;
 
 fn main(rt: HostRuntime) {
     let mut image = [0; 65536];
-    let n = streams::read_full(rt.stdin(), &mut image);
+    let (n, _) = streams::read_full(rt.stdin(), &mut image);
     let mut out = [0; 65536];
     let length = report::report(Layout::plain(), &image[..n], &mut out);
     if rt.write_all(slices::cut(&out, 0, length)).is_err() {

@@ -13,7 +13,7 @@ fn input() -> [u8; 65537]
 fn main(rt: HostRuntime) {
     let mut script = input();
     // what a read that fails leaves is the front of a script, which is none
-    let n = streams::read_full(rt.stdin(), &mut script);
+    let (n, _) = streams::read_full(rt.stdin(), &mut script);
     let mut image = [0; desk::LARGEST_IMAGE];
     let mut content = [0; layout::CONTENT];
     let mut out = [0; 65536];
