@@ -167,11 +167,11 @@ pub vendor-length : length global_vendor_def ≡ 16
 unfolding global_vendor_def
 vendor-length = refl
 
-pub mode-wrote : (byte : ℕ) {name vendor stamp nothing : List ℕ} {at n : ℕ} {l l' : List ℕ} → name ≡ key_mode.name → vendor ≡ global_vendor_def → stamp ≡ no_stamp_def → nothing ≡ []
-    → eqb byte 0 ≡ false → Wrote (entry_bytes 0x3F (valued name vendor 0x07 stamp (nothing ++ (byte ∷ [])))) at l l' n → Wrote (joined (stored_mode byte)) at l l' n
+pub mode-wrote : (byte : ℕ) {name vendor stamp : List ℕ} {at n : ℕ} {l l' : List ℕ} → name ≡ key_mode.name → vendor ≡ global_vendor_def → stamp ≡ no_stamp_def
+    → eqb byte 0 ≡ false → Wrote (entry_bytes 0x3F (valued name vendor 0x07 stamp (byte ∷ []))) at l l' n → Wrote (joined (stored_mode byte)) at l l' n
 unfolding mode_value key_mode
-mode-wrote byte {nothing = nothing} p q r s h w =
-    rw h (wrote_as (ap (entry_bytes 0x3F) (rw (p, q, r, s)) ∙ joined-one (mode_value byte)) w)
+mode-wrote byte p q r h w =
+    rw h (wrote_as (ap (entry_bytes 0x3F) (rw (p, q, r)) ∙ joined-one (mode_value byte)) w)
 
 -- ---- one after the other
 

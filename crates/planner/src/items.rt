@@ -22,7 +22,6 @@ fn put_item(out: &mut [u8], at: usize, file: &[u8], t: Setting, stores: bool) ->
         let stamp = [0; 16];
         let vendor = slices::cut(file, t.at, 16);
         let data = profile::data_of(file, t);
-        let none = &data[..0];
         return compose::put_entry(
             0x3F,
             out,
@@ -31,7 +30,7 @@ fn put_item(out: &mut [u8], at: usize, file: &[u8], t: Setting, stores: bool) ->
             &stamp,
             profile::name_of(file, t),
             vendor,
-            none,
+            &[],
             data,
         );
     }

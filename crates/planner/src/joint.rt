@@ -45,8 +45,7 @@ fn put_mode(out: &mut [u8], at: usize, byte: u8) -> usize
     let name = fixed::mode_name();
     let vendor = fixed::global_vendor();
     let data = [byte];
-    let none = slices::cut(&data, 0, 0);
-    compose::put_entry(0x3F, out, at, 0x07, &stamp, &name, &vendor, none, &data)
+    compose::put_entry(0x3F, out, at, 0x07, &stamp, &name, &vendor, &[], &data)
 }
 
 // The front of the region after both: its header and the values in flash order; PK's, and PlatMode's last.

@@ -16,9 +16,8 @@ pub put_entry-requires : goal.put_entry-requires
 put_entry-requires c =
     let n = ap length c.mode_name-name.ensures ∙ mode-length in
     let v = ap length c.global_vendor-vendor.ensures ∙ vendor-length in
-    let e = ap length c.cut-none.ensures in
-    (c.requires, omega arith, omega (arith, n), omega (arith, v), omega (arith, e), omega arith)
+    (c.requires, omega arith, omega (arith, n), omega (arith, v), omega arith, omega arith)
 
 pub returns : goal.returns
 returns c =
-    mode-wrote c.args.byte c.mode_name-name.ensures c.global_vendor-vendor.ensures refl c.cut-none.ensures (ne_eqb c.args.byte 0 c.if-byte-eq0.false) c.put_entry.ensures
+    mode-wrote c.args.byte c.mode_name-name.ensures c.global_vendor-vendor.ensures refl (ne_eqb c.args.byte 0 c.if-byte-eq0.false) c.put_entry.ensures
