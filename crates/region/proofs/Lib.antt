@@ -23,3 +23,5 @@ pub mod Marked
 pub mod Settled
 -- A usual entry
 pub mod Usuals
+-- How long its name and data can be
+pub mod Lengths

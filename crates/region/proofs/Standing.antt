@@ -42,9 +42,16 @@ standing {y} {r} {at} {x} {es} h = go (turn_in y r at) refl
           turn = subst (λ j. Turned y r at j x.next) m (subst (Turned y r at e) n w);
         }
 
+-- the entries left are those from an offset on of which something is known
+pub record LeftFrom (y : Layout) (r : List ℕ) (es : List walk.Entry) (P : ℕ → Type 0) : Type 0 where
+  pub from : ℕ
+  pub rest : es ≡ from_in y r from
+  pub known : P from
+
 -- the same by its own offset, with what is known of the offset
 pub record Here (y : Layout) (r : List ℕ) (x : walk.Entry) (es : List walk.Entry) (P : ℕ → Type 0) : Type 0 where
   pub known : P x.at
+  pub is : x ≡ entry_as y r x.at (numbers_of x.header)
   pub rest : es ≡ from_in y r x.next
   pub turn : Turned y r x.at (numbers_of x.header) x.next
 
@@ -53,4 +60,8 @@ unfolding entry_as walk.placed
 here {y} {r} {at} {x} {es} h P p =
     let n = standing h in
     let b : at ≡ x.at = sym (ap (λ (i : walk.Entry). i.at) n.is) in
-    record { known = subst P b p; rest = n.rest; turn = subst (λ a. Turned y r a (numbers_of x.header) x.next) b n.turn }
+    record { known = subst P b p; is = n.is ∙ ap (λ a. entry_as y r a (numbers_of x.header)) b; rest = n.rest; turn = subst (λ a. Turned y r a (numbers_of x.header) x.next) b n.turn }
+
+-- at a turn of a loop over the entries left
+pub turned : {y : Layout} {r : List ℕ} {es xs : List walk.Entry} {x : walk.Entry} {P : ℕ → Type 0} → LeftFrom y r es P → es ≡ x ∷ xs → Here y r x xs P
+turned {P = P} i h = here (sym i.rest ∙ h) P i.known

@@ -156,18 +156,18 @@ fn scan_by_table(y: Layout, region: &[u8], table: &[u16]) -> Option<usize>
     ensures { result ≡ scan_of y region.now }
 {
     let mut settled = true;
-    let mut at = layout::REGION_HEADER;
-    while let Some((e, next)) = walk::turn(y, region, at) {
-        if !judge::entry_sound(y, &region[at..], e) {
+    let mut tail = layout::REGION_HEADER;
+    for e in walk::entries(y, region) {
+        if !judge::entry_sound(y, &region[e.at..], e.entry) {
             return None;
         }
-        settled &= owns_place(y, region, table, at, e);
-        if judge::is_doubled(y, region, at, e, !settled) {
+        settled &= owns_place(y, region, table, e.at, e.entry);
+        if judge::is_doubled(y, region, e.at, e.entry, !settled) {
             return None;
         }
-        at = next;
+        tail = e.next;
     }
-    Some(at)
+    Some(tail)
 }
 
 // The same by a table of its own, which is sorted first.

@@ -1,9 +1,9 @@
 -- `region::sorted::scan_by_table` meets its contract. The loop's invariant: what the whole walk tells of each entry by itself is what the walk from here on tells; while all
 -- are settled, every entry passed is at its place; no name is doubled in the whole walk just if none from here on is, neither among themselves nor with those passed.
--- What is left of the region falls.
 -- Assumes nothing.
-use Rattle.std.proofs.Common.{◌≡◌, ◌-◌, length}
+use Rattle.std.proofs.Common.{◌≡◌, length}
 use Rattle.model.specs.Beside.{from_in}
+use Rattle.region.specs.Stored.{left}
 use Rattle.region.proofs.Passing.{Passing}
 use Rattle.region.proofs.Scanning.{singly, scanned}
 use Rattle.region.proofs.Settled.{Settled}
@@ -11,7 +11,5 @@ use Rattle.region.proofs.sorted.scan_by_table.Given as goal
 
 abbrev pub invariant-loop-e : goal.invariant-loop-e
 invariant-loop-e l =
-    (singly l.y l.region ≡ scanned (length l.region) l.at (from_in l.y l.region l.at)) × Passing l.y l.region (Settled l.y l.region l.table l.settled) l.at
-
-abbrev pub decreases-loop-e : goal.decreases-loop-e
-decreases-loop-e l = length l.region - l.at
+    (goal.iterator-loop-e).can_next l.e-iterator × (goal.iterator-loop-e).is_finite l.e-iterator × (from_in l.y l.region l.tail ≡ left l.e-iterator)
+    × (singly l.y l.region ≡ scanned (length l.region) l.tail (from_in l.y l.region l.tail)) × Passing l.y l.region (Settled l.y l.region l.table l.settled) l.tail
