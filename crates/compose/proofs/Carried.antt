@@ -22,10 +22,9 @@ use Rattle.region.specs.Walk.{entry_at, stamp_at, vendor_at, entry_as, vendor_as
 use Rattle.region.proofs.Entries.{named, stamp as stamp-part, vendor as vendor-part}
 use Rattle.values.proofs.Listed.{value_entries}
 use Rattle.values.proofs.Sizes.{part-fits, short, data-part}
-use Rattle.values.proofs.Stands.{NoneLeft}
 use Rattle.values.proofs.Next.{Next}
 use Rattle.output.specs.Text.{Wrote}
-use Rattle.output.proofs.Writing.{sets-append, wrote-append, wrote_as}
+use Rattle.output.proofs.Writing.{Partly, sets-append, wrote-append, wrote_as}
 use Rattle.compose.specs.Compose.{before_stamp_def, behind_stamp_def, header_bytes_def, leaving, values_but}
 use Rattle.compose.proofs.Headers.{length_before, length-behind, entry-parts, entry-short}
 
@@ -182,14 +181,19 @@ pub all-to-come : (r leave : List ℕ) → joined (values_but leave r) ≡ to_co
 unfolding values_but
 all-to-come r leave = ap (λ (es : List walk.Entry). joined (leaving leave (keep (is_value (entries r)) es))) (entries_from authenticated r)
 
-pub next-to-come : {r : List ℕ} (leave : List ℕ) {here a after : ℕ} {e : numbers.Entry} → Next authenticated r here a e after
-    → to_come r leave here ≡ joined (leaving leave (entry_at r a e ∷ [])) ++ to_come r leave after
-next-to-come {r} leave {a = a} {after} {e} x =
-    let rest = value_entries authenticated r after in
-    ap (λ (es : List walk.Entry). joined (leaving leave es)) x.entry
-    ∙ ap joined (leaving-cons leave (entry_at r a e) rest)
-    ∙ joined-append (leaving leave (entry_at r a e ∷ [])) (leaving leave rest)
+pub next-to-come : {r : List ℕ} (leave : List ℕ) {here : ℕ} {x : walk.Entry} {es : List walk.Entry} → Next authenticated r here x es
+    → to_come r leave here ≡ joined (leaving leave (x ∷ [])) ++ to_come r leave x.next
+next-to-come {r} leave {x = x} n =
+    let rest = value_entries authenticated r x.next in
+    ap (λ (es : List walk.Entry). joined (leaving leave es)) n.entries ∙ ap joined (leaving-cons leave x rest) ∙ joined-append (leaving leave (x ∷ [])) (leaving leave rest)
 
-pub none-to-come : {r : List ℕ} (leave : List ℕ) {here : ℕ} → NoneLeft authenticated r here → to_come r leave here ≡ []
+pub none-to-come : (r leave : List ℕ) (here : ℕ) → value_entries authenticated r here ≡ [] → to_come r leave here ≡ []
 unfolding joined_in leaving
-none-to-come leave x = ap (λ (es : List walk.Entry). joined (leaving leave es)) x.entries
+none-to-come r leave here h = ap (λ (es : List walk.Entry). joined (leaving leave es)) h
+
+-- the values before an offset are written but those left out, in no more bytes than were passed; those from there on are left
+pub record Written (r leave : List ℕ) (left : List walk.Entry) (at : ℕ) (before after : List ℕ) (next : ℕ) : Type 0 where
+  pub here : ℕ
+  pub rest : left ≡ value_entries authenticated r here
+  pub within : next ≤ at + here
+  pub values : Partly (joined (values_but leave r)) (to_come r leave here) at before after next

@@ -208,10 +208,8 @@ fn put_others(out: &mut [u8], at: usize, region: &[u8], leave: &[usize]) -> usiz
     ensures { Wrote (joined (values_but leave.now region.now)) at out.old out.new result }
 {
     let mut next = at;
-    let mut here = layout::REGION_HEADER;
-    while let Some((placed, after)) = list::next_value(Layout::AUTHENTICATED, region, here) {
-        next = put_other(out, next, region, placed, leave);
-        here = after;
+    for e in list::values(Layout::AUTHENTICATED, region) {
+        next = put_other(out, next, region, e.placed(), leave);
     }
     next
 }

@@ -1,7 +1,7 @@
 -- The values of a region in one form, carried over one by one into another: at each turn what is still to come is one value and the rest. What is
 -- read of an entry makes up its value but for the stamp, and none of it is longer than the region.
 -- Assumes nothing.
-use Prim.Native.Nat.{ℕ, ◌+◌, ◌-◌, ◌≤◌}
+use Prim.Native.Nat.{ℕ, ◌+◌, ◌*◌, ◌-◌, ◌≤◌}
 use native.Mathlib.Omega.{arith}
 use mathlib.Core.Path.{◌≡◌, sym, ap, ◌∙◌}
 use mathlib.Core.List.{List, [], ◌++◌, map}
@@ -14,31 +14,36 @@ use Rattle.model.specs.Walk as walk
 use Rattle.model.specs.Region.{entries_in, values}
 use Rattle.model.specs.Compact.{joined_in}
 use Rattle.model.specs.Move.{unstamped}
-use Rattle.layout.specs.declared.Entry as numbers
-use Rattle.region.specs.Walk.{entry_as, vendor_as}
-use Rattle.values.proofs.Listed.{listed_in, listed-all}
-use Rattle.values.proofs.Sizes.{lengths, short}
-use Rattle.values.proofs.Stands.{NoneLeft}
+use Rattle.region.specs.Stored.{entry_of}
+use Rattle.region.specs.declared.walk.Stored.{Stored}
+use Rattle.region.proofs.Lengths.{short}
+use Rattle.values.proofs.Listed.{value_entries, listed_in, listed-all, listed-left}
 use Rattle.values.proofs.Next.{Next}
 use Rattle.output.specs.Text.{Wrote}
-use Rattle.output.proofs.Writing.{wrote-append, wrote-length, wrote-front}
+use Rattle.output.proofs.Writing.{Partly, wrote-append, wrote-length, wrote-front}
 use Rattle.convert.specs.Bare.{bare}
 use Rattle.convert.proofs.Bare.{entry-short}
 
 -- ---- an entry's value by what is read of it
 
-module _ (y z : Layout) (r : List ℕ) (a : ℕ) (e : numbers.Entry) {name vendor bytes : List ℕ}
-    (n : name ≡ (entry_as y r a e).name) (v : vendor ≡ vendor_as y r a) (b : bytes ≡ (entry_as y r a e).bytes) where
-  pub read-value : entry_bytes_in z 0x3F (bare e.attributes name vendor bytes) ≡ entry_bytes_in z 0x3F (unstamped (walk.entry_value_def (entry_as y r a e)))
-  unfolding entry_as walk.placed vendor_as
+module _ (z : Layout) (e : Stored) {name vendor bytes : List ℕ}
+    (n : name ≡ (entry_of e).name) (v : vendor ≡ (entry_of e).header.vendor) (b : bytes ≡ (entry_of e).bytes) where
+  pub read-value : entry_bytes_in z 0x3F (bare e.entry.attributes name vendor bytes) ≡ entry_bytes_in z 0x3F (unstamped (walk.entry_value_def (entry_of e)))
   read-value = rw (n, v, b)
 
-  pub entry-fits : length (entry_bytes_in z 0x3F (bare e.attributes name vendor bytes)) ≤ header_length z + length r + 3
+  pub record Fits : Type 0 where
+    pub name-fits : length name ≤ e.entry.name
+    pub vendor-fits : length vendor ≤ 16
+    pub bytes-fits : length bytes ≤ e.entry.size
+    pub whole : length (entry_bytes_in z 0x3F (bare e.entry.attributes name vendor bytes)) ≤ header_length z + e.entry.name + e.entry.size + 3
+
+  pub entry-fits : Fits
   entry-fits =
-      let l = lengths y r a e in
-      let k = ap length n in
-      let d = ap length b in
-      omega (arith, l.whole, entry-short z e.attributes name vendor bytes (short y r a e n v b).vendor-short)
+      let s = short e in
+      let i = rw (← n) at s.name in
+      let j = rw (← v) at s.vendor in
+      let k = rw (← b) at s.bytes in
+      record { name-fits = i; vendor-fits = j; bytes-fits = k; whole = omega (arith, entry-short z e.entry.attributes name vendor bytes j) }
 
 -- ---- the loop
 
@@ -50,14 +55,22 @@ module _ (y z : Layout) where
   pub all-to-come : (r : List ℕ) → joined_in z (map unstamped (values (entries_in y r))) ≡ to_come y z r 28
   all-to-come r = ap (λ (vs : List Value). joined_in z (map unstamped vs)) (listed-all y r)
 
-  pub next-to-come : {r : List ℕ} {here a after : ℕ} {e : numbers.Entry} → Next y r here a e after
-      → to_come y z r here ≡ entry_bytes_in z 0x3F (unstamped (walk.entry_value_def (entry_as y r a e))) ++ to_come y z r after
+  pub next-to-come : {r : List ℕ} {here : ℕ} {x : walk.Entry} {es : List walk.Entry} → Next y r here x es
+      → to_come y z r here ≡ entry_bytes_in z 0x3F (unstamped (walk.entry_value_def x)) ++ to_come y z r x.next
   unfolding joined_in
-  next-to-come x = ap (λ (vs : List Value). joined_in z (map unstamped vs)) x.list
+  next-to-come n = ap (λ (vs : List Value). joined_in z (map unstamped vs)) n.list
 
-  pub none-to-come : {r : List ℕ} {here : ℕ} → NoneLeft y r here → to_come y z r here ≡ []
+  pub none-to-come : (r : List ℕ) (here : ℕ) → value_entries y r here ≡ [] → to_come y z r here ≡ []
   unfolding joined_in
-  none-to-come x = ap (λ (vs : List Value). joined_in z (map unstamped vs)) x.list
+  none-to-come r here h = ap (λ (vs : List Value). joined_in z (map unstamped vs)) (listed-left y r here h)
+
+  -- the values before an offset are written, in a bounded number of bytes for each byte passed; those from there on are left
+  pub record Written (r : List ℕ) (left : List walk.Entry) (at : ℕ) (before after : List ℕ) (next : ℕ) : Type 0 where
+    pub here : ℕ
+    pub rest : left ≡ value_entries y r here
+    pub within : next ≤ at + here * 34359738368
+    pub long : length after ≡ length before
+    pub values : Partly (joined_in z (map unstamped (values (entries_in y r)))) (to_come y z r here) at before after next
 
 -- ---- FF up to the end
 

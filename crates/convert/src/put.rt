@@ -6,12 +6,12 @@ ghost use Rattle.model.specs.Walk.{entry_value_def};
 ghost use Rattle.model.specs.Region.{entries_in, values};
 ghost use Rattle.model.specs.Compact.{joined_in};
 ghost use Rattle.model.specs.Move.{unstamped};
-ghost use Rattle.region.specs.Walk.{entry_as};
+ghost use Rattle.region.specs.Stored.{entry_of};
 ghost use Rattle.output.specs.Text.{Wrote};
 ghost use Rattle.convert.specs.Bare.{bare_front, bare_sizes, bare_header, bare, content_in};
 
 use model::Layout;
-use region::{Placed, walk};
+use region::walk::Stored;
 use values::list;
 
 // Start id, state 3F, zero, attributes.
@@ -74,24 +74,13 @@ fn put_entry(
 }
 
 // The entry of a value that is moved.
-fn put_value(
-    from: Layout,
-    to: Layout,
-    out: &mut [u8],
-    at: usize,
-    region: &[u8],
-    placed: Placed,
-) -> usize
-    requires { (at < 2 ^ 62) × (length region.now ≤ 28672) }
-    ensures { Wrote (entry_bytes_in to 0x3F (unstamped (entry_value_def (entry_as from region.now placed.at placed.entry)))) at
-        out.old out.new result
+fn put_value(to: Layout, out: &mut [u8], at: usize, e: &Stored) -> usize
+    requires { at < 2 ^ 62 }
+    ensures { Wrote (entry_bytes_in to 0x3F (unstamped (entry_value_def (entry_of e.now)))) at out.old out.new result
         × (result ≤ at + 34359738368) }
 {
-    let Placed { at: place, entry } = placed;
-    let name = walk::name_of(from, region, place, entry);
-    let vendor = walk::vendor_of(from, region, place);
-    let data = walk::data_of(from, region, place, entry);
-    put_entry(to, out, at, entry.attributes, name, vendor, data)
+    let attributes = e.entry.attributes;
+    put_entry(to, out, at, attributes, e.name(), e.vendor(), e.data())
 }
 
 // The values in flash order.
@@ -100,10 +89,8 @@ fn put_values(from: Layout, to: Layout, out: &mut [u8], at: usize, region: &[u8]
     ensures { Wrote (joined_in to (map unstamped (values (entries_in from region.now)))) at out.old out.new result }
 {
     let mut next = at;
-    let mut here = layout::REGION_HEADER;
-    while let Some((placed, after)) = list::next_value(from, region, here) {
-        next = put_value(from, to, out, next, region, placed);
-        here = after;
+    for e in list::values(from, region) {
+        next = put_value(to, out, next, &e);
     }
     next
 }

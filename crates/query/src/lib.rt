@@ -6,12 +6,13 @@ ghost use Rattle.model.specs.Lists.{same};
 ghost use Rattle.model.specs.Name.{keyed, empty_name};
 ghost use Rattle.model.specs.Image.{region_header_size};
 ghost use Rattle.model.specs.Region.{entries};
-ghost use Rattle.region.specs.Walk.{entry_at};
+ghost use Rattle.region.specs.Stored.{entry_of};
 ghost use Rattle.region.specs.Met.{met_of};
 ghost use Rattle.query.specs.Query.{entry_in, visible, is_seen_def, is_sought_def, is_shown_def, is_passed_def, entry_to_get, entry_to_name, standing_at};
 
 use model::Layout;
-use region::{Met, Placed, judge, walk};
+use region::walk::{self, Stored};
+use region::{Met, Placed, judge};
 use values::list;
 
 pub mod many;
@@ -24,33 +25,20 @@ fn is_visible(runtime: bool, attributes: u32) -> bool
 }
 
 // Whether an entry is a value that is seen.
-#[tactic(auto, unfolding(crate::specs::Query::is_seen_def, region::specs::Walk::entry_as, model::specs::Walk::placed))]
-fn is_seen(region: &[u8], placed: Placed, runtime: bool) -> bool
-    ensures { result ≡ is_seen_def runtime (entries region.now) (entry_at region.now placed.at placed.entry) }
+#[tactic(auto, unfolding(crate::specs::Query::is_seen_def, model::specs::Walk::placed))]
+fn is_seen(region: &[u8], e: &Stored, runtime: bool) -> bool
+    ensures { result ≡ is_seen_def runtime (entries region.now) (entry_of e.now) }
 {
-    let Placed { at, entry } = placed;
-    is_visible(runtime, entry.attributes)
-        && list::is_value(Layout::AUTHENTICATED, region, at, entry)
+    is_visible(runtime, e.entry.attributes) && list::stands(Layout::AUTHENTICATED, region, e)
 }
 
 // Whether an entry is a value that is seen, of this name and GUID; what is cheap to look at comes first.
-#[tactic(auto, unfolding(crate::specs::Query::is_sought_def, crate::specs::Query::is_seen_def, model::specs::Region::is_value, region::specs::Walk::entry_as, model::specs::Walk::placed))]
-fn is_sought(region: &[u8], placed: Placed, runtime: bool, name: &[u8], vendor: &[u8]) -> bool
-    ensures { result ≡ is_sought_def runtime (keyed name.now vendor.now) (entries region.now) (entry_at region.now placed.at placed.entry) }
+#[tactic(auto, unfolding(crate::specs::Query::is_sought_def, crate::specs::Query::is_seen_def, model::specs::Region::is_value, model::specs::Walk::placed))]
+fn is_sought(region: &[u8], e: &Stored, runtime: bool, name: &[u8], vendor: &[u8]) -> bool
+    ensures { result ≡ is_sought_def runtime (keyed name.now vendor.now) (entries region.now) (entry_of e.now) }
 {
-    let Placed { at, entry } = placed;
-    let state = entry.state;
-    judge::is_live(state)
-        && walk::is_entry(
-            Layout::AUTHENTICATED,
-            region,
-            at,
-            entry,
-            state,
-            name,
-            vendor,
-        )
-        && is_seen(region, placed, runtime)
+    let state = e.entry.state;
+    judge::is_live(state) && e.is(state, name, vendor) && is_seen(region, e, runtime)
 }
 
 // Where the entry begins that holds a name's value: its 3F entry, else its 3E entry.
@@ -71,13 +59,10 @@ fn walk_to_get(
     requires { met ≡ met_of (keyed name.now vendor.now) (entries region.now) }
     ensures { entry_in region.now result ≡ entry_to_get runtime (keyed name.now vendor.now) (entries region.now) }
 {
-    let mut at = standing(met)?;
-    while let Some((entry, next)) = walk::turn(Layout::AUTHENTICATED, region, at) {
-        let placed = Placed { at, entry };
-        if is_sought(region, placed, runtime, name, vendor) {
-            return Some(placed);
+    for e in walk::entries_from(Layout::AUTHENTICATED, region, standing(met)?) {
+        if is_sought(region, &e, runtime, name, vendor) {
+            return Some(e.placed());
         }
-        at = next;
     }
     None
 }
@@ -111,31 +96,26 @@ pub fn is_empty_name(name: &[u8]) -> bool
 
 // Whether an entry is a value that is seen, and a side's own.
 #[tactic(auto, unfolding(crate::specs::Query::is_shown_def))]
-fn is_shown(region: &[u8], placed: Placed, runtime: bool, guid: &[u8; 16], modem: bool) -> bool
-    ensures { result ≡ is_shown_def guid.now modem runtime (entries region.now) (entry_at region.now placed.at placed.entry) }
+fn is_shown(region: &[u8], e: &Stored, runtime: bool, guid: &[u8; 16], modem: bool) -> bool
+    ensures { result ≡ is_shown_def guid.now modem runtime (entries region.now) (entry_of e.now) }
 {
-    let Placed { at, entry } = placed;
-    is_seen(region, placed, runtime)
-        && list::is_own(Layout::AUTHENTICATED, region, at, entry, guid, modem)
+    is_seen(region, e, runtime) && list::is_own(e, guid, modem)
 }
 
 // And of this name and GUID.
 #[tactic(auto, unfolding(crate::specs::Query::is_passed_def, crate::specs::Query::is_sought_def, crate::specs::Query::is_shown_def))]
 fn is_passed(
     region: &[u8],
-    placed: Placed,
+    e: &Stored,
     runtime: bool,
     guid: &[u8; 16],
     modem: bool,
     name: &[u8],
     vendor: &[u8],
 ) -> bool
-    ensures { result ≡ is_passed_def guid.now modem runtime (keyed name.now vendor.now)
-        (entries region.now) (entry_at region.now placed.at placed.entry) }
+    ensures { result ≡ is_passed_def guid.now modem runtime (keyed name.now vendor.now) (entries region.now) (entry_of e.now) }
 {
-    let Placed { at, entry } = placed;
-    is_sought(region, placed, runtime, name, vendor)
-        && list::is_own(Layout::AUTHENTICATED, region, at, entry, guid, modem)
+    is_sought(region, e, runtime, name, vendor) && list::is_own(e, guid, modem)
 }
 
 // Where the walk for the next name begins: at the name, or behind the empty name at the first entry.
@@ -164,17 +144,13 @@ pub fn to_name(
         (entries region.now) }
 {
     let mut passed = is_empty_name(name);
-    let mut here = begin(passed, met)?;
-    while let Some((entry, next)) = walk::turn(Layout::AUTHENTICATED, region, here) {
-        let placed = Placed { at: here, entry };
-        if passed {
-            if is_shown(region, placed, runtime, guid, modem) {
-                return Some(placed);
-            }
-        } else {
-            passed = is_passed(region, placed, runtime, guid, modem, name, vendor);
+    let from = begin(passed, met)?;
+    for e in walk::entries_from(Layout::AUTHENTICATED, region, from) {
+        if !passed {
+            passed = is_passed(region, &e, runtime, guid, modem, name, vendor);
+        } else if is_shown(region, &e, runtime, guid, modem) {
+            return Some(e.placed());
         }
-        here = next;
     }
     None
 }

@@ -4,13 +4,13 @@
 ghost use Rattle.std.specs.Prelude.{◌≡◌, ◌+◌, ◌*◌, ◌%◌, ◌^◌, ◌<◌, ◌≤◌, ◌++◌, length};
 ghost use Rattle.model.specs.Walk.{entry_value_def};
 ghost use Rattle.model.specs.Region.{entries_in, values};
-ghost use Rattle.region.specs.Walk.{entry_as};
+ghost use Rattle.region.specs.Stored.{entry_of};
 ghost use Rattle.output.specs.Text.{Wrote};
 ghost use Rattle.report.specs.Varlist.{field, summary_line, key_text, entry_line, value_line, value_lines, refused_line, list_text};
 
 use image::Ready;
 use model::Layout;
-use region::{Placed, walk};
+use region::walk::Stored;
 use values::list;
 
 // A word and a number behind it.
@@ -74,16 +74,20 @@ fn put_value(
 }
 
 // The line of the value that an entry holds.
-fn put_entry(y: Layout, out: &mut [u8], at: usize, region: &[u8], placed: Placed) -> usize
-    requires { (at < 2 ^ 40) × (length region.now ≤ 28672) }
-    ensures { Wrote (value_line (entry_value_def (entry_as y region.now placed.at placed.entry))) at out.old out.new result
-        × (result ≤ at + 48 + 2 * length (entry_as y region.now placed.at placed.entry).name) }
+fn put_entry(out: &mut [u8], at: usize, e: &Stored) -> usize
+    requires { at < 2 ^ 40 }
+    ensures { Wrote (value_line (entry_value_def (entry_of e.now))) at out.old out.new result
+        × (result ≤ at + 48 + 2 * length (entry_of e.now).name) }
 {
-    let Placed { at: place, entry } = placed;
-    let vendor = walk::vendor_of(y, region, place);
-    let name = walk::name_of(y, region, place, entry);
-    let data = walk::data_of(y, region, place, entry);
-    put_value(out, at, vendor, name, entry.attributes, data.len() as u32)
+    let attributes = e.entry.attributes;
+    put_value(
+        out,
+        at,
+        e.vendor(),
+        e.name(),
+        attributes,
+        e.data().len() as u32,
+    )
 }
 
 // A line for each value in flash order.
@@ -92,10 +96,8 @@ fn put_lines(y: Layout, region: &[u8], out: &mut [u8], at: usize) -> usize
     ensures { Wrote (value_lines (values (entries_in y region.now))) at out.old out.new result }
 {
     let mut next = at;
-    let mut here = layout::REGION_HEADER;
-    while let Some((placed, after)) = list::next_value(y, region, here) {
-        next = put_entry(y, out, next, region, placed);
-        here = after;
+    for e in list::values(y, region) {
+        next = put_entry(out, next, &e);
     }
     next
 }

@@ -15,14 +15,11 @@ use Rattle.model.specs.Sides.{modem_name, owns, view, side_sizes}
 use Rattle.model.specs.Walk as walk
 use Rattle.model.specs.Region.{entries, entries_in, values}
 use Rattle.model.specs.Change.{entry_sizes_in, is_error_record_def, record_sizes, other_sizes}
-use Rattle.layout.specs.declared.Entry as numbers
-use Rattle.region.specs.Walk.{entry_as}
 use Rattle.values.specs.declared.Tally.{Tally}
 use Rattle.values.specs.Sums.{sizes_in, is_other, is_stamped_def, side_sizes_in, Tallied, counted}
-use Rattle.values.proofs.Listed.{listed_in}
 use Rattle.model.proofs.Space.{sizes-cons, sizes-split}
 use Rattle.values.proofs.Sizes.{sizes-within}
-use Rattle.values.proofs.Next.{Next, few-values}
+use Rattle.values.proofs.Next.{few-values}
 
 -- ---- by side
 
@@ -127,27 +124,22 @@ pub sums-within : (y : Layout) (r : List ℕ)
 sums-within y r = omega (arith, sizes-split y is_error_record_def (values (entries_in y r)), sizes-within y r)
 
 -- at the next value
-module _ {y : Layout} {guid : List ℕ} {m : Bool} {r : List ℕ} {at a : ℕ} {e : numbers.Entry} {k : ℕ} {t : Tally} {size : ℕ}
-    (c : Counted y guid m t (values (entries_in y r)) (listed_in y r at)) (x : Next y r at a e k) (s : size ≡ entry_size_in y (walk.entry_value_def (entry_as y r a e))) where
-  there : Counted y guid m t (values (entries_in y r)) (walk.entry_value_def (entry_as y r a e) ∷ listed_in y r k)
-  there = rw x.list at c
-
+module _ {y : Layout} {guid : List ℕ} {m : Bool} (r : List ℕ) {t : Tally} {size : ℕ} (x : walk.Entry) {rest : List Value}
+    (c : Counted y guid m t (values (entries_in y r)) (walk.entry_value_def x ∷ rest)) (s : size ≡ entry_size_in y (walk.entry_value_def x)) where
   pub counted-asks : length r < 2 ^ 64 → (t.number + 1 < 2 ^ 64) × (t.records + size < 2 ^ 64) × (t.own + size < 2 ^ 64) × (t.others + size < 2 ^ 64)
   unfolding entry_sizes_in
   counted-asks h =
       let n = few-values y r in
       let within = sums-within y r in
       let sides = sides-split y guid m (values (entries_in y r)) in
-      let both = sizes-split y is_error_record_def (walk.entry_value_def (entry_as y r a e) ∷ listed_in y r k) in
-      let split = sides-split y guid m (walk.entry_value_def (entry_as y r a e) ∷ listed_in y r k) in
-      let l = there in
-      let all : t.records + t.own + t.others + size ≤ length r + 3 = omega (arith, within, sides, both, split, l.records, l.own, l.others) in
-      (omega (arith, l.number), omega arith, omega arith, omega arith)
+      let both = sizes-split y is_error_record_def (walk.entry_value_def x ∷ rest) in
+      let split = sides-split y guid m (walk.entry_value_def x ∷ rest) in
+      let all : t.records + t.own + t.others + size ≤ length r + 3 = omega (arith, within, sides, both, split, c.records, c.own, c.others) in
+      (omega (arith, c.number), omega arith, omega arith, omega arith)
 
-  pub counted-turn : {t' : Tally} {own : Bool} → own ≡ owns guid m (key_of (walk.entry_value_def (entry_as y r a e))) → t' ≡ counted t e.attributes own size
-      → Counted y guid m t' (values (entries_in y r)) (listed_in y r k)
-  unfolding entry_as walk.placed
-  counted-turn o p = rw (p, o, s) (counted_next (walk.entry_value_def (entry_as y r a e)) there)
+  pub counted-turn : {t' : Tally} {own : Bool} → own ≡ owns guid m (key_of (walk.entry_value_def x)) → t' ≡ counted t x.header.attributes own size
+      → Counted y guid m t' (values (entries_in y r)) rest
+  counted-turn o p = rw (p, o, s) (counted_next (walk.entry_value_def x) c)
 
 -- in the form in which calls store: the sums of the definitions
 pub record Sums (guid : List ℕ) (m : Bool) (vs : List Value) (t : Tally) : Type 0 where

@@ -22,7 +22,7 @@ use Rattle.layout.specs.Head.{numbers_of, name_in, Unlike}
 use Rattle.layout.specs.declared.Entry as numbers
 use Rattle.region.specs.Walk.{entry_as, entry_at}
 use Rattle.region.proofs.Turns.{rest, Turned, Ended}
-use Rattle.values.specs.Found.{placed_at, found_of, next_placed, next_of, else_found}
+use Rattle.values.specs.Found.{placed_at, found_of, else_found}
 use Rattle.region.specs.declared.Placed.{Placed}
 
 pub found-else : (a b : Maybe walk.Entry) → found_of (or_else a b) ≡ else_found (found_of a) (found_of b)
@@ -33,11 +33,6 @@ found-else none b = refl
 found_at : (y : Layout) (r : List ℕ) (at : ℕ) (e : numbers.Entry) → placed_at (entry_as y r at e).at (numbers_of (entry_as y r at e).header) ≡ placed_at at e
 unfolding entry_as walk.placed
 found_at y r at e = refl
-
--- and as the next value with the offset after it
-pub next-at : {y : Layout} {r : List ℕ} {at : ℕ} {e : numbers.Entry} {k : ℕ} → Turned y r at e k → next_of (some (entry_as y r at e)) ≡ next_placed at e k
-unfolding entry_as walk.placed
-next-at {at = at} {e} w = ap (next_placed at e) w.next
 
 -- the same from a later offset on
 pub found-later : {x : Option Placed} {o o' : Maybe walk.Entry} (g : Option Placed) → x ≡ else_found g (found_of o) → o ≡ o' → x ≡ else_found g (found_of o')

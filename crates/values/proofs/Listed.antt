@@ -11,6 +11,7 @@ use Rattle.model.specs.Lists.{keep}
 use Rattle.model.specs.Region.{entries_in, is_value, values}
 use Rattle.model.specs.Entry.{Value}
 use Rattle.model.specs.Walk as walk
+use Rattle.model.proofs.Walking.{entries_from}
 use Rattle.model.specs.Beside.{from_in}
 use Rattle.layout.specs.declared.Entry as numbers
 use Rattle.region.specs.Walk.{entry_as}
@@ -30,6 +31,14 @@ module _ (y : Layout) where
   pub listed-all : (r : List ℕ) → values (entries_in y r) ≡ listed_in y r 28
   unfolding values listed_in entries_in from_in
   listed-all r = refl
+
+-- all entries that hold values, and none
+pub all-entries : (y : Layout) (r : List ℕ) → keep (is_value (entries_in y r)) (entries_in y r) ≡ value_entries y r 28
+all-entries y r = ap (keep (is_value (entries_in y r))) (entries_from y r)
+
+pub listed-left : (y : Layout) (r : List ℕ) (at : ℕ) → value_entries y r at ≡ [] → listed_in y r at ≡ []
+unfolding listed_in
+listed-left y r at h = ap (map walk.entry_value_def) h
 
 pub listed-none : {y : Layout} {r : List ℕ} {at : ℕ} → Ended y r at → listed_in y r at ≡ []
 unfolding listed_in

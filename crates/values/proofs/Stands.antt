@@ -4,8 +4,8 @@
 use Prim.Native.Nat.{ℕ, zero, suc, ◌+◌, ◌≤◌}
 use native.Mathlib.Omega.{arith}
 use mathlib.Core.Path.{◌≡◌, refl, sym, ap, ap₂, ◌∙◌}
-use mathlib.Core.Bool.{Bool, true, false, cond}
-use mathlib.Core.List.{List, [], ◌∷◌, map}
+use mathlib.Core.Bool.{Bool, true, false}
+use mathlib.Core.List.{List, ◌∷◌}
 use mathlib.Core.Option.{Option as Maybe, none, some}
 use Rattle.std.specs.Prelude.{Option, Some, None}
 use Rattle.std.proofs.lemmas.Option.{same_Some}
@@ -14,7 +14,7 @@ use Rattle.model.specs.declared.Layout.{Layout}
 use Rattle.model.specs.Layout.{header_length}
 use Rattle.model.specs.Lists.{keep, first, or_else}
 use Rattle.model.specs.Image.{region_header_size}
-use Rattle.model.specs.Region.{entries_in, is_entry_def, is_value, added, replacing, standing}
+use Rattle.model.specs.Region.{entries_in, is_entry_def, added, replacing, standing}
 use Rattle.model.specs.Name.{Key}
 use Rattle.model.specs.Walk as walk
 use Rattle.model.specs.Beside.{from_in}
@@ -22,9 +22,8 @@ use Rattle.layout.specs.declared.Entry as numbers
 use Rattle.region.specs.Walk.{entry_as, turn_in}
 use Rattle.region.proofs.Turns.{at_entry, at-end, at-past}
 use Rattle.region.specs.declared.Placed.{Placed}
-use Rattle.values.specs.Found.{placed_at, found_of, next_of}
+use Rattle.values.specs.Found.{placed_at, found_of}
 use Rattle.values.proofs.Finds.{found_none, found_here, found-next}
-use Rattle.values.proofs.Listed.{value_entries, listed_in}
 
 pub placed-same : {at a : ℕ} {n e : numbers.Entry} → placed_at at n ≡ placed_at a e → (at ≡ a) × (n ≡ e)
 placed-same p = let s = same_Some _ _ p in (ap (λ (x : Placed). x.at) s, ap (λ (x : Placed). x.entry) s)
@@ -39,19 +38,6 @@ not_found a e p = let z : ◌≡◌ {A = ℕ} 0 1 = cc in omega arith
 pub nothing-first : (o : Maybe walk.Entry) → found_of o ≡ None → o ≡ none
 nothing-first (some x) p = let z : ◌≡◌ {A = ℕ} 0 1 = cc in absurd (omega arith)
 nothing-first none p = refl
-
-end-first : (o : Maybe walk.Entry) → next_of o ≡ None → o ≡ none
-end-first (some x) p = let z : ◌≡◌ {A = ℕ} 0 1 = cc in absurd (omega arith)
-end-first none p = refl
-
-nothing-kept : (f : walk.Entry → Bool) (es : List walk.Entry) → first f es ≡ none → keep f es ≡ []
-nothing-kept f [] p = refl
-nothing-kept f (x ∷ es) p = go (f x) p (nothing-kept f es)
-  where
-    go : (t : Bool) → cond t (some x) (first f es) ≡ none → (first f es ≡ none → keep f es ≡ [])
-        → cond t (x ∷ keep f es) (keep f es) ≡ []
-    go true p more = let z : ◌≡◌ {A = ℕ} 0 1 = cc in absurd (omega arith)
-    go false p more = more p
 
 -- ---- the list of values, taken value by value
 
@@ -134,15 +120,3 @@ module _ (y : Layout) where
         go none q p =
             let s = replacing-stands p in
             record { entry = ap (λ (o : Maybe walk.Entry). or_else o (replacing k (entries_in y r))) q ∙ s.entry; low = s.low; fits = s.fits }
-
--- no value is left where a search for the next one finds nothing
-pub record NoneLeft (y : Layout) (r : List ℕ) (at : ℕ) : Type 0 where
-  pub entries : value_entries y r at ≡ []
-  pub list : listed_in y r at ≡ []
-
-pub listed-nothing : {y : Layout} {r : List ℕ} {at : ℕ} {f : Option (Placed × ℕ)} → f ≡ next_of (first (is_value (entries_in y r)) (from_in y r at)) → f ≡ None
-    → NoneLeft y r at
-unfolding listed_in
-listed-nothing {y} {r} {at} answer told =
-    let none = nothing-kept (is_value (entries_in y r)) (from_in y r at) (end-first _ (sym answer ∙ told)) in
-    record { entries = none; list = ap (map walk.entry_value_def) none }

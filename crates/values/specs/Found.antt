@@ -20,14 +20,6 @@ abbrev pub found_of : Maybe Entry → Option Placed
 found_of (some e) = placed_at e.at (numbers_of e.header)
 found_of none = None
 
--- with the offset of the entry after it
-abbrev pub next_placed : ℕ → numbers.Entry → ℕ → Option (Placed × ℕ)
-next_placed at e next = Some (record { at = at; entry = e }, next)
-
-abbrev pub next_of : Maybe Entry → Option (Placed × ℕ)
-next_of (some e) = next_placed e.at (numbers_of e.header) e.next
-next_of none = None
-
 -- one or the other
 abbrev pub else_found : Option Placed → Option Placed → Option Placed
 else_found (Some p) g = Some p

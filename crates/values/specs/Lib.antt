@@ -4,3 +4,5 @@ pub mod Found
 pub mod Sums
 -- Shares kept to
 pub mod Allotted
+-- The entries that hold values
+pub mod Listed

@@ -1,22 +1,19 @@
 // The values of a region in flash order, and what a pass over them counts, in every stored form.
 ghost use Rattle.std.specs.Prelude.{◌≡◌, ◌+◌, ◌^◌, ◌<◌, ◌≤◌, length};
-ghost use Rattle.model.specs.Lists.{first};
 ghost use Rattle.model.specs.Entry.{entry_size_in, key_of};
 ghost use Rattle.model.specs.Walk.{entry_value_def};
 ghost use Rattle.model.specs.Region.{entries, entries_in, is_value, values};
 ghost use Rattle.model.specs.Sides.{owns};
-ghost use Rattle.model.specs.Beside.{from_in};
 ghost use Rattle.region.specs.Walk.{entry_as};
 ghost use Rattle.region.specs.Stored.{entry_of};
 ghost use Rattle.values.specs.Allotted.{allotted_by};
-ghost use Rattle.values.specs.Found.{next_of};
+ghost use Rattle.values.specs.Listed.{value_entries, values_left};
 ghost use Rattle.values.specs.Sums.{Tallied, counted};
 
 use crate::Tally;
 use layout::{Entry, fixed};
 use model::Layout;
-use region::Placed;
-use region::walk::{self, Stored};
+use region::walk::{self, Stored, Walk};
 
 // Whether an entry is its name's value: a 3F entry, or a 3E entry beside no 3F entry.
 pub fn stands(y: Layout, region: &[u8], e: &Stored) -> bool
@@ -33,32 +30,44 @@ pub fn stands(y: Layout, region: &[u8], e: &Stored) -> bool
     !walk::entries(y, region).any(|x| x.is(0x3F, name, vendor))
 }
 
-// The same by an offset and numbers.
-pub fn is_value(y: Layout, region: &[u8], at: usize, e: Entry) -> bool
-    ensures { result ≡ is_value (entries_in y region.now) (entry_as y region.now at e) }
-{
-    let s = Stored {
-        form: y,
-        at,
-        next: at,
-        entry: e,
-        bytes: slices::from(region, at),
-    };
-    stands(y, region, &s)
+// The values of a region from some entry on: the entries that hold them.
+#[derive(Clone, Copy)]
+pub struct Listed<'a> {
+    form: Layout,
+    region: &'a [u8],
+    walk: Walk<'a>,
 }
 
-// The first value at or after an offset, and the offset of the entry after it.
-pub fn next_value(y: Layout, region: &[u8], at: usize) -> Option<(Placed, usize)>
-    ensures { result ≡ next_of (first (is_value (entries_in y region.now)) (from_in y region.now at)) }
-{
-    for e in walk::entries_from(y, region, at) {
-        if stands(y, region, &e) {
-            let at = e.at;
-            let entry = e.entry;
-            return Some((Placed { at, entry }, e.next));
+impl<'a> Iterator for Listed<'a> {
+    ghost use Rattle.std.specs.Iterator.{YieldsFirstBy, item_count};
+    ghost use Rattle.region.specs.Stored.{entry_of};
+    ghost use Rattle.values.specs.Listed.{values_left};
+
+    type Item = Stored<'a>;
+
+    ghost next_gives = { YieldsFirstBy entry_of values_left };
+
+    ghost remaining = { item_count values_left };
+
+    fn next(&mut self) -> Option<Stored<'a>> {
+        while let Some(e) = self.walk.next() {
+            if stands(self.form, self.region, &e) {
+                return Some(e);
+            }
         }
+        None
     }
-    None
+}
+
+// The values of a region in flash order.
+pub fn values(y: Layout, region: &[u8]) -> Listed<'_>
+    ensures { values_left result ≡ value_entries (entries_in y region.now) }
+{
+    Listed {
+        form: y,
+        region,
+        walk: walk::entries(y, region),
+    }
 }
 
 // The rounded size of the entry that a value is written as: of a name and data that the region cuts off, what it holds of them.
@@ -71,17 +80,23 @@ pub fn size_of(y: Layout, region: &[u8], at: usize, e: Entry) -> usize
     layout::entry_size(y, name.len(), data.len())
 }
 
-// Whether a value is a side's own. Under another GUID than the modem's it is ours, whatever its name.
-#[tactic(auto, unfolding(model::specs::Sides::owns, model::specs::Sides::modem_name, region::specs::Walk::entry_as, model::specs::Walk::placed, region::specs::Walk::vendor_as))]
-pub fn is_own(y: Layout, region: &[u8], at: usize, e: Entry, guid: &[u8; 16], modem: bool) -> bool
-    ensures { result ≡ owns guid.now modem (key_of (entry_value_def (entry_as y region.now at e))) }
+// The same of an entry where it stands.
+fn entry_size(y: Layout, e: Stored) -> usize
+    ensures { result ≡ entry_size_in y (entry_value_def (entry_of e.entry)) }
 {
-    let vendor = walk::vendor_of(y, region, at);
+    layout::entry_size(y, e.name().len(), e.data().len())
+}
+
+// Whether a value is a side's own. Under another GUID than the modem's it is ours, whatever its name.
+#[tactic(auto, unfolding(model::specs::Sides::owns, model::specs::Sides::modem_name, model::specs::Walk::placed))]
+pub fn is_own(e: &Stored, guid: &[u8; 16], modem: bool) -> bool
+    ensures { result ≡ owns guid.now modem (key_of (entry_value_def (entry_of e.now))) }
+{
+    let vendor = e.vendor();
     if !slices::equal(vendor, guid) {
         return !modem;
     }
-    let name = walk::name_of(y, region, at, e);
-    fixed::is_own(guid, modem, name, vendor)
+    fixed::is_own(guid, modem, e.name(), vendor)
 }
 
 // With one more value, of these attributes and this size, the side's own or not.
@@ -119,12 +134,9 @@ pub fn tally(y: Layout, region: &[u8], guid: &[u8; 16], modem: bool) -> Tally
         × (result.records + result.own + result.others ≤ length region.now + 3) }
 {
     let mut t = Tally::default();
-    let mut here: usize = layout::REGION_HEADER;
-    while let Some((Placed { at, entry }, after)) = next_value(y, region, here) {
-        let own = is_own(y, region, at, entry, guid, modem);
-        let size = size_of(y, region, at, entry);
-        t = counted(t, entry.attributes, own, size);
-        here = after;
+    for e in values(y, region) {
+        let own = is_own(&e, guid, modem);
+        t = counted(t, e.entry.attributes, own, entry_size(y, e));
     }
     t
 }

@@ -1,33 +1,42 @@
-use Rattle.std.proofs.Common.{refl, ap, ◌∙◌, arith}
-use Rattle.values.proofs.Stands.{listed-nothing}
+use Rattle.std.proofs.Common.{refl, sym, ap, ◌∙◌, arith}
+use Rattle.values.specs.Listed.{values_left}
 use Rattle.values.proofs.Next.{next-value}
-use Rattle.values.proofs.Listed.{listed-all}
+use Rattle.values.proofs.Listed.{all-entries, listed-all, listed-left}
 use Rattle.output.proofs.Writing.{partly_none, partly-next, partly-all}
 use Rattle.report.specs.Varlist.{value_lines}
-use Rattle.report.proofs.Lines.{next-lines, no_lines}
+use Rattle.report.proofs.Lines.{next-lines}
 use Rattle.report.proofs.put_lines.Goals as goal
 
-pub loop-placed-init : goal.loop-placed-init
-loop-placed-init c = (omega arith, refl, partly_none _ _ (ap value_lines (listed-all _ _)))
+pub loop-e-init : goal.loop-e-init
+loop-e-init c =
+    let a = c.args in
+    let all = ap values_left c.into_iter-e-iterator.ensures.into_iter_gives ∙ c.values-e-items.ensures in
+    (tt, tt, refl, record { here = 28; rest = all ∙ all-entries a.y a.region.now; within = omega arith; lines = partly_none _ _ (ap value_lines (listed-all _ _)) })
 
 pub put_entry-next-requires : goal.put_entry-next-requires
 put_entry-next-requires c =
-    let x = next-value c.next_value.ensures c.in-Some.is in
-    (omega (arith, c.loop-placed.invariant.0, x.from-here, x.fits), omega arith)
+    let i = c.loop-e.invariant.3 in
+    let x = next-value (sym i.rest ∙ c.in-Some.ensures.steps) in
+    omega (arith, i.within, x.from-here, x.fits)
 
-pub loop-placed-smaller : goal.loop-placed-smaller
-loop-placed-smaller c = (next-value c.next_value.ensures c.in-Some.is).less
-
-pub loop-placed-preserved : goal.loop-placed-preserved
-loop-placed-preserved c =
-    let i = c.loop-placed.invariant in
-    let x = next-value c.next_value.ensures c.in-Some.is in
+pub loop-e-preserved : goal.loop-e-preserved
+loop-e-preserved c =
+    let i = c.loop-e.invariant.3 in
+    let x = next-value (sym i.rest ∙ c.in-Some.ensures.steps) in
     let w = c.put_entry-next in (
-      omega (arith, i.0, w.ensures.1, x.from-here, x.size),
-      w.auto.out ∙ i.1,
-      partly-next i.2 (next-lines _ x) w.ensures.0,
+      tt,
+      tt,
+      w.auto.out ∙ c.loop-e.invariant.2,
+      record {
+        here = c.in-Some.e.next;
+        rest = x.rest;
+        within = omega (arith, i.within, w.ensures.1, x.from-here, x.size);
+        lines = partly-next i.lines (next-lines x) w.ensures.0;
+      },
     )
 
 pub returns : goal.returns
+unfolding value_lines
 returns c =
-    partly-all c.loop-placed.invariant.2 (no_lines _ (listed-nothing c.next_value.ensures c.in_default.is))
+    let i = c.loop-e.invariant.3 in
+    partly-all i.lines (ap value_lines (listed-left _ _ _ (sym i.rest ∙ c.in-None.ensures.steps.0)))
