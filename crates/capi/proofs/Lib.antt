@@ -1,4 +1,4 @@
--- An answer and a check, told in numbers
+-- A check and a mode, told in numbers
 pub mod Told
 -- What a session says, told by its parts
 pub mod Said

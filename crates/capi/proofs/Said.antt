@@ -27,12 +27,13 @@ module _ (m : Bool) (s : Session) {n : Bool} (i : n ≡ m) where
   pub for-told : {t : Terms} → t ≡ said_to n s → t ≡ terms_for_def m s
   for-told e = e ∙ ap (λ (x : Bool). said_to x s) i ∙ sym (terms-for-said m s)
 
-  pub says-told : (k : Key) {barred : Bool} {said t : Terms} → barred ≡ barred_by s.phase s.count s.sizes s.locks k
-      → said ≡ said_to n s
-      → t ≡ terms_with said barred k
-      → Says m s k t s.setup.limits
-  says-told k b e f =
-      (terms-said m s k ∙ sym (f ∙ ap₂ (λ (x : Terms) (y : Bool). terms_with x y k) (e ∙ ap (λ (x : Bool). said_to x s) i) b), refl)
+-- to a set of a name: that, and whether a lock bars the name
+pub says-told : (m : Bool) (s : Session) (k : Key) {barred : Bool} {said t : Terms} → barred ≡ barred_by s.phase s.count s.sizes s.locks k
+    → said ≡ terms_for_def m s
+    → t ≡ terms_with said barred k
+    → Says m s k t s.setup.limits
+says-told m s k b e f =
+    (terms-said m s k ∙ sym (f ∙ ap₂ (λ (x : Terms) (y : Bool). terms_with x y k) (e ∙ terms-for-said m s) b), refl)
 
 -- to a profile: the terms for no name, the lock list by its parts, and the table
 pub all_told : (m : Bool) (s : Session) {t : Terms} {held : Locks} {locks table : List ℕ} → t ≡ terms_for_def m s

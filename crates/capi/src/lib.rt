@@ -8,10 +8,10 @@ ghost use Rattle.model.specs.Name.{keyed};
 ghost use Rattle.model.specs.Image.{region_size};
 ghost use Rattle.model.specs.Region.{record_bit, values_of};
 ghost use Rattle.model.specs.Session.{is_modem_def, at_runtime_def, fresh_session, moved_to_def};
-ghost use Rattle.model.specs.Rules.{terms_for_def};
+ghost use Rattle.model.specs.Rules.{terms_for_def, view_of};
 ghost use Rattle.model.specs.Query.{storage_for, remaining_for, largest_for, query_outcome, query_gives};
 ghost use Rattle.model.specs.StartUp.{start_up_plan, format_plan};
-ghost use Rattle.model.specs.Beside.{Gives, asked, Handed};
+ghost use Rattle.model.specs.Beside.{Gives, asked, Handed, Says};
 ghost use Rattle.model.specs.Answers.{answer_of, side_of, outcome, image_after, get_reply, gets_reply, next_reply, lock_outcome, lock_session};
 ghost use Rattle.model.specs.Move.{move_answer, image_moved};
 ghost use Rattle.model.specs.Lent.{session_of};
@@ -26,8 +26,8 @@ ghost use Rattle.capi.specs.Numbers.{numbers_of, checked_of, mode_number_def, pr
 
 use decision::Asking;
 use engine::modes;
-use image::Check;
-use model::{Answer, Context, Layout, PlatMode, Queried, Session, Setup};
+use image::Ready;
+use model::{Answer, Context, Got, Layout, Named, PlatMode, Queried, Session, Setup, Terms, View};
 use plan::HostPlan;
 use session::{Locks, lent};
 
@@ -93,56 +93,141 @@ pub struct Started {
     pub session: Session,
 }
 
-fn numbers(a: Answer) -> Answered
-    ensures { result ≡ numbers_of (answer_of a) }
+// 0 done, 1 stopped, 2 refused.
+impl From<Answer> for Answered {
+    ghost from_gives = { λ answer told. told ≡ numbers_of (answer_of answer) };
+
+    fn from(answer: Answer) -> Answered {
+        match answer {
+            Answer::Done(stores) => Answered {
+                kind: 0,
+                rule: 0,
+                stores,
+            },
+            Answer::Stopped => Answered {
+                kind: 1,
+                rule: 0,
+                stores: 0,
+            },
+            Answer::Refused(rule) => Answered {
+                kind: 2,
+                rule: u32::from(rule),
+                stores: 0,
+            },
+        }
+    }
+}
+
+// What a get found, and its attributes.
+impl From<Got> for Reply {
+    ghost from_gives = { λ got told. (told.answer ≡ numbers_of (answer_of got.answer)) × (told.size ≡ got.size) × (told.attributes ≡ got.attributes) × (told.needed ≡ got.needed) };
+
+    fn from(got: Got) -> Reply {
+        Reply {
+            answer: Answered::from(got.answer),
+            size: got.size,
+            attributes: got.attributes,
+            needed: got.needed,
+        }
+    }
+}
+
+// What a next-name found.
+impl From<Named> for Reply {
+    ghost from_gives = { λ named told. (told.answer ≡ numbers_of (answer_of named.answer)) × (told.size ≡ named.size) × (told.attributes ≡ 0) × (told.needed ≡ named.needed) };
+
+    fn from(named: Named) -> Reply {
+        Reply {
+            answer: Answered::from(named.answer),
+            size: named.size,
+            attributes: 0,
+            needed: named.needed,
+        }
+    }
+}
+
+// What a query found.
+impl From<Queried> for Room {
+    ghost from_gives = { λ q told. (told.answer ≡ numbers_of (answer_of q.answer)) × (told.storage ≡ q.storage) × (told.remaining ≡ q.remaining) × (told.largest ≡ q.largest) };
+
+    fn from(q: Queried) -> Room {
+        Room {
+            answer: Answered::from(q.answer),
+            storage: q.storage,
+            remaining: q.remaining,
+            largest: q.largest,
+        }
+    }
+}
+
+// What a session says to a side's call that names no name.
+fn terms_for(session: &Session, side: u32) -> Terms
+    ensures { result ≡ terms_for_def (is_modem_def side) session.now }
 {
-    match a {
-        Answer::Done(stores) => Answered {
-            kind: 0,
-            rule: 0,
-            stores,
-        },
-        Answer::Stopped => Answered {
-            kind: 1,
-            rule: 0,
-            stores: 0,
-        },
-        Answer::Refused(rule) => Answered {
-            kind: 2,
-            rule: model::number(rule),
-            stores: 0,
-        },
+    let tenant = session.setup.modem;
+    session::terms_for(
+        session::is_modem(side),
+        session.phase,
+        session.setup.custom,
+        session.setup.reserve,
+        session.setup.records,
+        session.setup.share,
+        tenant,
+        session.setup.rules,
+    )
+}
+
+// And to a set of a name.
+fn terms(session: &Session, side: u32, name: &[u8], vendor: &[u8; 16]) -> Terms
+    ensures { Says (is_modem_def side) session.now (keyed name.now vendor.now) result session.now.setup.limits }
+{
+    let said = terms_for(session, side);
+    let sizes = session.sizes;
+    let barred = session::is_barred(
+        session.phase,
+        session.count,
+        sizes,
+        &session.locks,
+        name,
+        vendor,
+    );
+    session::terms(said, barred, name, vendor)
+}
+
+// And to a get, a many-get or a next-name.
+fn view(session: &Session, side: u32) -> View
+    ensures { view_of (is_modem_def side) session.now ≡ result }
+{
+    let guid = session.setup.modem.vendor;
+    session::view(session::is_modem(side), session.phase, guid)
+}
+
+// What a session's locks are counted by.
+fn locks(session: &Session) -> Locks
+    ensures { (result.phase ≡ session.now.phase) × (result.used ≡ session.now.count) × (result.sizes ≡ session.now.sizes) }
+{
+    let sizes = session.sizes;
+    Locks {
+        phase: session.phase,
+        used: session.count,
+        sizes,
     }
 }
 
 pub fn vs_check(image: &[u8]) -> Checked
     ensures { result ≡ checked_of image.now }
 {
-    let c = image::check_call(Layout::AUTHENTICATED, image);
-    match c {
-        Check::Ready(b, tail, _) => Checked {
-            answer: numbers(Answer::Done(0)),
-            blocks: b as u32,
+    match image::check_call(Layout::AUTHENTICATED, image) {
+        Ok(Ready { blocks, tail, .. }) => Checked {
+            answer: Answered::from(Answer::Done(0)),
+            blocks: blocks as u32,
             tail: tail as u32,
         },
-        Check::Refused(rule) => Checked {
-            answer: numbers(Answer::Refused(rule)),
+        Err(rule) => Checked {
+            answer: Answered::from(Answer::Refused(rule)),
             blocks: 0,
             tail: 0,
         },
-    }
-}
-
-// What a query has found, in numbers.
-fn roomed(q: Queried) -> Room
-    ensures { (result.answer ≡ numbers_of (answer_of q.answer)) × (result.storage ≡ q.storage) × (result.remaining ≡ q.remaining) × (result.largest ≡ q.largest) }
-{
-    let answer = q.answer;
-    Room {
-        answer: numbers(answer),
-        storage: q.storage,
-        remaining: q.remaining,
-        largest: q.largest,
     }
 }
 
@@ -161,14 +246,13 @@ fn mode_number(mode: PlatMode) -> u32
 pub fn vs_present_mode(image: &[u8]) -> Present
     ensures { result ≡ present_of image.now }
 {
-    let p = modes::present(image);
-    match p {
-        modes::Platform::Mode(mode) => Present {
-            answer: numbers(Answer::Done(0)),
+    match modes::present(image) {
+        Ok(mode) => Present {
+            answer: Answered::from(Answer::Done(0)),
             mode: mode_number(mode),
         },
-        modes::Platform::Refused(rule) => Present {
-            answer: numbers(Answer::Refused(rule)),
+        Err(rule) => Present {
+            answer: Answered::from(Answer::Refused(rule)),
             mode: 0,
         },
     }
@@ -184,19 +268,8 @@ pub fn vs_query(context: Context, session: Session, image: &[u8], attributes: u3
         (largest_for
         (remaining_for (terms_for_def (side_of context) session) (record_bit attributes) (region_size image.now) (values_of image.now)))) }
 {
-    let tenant = session.setup.modem;
-    let terms = session::terms_for(
-        session::is_modem(context.side),
-        session.phase,
-        session.setup.custom,
-        session.setup.reserve,
-        session.setup.records,
-        session.setup.share,
-        tenant,
-        session.setup.rules,
-    );
-    let q = engine::room::query(terms, image, attributes);
-    roomed(q)
+    let terms = terms_for(&session, context.side);
+    Room::from(engine::room::query(terms, image, attributes))
 }
 
 pub fn vs_session_new(setup: Setup) -> Session
@@ -216,11 +289,9 @@ pub fn vs_lock(session: Session, side: u32, name: &[u8], vendor: &[u8; 16]) -> L
         × (result.session ≡ lock_session (is_modem_def side) session (keyed name.now vendor.now)) }
 {
     let l = session::lock(session, session::is_modem(side), name, vendor);
-    let answer = l.answer;
-    let session = l.session;
     Listed {
-        answer: numbers(answer),
-        session,
+        answer: Answered::from(l.answer),
+        session: l.session,
     }
 }
 
@@ -240,16 +311,9 @@ pub fn vs_get(
         (get_reply (side_of context) session (keyed name.now vendor.now) buffer.old image.now)
         result.size result.attributes result.needed buffer.new }
 {
-    let guid = session.setup.modem.vendor;
-    let view = session::view(session::is_modem(context.side), session.phase, guid);
+    let view = view(&session, context.side);
     let g = engine::read::get(context, view, image, name, vendor, buffer);
-    let answer = g.answer;
-    Reply {
-        answer: numbers(answer),
-        size: g.size,
-        attributes: g.attributes,
-        needed: g.needed,
-    }
+    Reply::from(g)
 }
 
 pub fn vs_get_many(
@@ -269,10 +333,9 @@ pub fn vs_get_many(
         (gets_reply (side_of context) session (asked keys.now sizes.now) buffer.old image.now)
         told.old told.new buffer.new }
 {
-    let guid = session.setup.modem.vendor;
-    let view = session::view(session::is_modem(context.side), session.phase, guid);
+    let view = view(&session, context.side);
     let answer = engine::many::get_many(context, view, image, keys, sizes, told, buffer);
-    numbers(answer)
+    Answered::from(answer)
 }
 
 pub fn vs_next_name(
@@ -291,16 +354,9 @@ pub fn vs_next_name(
         (next_reply (side_of context) session (keyed name.now vendor.now) buffer.old image.now)
         result.size result.attributes result.needed buffer.new }
 {
-    let guid = session.setup.modem.vendor;
-    let view = session::view(session::is_modem(context.side), session.phase, guid);
+    let view = view(&session, context.side);
     let g = engine::read::next_name(context, view, image, name, vendor, buffer);
-    let answer = g.answer;
-    Reply {
-        answer: numbers(answer),
-        size: g.size,
-        attributes: 0,
-        needed: g.needed,
-    }
+    Reply::from(g)
 }
 
 pub fn vs_set(
@@ -328,27 +384,7 @@ pub fn vs_set(
         content.old
         content.new }
 {
-    let tenant = session.setup.modem;
-    let said = session::terms_for(
-        session::is_modem(context.side),
-        session.phase,
-        session.setup.custom,
-        session.setup.reserve,
-        session.setup.records,
-        session.setup.share,
-        tenant,
-        session.setup.rules,
-    );
-    let sizes = session.sizes;
-    let barred = session::is_barred(
-        session.phase,
-        session.count,
-        sizes,
-        &session.locks,
-        name,
-        vendor,
-    );
-    let terms = session::terms(said, barred, name, vendor);
+    let terms = terms(&session, context.side, name, vendor);
     let asking = Asking {
         attributes,
         presence,
@@ -365,7 +401,7 @@ pub fn vs_set(
         bytes,
         content,
     );
-    numbers(answer)
+    Answered::from(answer)
 }
 
 pub fn vs_profile(
@@ -379,23 +415,8 @@ pub fn vs_profile(
         × (image.new ≡ image_after context (profile_plan (side_of context) session file.now image.old) image.old)
         × Kept (profile_plan (side_of context) session file.now image.old) content.old content.new }
 {
-    let tenant = session.setup.modem;
-    let said = session::terms_for(
-        session::is_modem(context.side),
-        session.phase,
-        session.setup.custom,
-        session.setup.reserve,
-        session.setup.records,
-        session.setup.share,
-        tenant,
-        session.setup.rules,
-    );
-    let sizes = session.sizes;
-    let held = Locks {
-        phase: session.phase,
-        used: session.count,
-        sizes,
-    };
+    let said = terms_for(&session, context.side);
+    let held = locks(&session);
     let answer = engine::items::profile(
         context,
         said,
@@ -406,7 +427,7 @@ pub fn vs_profile(
         file,
         content,
     );
-    numbers(answer)
+    Answered::from(answer)
 }
 
 pub fn vs_mode(
@@ -420,25 +441,10 @@ pub fn vs_mode(
         × (image.new ≡ image_after context (mode_plan (side_of context) session mode image.old) image.old)
         × Kept (mode_plan (side_of context) session mode image.old) content.old content.new }
 {
-    let tenant = session.setup.modem;
-    let said = session::terms_for(
-        session::is_modem(context.side),
-        session.phase,
-        session.setup.custom,
-        session.setup.reserve,
-        session.setup.records,
-        session.setup.share,
-        tenant,
-        session.setup.rules,
-    );
-    let sizes = session.sizes;
-    let held = Locks {
-        phase: session.phase,
-        used: session.count,
-        sizes,
-    };
+    let said = terms_for(&session, context.side);
+    let held = locks(&session);
     let answer = modes::mode(context, said, held, &session.locks, image, mode, content);
-    numbers(answer)
+    Answered::from(answer)
 }
 
 pub fn vs_format(
@@ -451,7 +457,7 @@ pub fn vs_format(
         × Kept (format_plan image.old) content.old content.new }
 {
     let answer = engine::write::format(context, image, content);
-    numbers(answer)
+    Answered::from(answer)
 }
 
 pub fn vs_start_up(
@@ -476,7 +482,7 @@ pub fn vs_start_up(
     );
     let session = Session::fresh(setup);
     Started {
-        answer: numbers(answer),
+        answer: Answered::from(answer),
         session,
     }
 }
@@ -509,27 +515,7 @@ pub fn vs_plan_set(
         content.new
         result }
 {
-    let tenant = session.setup.modem;
-    let said = session::terms_for(
-        session::is_modem(side),
-        session.phase,
-        session.setup.custom,
-        session.setup.reserve,
-        session.setup.records,
-        session.setup.share,
-        tenant,
-        session.setup.rules,
-    );
-    let sizes = session.sizes;
-    let barred = session::is_barred(
-        session.phase,
-        session.count,
-        sizes,
-        &session.locks,
-        name,
-        vendor,
-    );
-    let terms = session::terms(said, barred, name, vendor);
+    let terms = terms(&session, side, name, vendor);
     let asking = Asking {
         attributes,
         presence,
@@ -559,23 +545,8 @@ pub fn vs_plan_profile(
         × Kept (profile_plan (is_modem_def side) session file.now image.now) content.old content.new
         × Numbered (profile_plan (is_modem_def side) session file.now image.now) image.now content.old content.new result }
 {
-    let tenant = session.setup.modem;
-    let said = session::terms_for(
-        session::is_modem(side),
-        session.phase,
-        session.setup.custom,
-        session.setup.reserve,
-        session.setup.records,
-        session.setup.share,
-        tenant,
-        session.setup.rules,
-    );
-    let sizes = session.sizes;
-    let held = Locks {
-        phase: session.phase,
-        used: session.count,
-        sizes,
-    };
+    let said = terms_for(&session, side);
+    let held = locks(&session);
     let planned = engine::items::plan_profile(
         said,
         held,
@@ -599,23 +570,8 @@ pub fn vs_plan_mode(
         × Kept (mode_plan (is_modem_def side) session mode image.now) content.old content.new
         × Numbered (mode_plan (is_modem_def side) session mode image.now) image.now content.old content.new result }
 {
-    let tenant = session.setup.modem;
-    let said = session::terms_for(
-        session::is_modem(side),
-        session.phase,
-        session.setup.custom,
-        session.setup.reserve,
-        session.setup.records,
-        session.setup.share,
-        tenant,
-        session.setup.rules,
-    );
-    let sizes = session.sizes;
-    let held = Locks {
-        phase: session.phase,
-        used: session.count,
-        sizes,
-    };
+    let said = terms_for(&session, side);
+    let held = locks(&session);
     let planned = modes::plan_mode(said, held, &session.locks, image, mode, content);
     plan::in_numbers(planned)
 }
@@ -644,7 +600,7 @@ pub fn vs_from_plain(image: &[u8], target: &mut [u8]) -> Answered
         × (target.new ≡ image_moved plain authenticated image.now target.old) }
 {
     let answer = convert::move_values(Layout::plain(), Layout::authenticated(), image, target);
-    numbers(answer)
+    Answered::from(answer)
 }
 
 pub fn vs_to_plain(image: &[u8], target: &mut [u8]) -> Answered
@@ -652,7 +608,7 @@ pub fn vs_to_plain(image: &[u8], target: &mut [u8]) -> Answered
         × (target.new ≡ image_moved authenticated plain image.now target.old) }
 {
     let answer = convert::move_values(Layout::authenticated(), Layout::plain(), image, target);
-    numbers(answer)
+    Answered::from(answer)
 }
 
 // The calls that have their session in the host's memory.
@@ -679,7 +635,7 @@ pub fn vs_lock_lent(
         × (session_of session.new ≡ lock_session (is_modem_def side) (session_of session.old) (keyed name.now vendor.now)) }
 {
     let told = lent::lock(session, session::is_modem(side), name, vendor);
-    numbers(told)
+    Answered::from(told)
 }
 
 pub fn vs_get_lent(
@@ -700,13 +656,7 @@ pub fn vs_get_lent(
 {
     let view = lent::view(session, session::is_modem(context.side));
     let told = engine::read::get(context, view, image, name, vendor, buffer);
-    let answer = told.answer;
-    Reply {
-        answer: numbers(answer),
-        size: told.size,
-        attributes: told.attributes,
-        needed: told.needed,
-    }
+    Reply::from(told)
 }
 
 pub fn vs_get_many_lent(
@@ -728,7 +678,7 @@ pub fn vs_get_many_lent(
 {
     let view = lent::view(session, session::is_modem(context.side));
     let reply = engine::many::get_many(context, view, image, keys, sizes, told, buffer);
-    numbers(reply)
+    Answered::from(reply)
 }
 
 pub fn vs_next_name_lent(
@@ -749,13 +699,7 @@ pub fn vs_next_name_lent(
 {
     let view = lent::view(session, session::is_modem(context.side));
     let told = engine::read::next_name(context, view, image, name, vendor, buffer);
-    let answer = told.answer;
-    Reply {
-        answer: numbers(answer),
-        size: told.size,
-        attributes: 0,
-        needed: told.needed,
-    }
+    Reply::from(told)
 }
 
 pub fn vs_set_lent(
@@ -793,7 +737,7 @@ pub fn vs_set_lent(
     let told = engine::write::set(
         context, terms, limits, image, name, vendor, asking, bytes, content,
     );
-    numbers(told)
+    Answered::from(told)
 }
 
 pub fn vs_profile_lent(
@@ -817,7 +761,7 @@ pub fn vs_profile_lent(
     let locks = lent::places(session);
     let limits = lent::limits(session);
     let told = engine::items::profile(context, said, held, locks, limits, image, file, content);
-    numbers(told)
+    Answered::from(told)
 }
 
 pub fn vs_mode_lent(
@@ -840,7 +784,7 @@ pub fn vs_mode_lent(
     let held = lent::locks(session);
     let locks = lent::places(session);
     let told = modes::mode(context, said, held, locks, image, mode, content);
-    numbers(told)
+    Answered::from(told)
 }
 
 pub fn vs_start_up_lent(
@@ -859,7 +803,7 @@ pub fn vs_start_up_lent(
     let tenant = lent::tenant(session);
     lent::renew(session);
     let told = engine::start::start_up(context, share, records, tenant, image, content);
-    numbers(told)
+    Answered::from(told)
 }
 
 pub fn vs_plan_start_up_lent(
@@ -988,22 +932,7 @@ pub fn vs_query_lent(
         (region_size image.now) (values_of image.now)))) }
 {
     let terms = lent::terms_for(session, session::is_modem(context.side));
-    let q = engine::room::query(terms, image, attributes);
-    roomed(q)
-}
-
-// A lock of ours, with its answer in numbers.
-fn asked(session: Session, name: &[u8], vendor: &[u8; 16]) -> Listed
-    ensures { (result.answer ≡ numbers_of (lock_outcome false session (keyed name.now vendor.now)))
-        × (result.session ≡ lock_session false session (keyed name.now vendor.now)) }
-{
-    let told = session::lock(session, false, name, vendor);
-    let answer = told.answer;
-    let session = told.session;
-    Listed {
-        answer: numbers(answer),
-        session,
-    }
+    Room::from(engine::room::query(terms, image, attributes))
 }
 
 // A lock of ours over a mutable `Session`: not exported, since it copies the session. A host has `vs_lock_lent`, of either side, over the session's bytes.
@@ -1011,7 +940,7 @@ pub fn lock_over(session: &mut Session, name: &[u8], vendor: &[u8; 16]) -> Answe
     ensures { (result ≡ numbers_of (lock_outcome false session.old (keyed name.now vendor.now)))
         × (session.new ≡ lock_session false session.old (keyed name.now vendor.now)) }
 {
-    let l = asked(*session, name, vendor);
+    let l = vs_lock(*session, 0, name, vendor);
     *session = l.session;
     l.answer
 }

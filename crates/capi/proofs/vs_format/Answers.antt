@@ -5,4 +5,4 @@ use Rattle.capi.proofs.vs_format.Goals as goal
 
 pub returns : goal.returns
 returns c =
-    let e = c.format-answer.ensures in (c.numbers.ensures ∙ ap numbers_of e.0, e.1, e.2)
+    let e = c.format-answer.ensures in (c.from.ensures ∙ ap numbers_of e.0, e.1, e.2)

@@ -12,6 +12,6 @@ returns c =
     let e = c.move_values-answer.ensures in
     let from = c.plain.ensures in
     let to = c.authenticated.ensures in (
-      c.numbers.ensures ∙ ap numbers_of (e.0 ∙ ap₂ (λ (y z : Layout). move_answer y z a.image.now a.target.now) from to),
+      c.from.ensures ∙ ap numbers_of (e.0 ∙ ap₂ (λ (y z : Layout). move_answer y z a.image.now a.target.now) from to),
       e.1 ∙ ap₂ (λ (y z : Layout). image_moved y z a.image.now a.target.now) from to,
     )

@@ -2,12 +2,11 @@
 use mathlib.Core.Path.{ap, ◌∙◌}
 use Rattle.model.specs.Answers.{side_of}
 use Rattle.capi.specs.Numbers.{numbers_of}
-use Rattle.capi.proofs.Said.{view-told}
 use Rattle.capi.proofs.vs_get.Goals as goal
 
 pub returns : goal.returns
 returns c =
     let a = c.args in
     let m = side_of a.context in
-    let e = c.get-g.ensures m a.session (view-told m a.session c.is_modem.ensures c.view-view.ensures) in
-    (c.numbers.ensures ∙ ap numbers_of e.0.0, e.1)
+    let e = c.get-g.ensures m a.session c.view-view.ensures in
+    let r = c.from.ensures in (r.0 ∙ ap numbers_of e.0.0, rw (r.1, r.2, r.3) e.1)

@@ -12,4 +12,4 @@ returns c =
     let a = c.args in
     let s = session_of a.session.now in
     let e = c.get_many-reply.ensures (side_of a.context) s (sym (c.view-view.ensures ∙ ap (λ (m : Bool). view_of m s) c.is_modem.ensures)) in
-    (c.numbers.ensures ∙ ap numbers_of e.0.0, e.1)
+    (c.from.ensures ∙ ap numbers_of e.0.0, e.1)

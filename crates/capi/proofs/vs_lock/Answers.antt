@@ -12,4 +12,4 @@ returns c =
     let k = keyed a.name.now a.vendor.now in
     let i = c.is_modem.ensures in
     let e = c.lock-l.ensures in
-    (c.numbers.ensures ∙ ap numbers_of (e.0 ∙ ap (λ (m : Bool). lock_outcome m a.session k) i), e.1 ∙ ap (λ (m : Bool). lock_session m a.session k) i)
+    (c.from.ensures ∙ ap numbers_of (e.0 ∙ ap (λ (m : Bool). lock_outcome m a.session k) i), e.1 ∙ ap (λ (m : Bool). lock_session m a.session k) i)

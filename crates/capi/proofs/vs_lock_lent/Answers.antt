@@ -14,4 +14,4 @@ returns c =
     let k = keyed a.name.now a.vendor.now in
     let i = c.is_modem.ensures in
     let e = c.lock-told.ensures in
-    (c.numbers.ensures ∙ ap numbers_of (e.0 ∙ ap (λ (m : Bool). lock_outcome m s k) i), e.1 ∙ ap (λ (m : Bool). lock_session m s k) i)
+    (c.from.ensures ∙ ap numbers_of (e.0 ∙ ap (λ (m : Bool). lock_outcome m s k) i), e.1 ∙ ap (λ (m : Bool). lock_session m s k) i)

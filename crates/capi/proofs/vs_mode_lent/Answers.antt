@@ -22,4 +22,4 @@ returns c =
     let s = session_of a.session.now in
     let says = modes-told m s (c.terms_for-said.ensures ∙ ap (λ (n : Bool). terms_for_def n s) c.is_modem.ensures) c.locks-held.ensures c.places-locks.ensures in
     let e = c.mode-told.ensures m s says in
-    (c.numbers.ensures ∙ ap numbers_of e.0.0, e.0.1, e.1)
+    (c.from.ensures ∙ ap numbers_of e.0.0, e.0.1, e.1)

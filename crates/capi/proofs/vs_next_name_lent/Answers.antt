@@ -12,4 +12,4 @@ returns c =
     let a = c.args in
     let s = session_of a.session.now in
     let e = c.next_name-told.ensures (side_of a.context) s (sym (c.view-view.ensures ∙ ap (λ (m : Bool). view_of m s) c.is_modem.ensures)) in
-    (c.numbers.ensures ∙ ap numbers_of e.0.0, e.1)
+    let r = c.from.ensures in (r.0 ∙ ap numbers_of e.0.0, rw (r.1, r.2, r.3) e.1)

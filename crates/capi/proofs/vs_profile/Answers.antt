@@ -2,19 +2,19 @@
 use mathlib.Core.Path.{refl, ap, ◌∙◌}
 use Rattle.model.specs.Answers.{side_of}
 use Rattle.capi.specs.Numbers.{numbers_of}
-use Rattle.capi.proofs.Said.{for-told, all_told}
+use Rattle.capi.proofs.Said.{all_told}
 use Rattle.capi.proofs.vs_profile.Goals as goal
 
 pub profile-answer-requires : goal.profile-answer-requires
 profile-answer-requires c =
     let a = c.args in
     let m = side_of a.context in
-    (m, a.session, all_told m a.session (for-told m a.session c.is_modem.ensures c.terms_for-said.ensures) (refl, refl, refl) refl refl)
+    (m, a.session, all_told m a.session c.terms_for-said.ensures c.locks-held.ensures refl refl)
 
 pub returns : goal.returns
 returns c =
     let a = c.args in
     let m = side_of a.context in
-    let says = all_told m a.session (for-told m a.session c.is_modem.ensures c.terms_for-said.ensures) (refl, refl, refl) refl refl in
+    let says = all_told m a.session c.terms_for-said.ensures c.locks-held.ensures refl refl in
     let e = c.profile-answer.ensures m a.session says in
-    (c.numbers.ensures ∙ ap numbers_of e.0.0, e.0.1, e.1)
+    (c.from.ensures ∙ ap numbers_of e.0.0, e.0.1, e.1)

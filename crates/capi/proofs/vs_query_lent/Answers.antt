@@ -12,7 +12,7 @@ pub returns : goal.returns
 unfolding terms_for_def
 returns c =
     let a = c.args in
-    let r = c.roomed.ensures in
+    let r = c.from.ensures in
     let t = c.terms_for-terms.ensures ∙ ap (λ (m : Bool). terms_for_def m (session_of a.session.now)) c.is_modem.ensures in
-    let q = subst (λ (t : Terms). Told t a.image.now a.attributes c.query-q.result) t c.query-q.ensures in
+    let q = subst (λ (t : Terms). Told t a.image.now a.attributes c.query.result) t c.query.ensures in
     (r.0 ∙ ap numbers_of q.0, r.1 ∙ q.1, r.2 ∙ q.2, r.3 ∙ q.3)

@@ -1,21 +1,18 @@
 -- `capi::vs_set` meets its contract: the side and what the session says to its set, one call of the engine, its answer in numbers. Assumes nothing.
 use mathlib.Core.Path.{ap, ◌∙◌}
-use Rattle.model.specs.Name.{keyed}
 use Rattle.model.specs.Answers.{side_of}
 use Rattle.capi.specs.Numbers.{numbers_of}
-use Rattle.capi.proofs.Said.{says-told}
 use Rattle.capi.proofs.vs_set.Goals as goal
 
 pub set-answer-requires : goal.set-answer-requires
 set-answer-requires c =
     let a = c.args in
     let m = side_of a.context in
-    (m, a.session, says-told m a.session c.is_modem.ensures (keyed a.name.now a.vendor.now) c.is_barred-barred.ensures c.terms_for-said.ensures c.terms-terms.ensures)
+    (m, a.session, c.terms-terms.ensures)
 
 pub returns : goal.returns
 returns c =
     let a = c.args in
     let m = side_of a.context in
-    let says = says-told m a.session c.is_modem.ensures (keyed a.name.now a.vendor.now) c.is_barred-barred.ensures c.terms_for-said.ensures c.terms-terms.ensures in
-    let e = c.set-answer.ensures m a.session says in
-    (c.numbers.ensures ∙ ap numbers_of e.0.0, e.0.1, e.1)
+    let e = c.set-answer.ensures m a.session c.terms-terms.ensures in
+    (c.from.ensures ∙ ap numbers_of e.0.0, e.0.1, e.1)

@@ -21,4 +21,4 @@ returns c =
     let s = session_of a.session.now in
     let k = keyed a.name.now a.vendor.now in
     let e = c.set-told.ensures (side_of a.context) s (sym (c.terms-terms.ensures ∙ ap (λ (m : Bool). terms_of m s k) c.is_modem.ensures), sym c.limits-limits.ensures) in
-    (c.numbers.ensures ∙ ap numbers_of e.0.0, e.0.1, e.1)
+    (c.from.ensures ∙ ap numbers_of e.0.0, e.0.1, e.1)

@@ -9,4 +9,4 @@ pub returns : goal.returns
 unfolding plan_of start_up_plan
 returns c =
     let e = c.start_up-answer.ensures c.args.setup (refl, refl, refl) in
-    (c.numbers.ensures ∙ ap numbers_of e.0.0, c.fresh-session.ensures, e.0.1, e.1)
+    (c.from.ensures ∙ ap numbers_of e.0.0, c.fresh-session.ensures, e.0.1, e.1)

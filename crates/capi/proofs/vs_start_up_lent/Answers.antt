@@ -11,4 +11,4 @@ unfolding plan_of start_up_plan
 returns c =
     let u = (session_of c.args.session.now).setup in
     let e = c.start_up-told.ensures u (sym c.share-share.ensures, sym c.records-records.ensures, sym c.tenant-tenant.ensures) in
-    (c.numbers.ensures ∙ ap numbers_of e.0.0, c.renew.ensures, e.0.1, e.1)
+    (c.from.ensures ∙ ap numbers_of e.0.0, c.renew.ensures, e.0.1, e.1)
