@@ -9,6 +9,7 @@ use lib.ListN.{length, take, drop, take-append-drop}
 use lib.Seq.{take-nil}
 use lib.Dec.{leb}
 use borrow.Author.Tests.{leb-true, leb-false, le-leb}
+use Rattle.std.specs.Prelude.{Result, Ok, Err, unwrap_or}
 use Rattle.model.specs.declared.Rule.{Rule}
 use Rattle.model.specs.declared.Answer.{Answer}
 use Rattle.model.specs.declared.Answer.TheVariants.{Done, Stopped, Refused}
@@ -16,18 +17,16 @@ use Rattle.model.specs.Stores.{Store, Write, stores, after, width_of}
 use Rattle.model.specs.Set.{Plan, refuse, make}
 use Rattle.model.specs.Answers.{Outcome, done, stopped, refused, rule_number, answer_of, stores_of, made_of, outcome, image_after}
 use Rattle.model.proofs.Failing.{reach-none, outcome-none}
-use Rattle.plan.specs.declared.Op.{Op}
-use Rattle.plan.specs.declared.Judged.{Judged}
-use Rattle.plan.specs.declared.Judged.TheVariants as judged
+use Rattle.plan.specs.declared.Step.{Step}
 use Rattle.plan.specs.declared.Planned.{Planned}
 use Rattle.plan.specs.Plan.{expand}
-use Rattle.plan.specs.Planned.{up_to, on_judged, planned_as, Plans}
+use Rattle.plan.specs.Planned.{none_decides, up_to, planned_as, Plans}
 use Rattle.plan.proofs.Stores.{expand-append}
 use Rattle.desk.specs.declared.Played.{Played}
 use Rattle.desk.specs.Season as season
 use Rattle.desk.specs.Season.{desk_context, all_erases, played, played_whole}
 use Rattle.desk.specs.Erasing.{erased_in}
-use Rattle.desk.specs.Playing.{counted_as, PlaysUpTo}
+use Rattle.desk.specs.Playing.{operations_of, counted_as, PlaysUpTo}
 use Rattle.desk.proofs.Erasing.{erased-is, few-stores, erases-most}
 
 -- ---- what is played, by the list of stores
@@ -84,12 +83,12 @@ record Counted (n : ℕ) (ss : List Store) (r : Played) : Type 0 where
   stores : r.stores ≡ min n (length ss)
   erases : r.erases ≡ all_erases (take (min n (length ss)) ss)
 
-same_answer : (a : Answer) (ops : List Op) (n : ℕ) → (counted_as a ops n).answer ≡ a
+same_answer : (a : Answer) (ops : List Step) (n : ℕ) → (counted_as a ops n).answer ≡ a
 same_answer (Done k) ops n = refl
 same_answer Stopped ops n = refl
 same_answer (Refused rule) ops n = refl
 
-counted-made : (n : ℕ) (ss : List Store) (ops : List Op) (a : Answer) (t : Bool) → leb (length ss) n ≡ t → answer_of a ≡ cond t (done (length ss)) stopped
+counted-made : (n : ℕ) (ss : List Store) (ops : List Step) (a : Answer) (t : Bool) → leb (length ss) n ≡ t → answer_of a ≡ cond t (done (length ss)) stopped
     → ((k : ℕ) → erased_in k ops ≡ all_erases (take k ss)) → Counted n ss (counted_as a ops n)
 counted-made n ss ops (Done k) true t e f =
     let h = leb-true (length ss) n t in
@@ -108,13 +107,13 @@ counted-made n ss ops (Refused rule) false t e f = let z : ◌≡◌ {A = ℕ} 0
 none-erased : (j : ℕ) → 0 ≡ all_erases (take j [])
 none-erased j = let h = erases-most 0 [] in let e : all_erases (take 0 []) ≡ 0 = omega arith in sym (ap all_erases (take-nil j) ∙ e)
 
-counted-refused : (n : ℕ) (ops : List Op) (a : Answer) (k : ℕ) → answer_of a ≡ refused k → Counted n [] (counted_as a ops n)
+counted-refused : (n : ℕ) (ops : List Step) (a : Answer) (k : ℕ) → answer_of a ≡ refused k → Counted n [] (counted_as a ops n)
 counted-refused n ops (Refused rule) k e = record { stores = omega arith; erases = none-erased (min n 0) }
 counted-refused n ops (Done j) k e = let z : ◌≡◌ {A = ℕ} 0 1 = cc in absurd (omega arith)
 counted-refused n ops Stopped k e = let z : ◌≡◌ {A = ℕ} 0 1 = cc in absurd (omega arith)
 
 -- the stores of what was planned, if it was accepted
-planned-stores : (c : List ℕ) (ops : List Op) (k : ℕ) → stores_of 1 (make (expand c (take k ops)) (expand c (drop k ops))) ≡ stores 1 (expand c ops)
+planned-stores : (c : List ℕ) (ops : List Step) (k : ℕ) → stores_of 1 (make (expand c (take k ops)) (expand c (drop k ops))) ≡ stores 1 (expand c ops)
 unfolding stores_of
 planned-stores c ops k = ap (stores 1) (sym (expand-append c (take k ops) (drop k ops)) ∙ ap (expand c) (take-append-drop k ops))
 
@@ -123,7 +122,7 @@ unfolding stores_of
 refused-stores rule = refl
 
 -- what is played of a plan, by what was counted
-plays : (n : ℕ) (plan : Plan) (img img' : List ℕ) (a : Answer) (ops : List Op) → answer_of a ≡ outcome (desk_context n) plan img
+plays : (n : ℕ) (plan : Plan) (img img' : List ℕ) (a : Answer) (ops : List Step) → answer_of a ≡ outcome (desk_context n) plan img
     → img' ≡ image_after (desk_context n) plan img
     → length (stores_of 1 plan) < 2 ^ 20
     → Counted n (stores_of 1 plan) (counted_as a ops n)
@@ -145,29 +144,39 @@ plays n plan img img' a ops told left few counted =
     }
 
 -- *a call that was planned, and then made up to n, was played*
-module _ (n : ℕ) (plan : Plan) (img img' before c : List ℕ) (p : Planned) (a : Answer) (long : length img ≤ 61440) where
-  pub planned-plays : Plans plan img before c p → answer_of a ≡ outcome (desk_context n) plan img → img' ≡ image_after (desk_context n) plan img → length p.plan ≡ 12
+module _ (n : ℕ) (plan : Plan) (img img' before c : List ℕ) (a : Answer) (long : length img ≤ 61440) where
+  accepted-plays : (p : Planned) → Plans plan img before c (Ok p) → answer_of a ≡ outcome (desk_context n) plan img → img' ≡ image_after (desk_context n) plan img
+      → length p.plan ≡ 12
       → PlaysUpTo n plan img img' (counted_as a p.plan n)
   unfolding planned_as
-  planned-plays planned told left twelve = go p.judged (sym planned.same)
-    where
-      go : (j : Judged) → plan ≡ on_judged c p.plan p.deciding j → PlaysUpTo n plan img img' (counted_as a p.plan n)
-      go judged.Accepted e =
-          let ops : List Op = p.plan in
-          let k : ℕ = up_to p.deciding in
-          let fit = planned.ready.fit in
-          let listed : stores_of 1 plan ≡ stores 1 (expand c ops) = ap (stores_of 1) e ∙ planned-stores c ops k in
-          let said : answer_of a ≡ told_of n (length (stores_of 1 plan)) =
-          told
-          ∙ ap (λ (q : Plan). outcome (desk_context n) q img) e
-          ∙ outcome-made n (expand c (take k ops)) (expand c (drop k ops)) img
-          ∙ ap (λ (q : Plan). told_of n (length (stores_of 1 q))) (sym e) in
-          let few : length (stores_of 1 plan) < 2 ^ 20 = rw listed (omega (arith, few-stores c (length img) ops fit long)) in
-          plays n plan img img' a ops told left few
-          (counted-made n (stores_of 1 plan) ops a (leb (length (stores_of 1 plan)) n) refl said
-          (λ j. erased-is c (length img) ops j fit ∙ ap (λ (l : List Store). all_erases (take j l)) (sym listed)))
-      go (judged.Refused rule) e =
-          let none : stores_of 1 plan ≡ [] = ap (stores_of 1) e ∙ refused-stores rule in
-          let said : answer_of a ≡ refused (rule_number rule) = told ∙ ap (λ (q : Plan). outcome (desk_context n) q img) e ∙ outcome-refused n rule img in
-          let few : length (stores_of 1 plan) < 2 ^ 20 = rw none (omega arith) in
-          plays n plan img img' a p.plan told left few (rw none (counted-refused n p.plan a (rule_number rule) said))
+  accepted-plays p planned told left twelve =
+      let ops : List Step = p.plan in
+      let k : ℕ = up_to (unwrap_or p.deciding none_decides) in
+      let e : plan ≡ make (expand c (take k ops)) (expand c (drop k ops)) = sym planned.same in
+      let fit = planned.ready.fit in
+      let listed : stores_of 1 plan ≡ stores 1 (expand c ops) = ap (stores_of 1) e ∙ planned-stores c ops k in
+      let said : answer_of a ≡ told_of n (length (stores_of 1 plan)) =
+      told
+      ∙ ap (λ (q : Plan). outcome (desk_context n) q img) e
+      ∙ outcome-made n (expand c (take k ops)) (expand c (drop k ops)) img
+      ∙ ap (λ (q : Plan). told_of n (length (stores_of 1 q))) (sym e) in
+      let few : length (stores_of 1 plan) < 2 ^ 20 = rw listed (omega (arith, few-stores c (length img) ops fit long)) in
+      plays n plan img img' a ops told left few
+      (counted-made n (stores_of 1 plan) ops a (leb (length (stores_of 1 plan)) n) refl said
+      (λ j. erased-is c (length img) ops j fit ∙ ap (λ (l : List Store). all_erases (take j l)) (sym listed)))
+
+  refused-plays : (rule : Rule) (ops : List Step) → plan ≡ refuse rule → answer_of a ≡ outcome (desk_context n) plan img → img' ≡ image_after (desk_context n) plan img
+      → PlaysUpTo n plan img img' (counted_as a ops n)
+  refused-plays rule ops e told left =
+      let none : stores_of 1 plan ≡ [] = ap (stores_of 1) e ∙ refused-stores rule in
+      let said : answer_of a ≡ refused (rule_number rule) = told ∙ ap (λ (q : Plan). outcome (desk_context n) q img) e ∙ outcome-refused n rule img in
+      let few : length (stores_of 1 plan) < 2 ^ 20 = rw none (omega arith) in
+      plays n plan img img' a ops told left few (rw none (counted-refused n ops a (rule_number rule) said))
+
+  pub planned-plays : (p : Result Planned Rule) → Plans plan img before c p → answer_of a ≡ outcome (desk_context n) plan img
+      → img' ≡ image_after (desk_context n) plan img
+      → length (operations_of p) ≡ 12
+      → PlaysUpTo n plan img img' (counted_as a (operations_of p) n)
+  unfolding planned_as
+  planned-plays (Ok p) planned told left twelve = accepted-plays p planned told left twelve
+  planned-plays (Err rule) planned told left twelve = refused-plays rule (operations_of (Err rule)) (sym planned.same) told left

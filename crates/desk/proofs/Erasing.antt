@@ -14,7 +14,6 @@ use Rattle.model.specs.Stores.{Store, page, erase, Write, erases, bytewise, stor
 use Rattle.model.proofs.Stores.{stores-todays}
 use Rattle.plan.specs.declared.Step.{Step}
 use Rattle.plan.specs.declared.Step.TheVariants.{Nothing, Mark, Erase, Program, Header}
-use Rattle.plan.specs.declared.Op.{Op}
 use Rattle.plan.specs.Plan.{stores_of_step, expand, size_of, Fits, AllFit, behind_state}
 use Rattle.desk.specs.Season.{all_erases}
 use Rattle.desk.specs.Erasing.{erased_of_def, erased_in}
@@ -104,19 +103,18 @@ module _ (c : List ℕ) (long : ℕ) where
       let b = length-bytewise (at + length (part from state_at c) + 1) (part (from + state_at + 1) behind_state c) ∙ length_part (from + state_at + 1) behind_state c (omega (arith, h.0)) in
       rw append-nil (length-append (bytewise at (part from state_at c)) (bytewise (at + length (part from state_at c) + 1) (part (from + state_at + 1) behind_state c)) ∙ (omega (arith, a, b)))
 
-  todays-erased : (ops : List Op) (n : ℕ) → AllFit (length c) long ops → all_erases (take n (todays (expand c ops))) ≡ erased_in n ops
+  todays-erased : (ops : List Step) (n : ℕ) → AllFit (length c) long ops → all_erases (take n (todays (expand c ops))) ≡ erased_in n ops
   unfolding expand erased_in todays
   todays-erased [] n h = ap all_erases (take-nil n) ∙ no-erase 0 0 []
   todays-erased (o ∷ os) n h =
-      let s = o.step in
-      ap (λ (l : List Store). all_erases (take n l)) (todays-both (stores_of_step c s) (expand c os))
-      ∙ ap all_erases (take-both n (todays (stores_of_step c s)) (todays (expand c os)))
-      ∙ erases-both (take n (todays (stores_of_step c s))) (take (n - length (todays (stores_of_step c s))) (todays (expand c os)))
-      ∙ ap (λ (k : ℕ). all_erases (take n (todays (stores_of_step c s))) + all_erases (take (n - k) (todays (expand c os)))) (step-length s h.0)
-      ∙ (let a = step-erased s n in let b = todays-erased os (n - size_of 1 s) h.1 in omega (arith, a, b))
+      ap (λ (l : List Store). all_erases (take n l)) (todays-both (stores_of_step c o) (expand c os))
+      ∙ ap all_erases (take-both n (todays (stores_of_step c o)) (todays (expand c os)))
+      ∙ erases-both (take n (todays (stores_of_step c o))) (take (n - length (todays (stores_of_step c o))) (todays (expand c os)))
+      ∙ ap (λ (k : ℕ). all_erases (take n (todays (stores_of_step c o))) + all_erases (take (n - k) (todays (expand c os)))) (step-length o h.0)
+      ∙ (let a = step-erased o n in let b = todays-erased os (n - size_of 1 o) h.1 in omega (arith, a, b))
 
   -- the erases of a plan's first n stores
-  pub erased-is : (ops : List Op) (n : ℕ) → AllFit (length c) long ops → erased_in n ops ≡ all_erases (take n (stores 1 (expand c ops)))
+  pub erased-is : (ops : List Step) (n : ℕ) → AllFit (length c) long ops → erased_in n ops ≡ all_erases (take n (stores 1 (expand c ops)))
   erased-is ops n h = sym (ap (λ (l : List Store). all_erases (take n l)) (stores-todays (expand c ops)) ∙ todays-erased ops n h)
 
   -- and no plan has many stores: an operation has no more than there are bytes in the image
@@ -128,16 +126,15 @@ module _ (c : List ℕ) (long : ℕ) where
   step-few (Program at from len) h few = omega (arith, h.1)
   step-few (Header at from) h few = omega arith
 
-  todays-few : (ops : List Op) → AllFit (length c) long ops → long ≤ 61440 → length (todays (expand c ops)) ≤ 61440 * length ops
+  todays-few : (ops : List Step) → AllFit (length c) long ops → long ≤ 61440 → length (todays (expand c ops)) ≤ 61440 * length ops
   unfolding expand todays
   todays-few [] h few = omega arith
   todays-few (o ∷ os) h few =
-      let s = o.step in
-      let one = step-few s h.0 few in
+      let one = step-few o h.0 few in
       let more = todays-few os h.1 few in
-      rw (todays-both (stores_of_step c s) (expand c os), length-append (todays (stores_of_step c s)) (todays (expand c os)), step-length s h.0) (omega arith)
+      rw (todays-both (stores_of_step c o) (expand c os), length-append (todays (stores_of_step c o)) (todays (expand c os)), step-length o h.0) (omega arith)
 
-  pub few-stores : (ops : List Op) → AllFit (length c) long ops → long ≤ 61440 → length (stores 1 (expand c ops)) ≤ 61440 * length ops
+  pub few-stores : (ops : List Step) → AllFit (length c) long ops → long ≤ 61440 → length (stores 1 (expand c ops)) ≤ 61440 * length ops
   few-stores ops h few = rw (stores-todays (expand c ops)) (todays-few ops h few)
 
 -- no more than there are stores
@@ -158,18 +155,18 @@ step-most n (Erase first count) = omega arith
 step-most n (Program at from len) = omega arith
 step-most n (Header at from) = omega arith
 
-pub one-operation : (d : Op) (ops : List Op) (n i : ℕ) → i < length ops
-    → erased_in n (drop i ops) ≡ erased_of_def n (get_or ops i d).step + erased_in (n - size_of 1 (get_or ops i d).step) (drop (i + 1) ops)
+pub one-operation : (d : Step) (ops : List Step) (n i : ℕ) → i < length ops
+    → erased_in n (drop i ops) ≡ erased_of_def n (get_or ops i d) + erased_in (n - size_of 1 (get_or ops i d)) (drop (i + 1) ops)
 unfolding erased_in
 one-operation d ops n i h = rw (drop-cons ops i d h, add-one i)
 
-pub no-operation : (ops : List Op) (n i : ℕ) → length ops ≤ i → erased_in n (drop i ops) ≡ 0
+pub no-operation : (ops : List Step) (n i : ℕ) → length ops ≤ i → erased_in n (drop i ops) ≡ 0
 unfolding erased_in
 no-operation [] n zero h = refl
 no-operation [] n (suc i) h = refl
 no-operation (o ∷ os) n zero h = absurd (omega arith)
 no-operation (o ∷ os) n (suc i) h = no-operation os n i (omega arith)
 
-pub none_dropped : (ops : List Op) → drop 0 ops ≡ ops
+pub none_dropped : (ops : List Step) → drop 0 ops ≡ ops
 none_dropped [] = refl
 none_dropped (o ∷ os) = refl

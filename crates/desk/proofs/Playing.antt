@@ -3,7 +3,8 @@
 use Prim.Native.Nat.{ℕ, ◌+◌, ◌*◌, ◌^◌, ◌≤◌}
 use native.Mathlib.Omega.{arith}
 use mathlib.Core.Path.{◌≡◌, sym, ap, ◌∙◌}
-use mathlib.Core.Bool.{true, false}
+use mathlib.Core.Bool.{false}
+use Rattle.std.specs.Prelude as code
 use mathlib.Core.List.{List}
 use lib.ListN.{length}
 use Rattle.model.specs.Lists.{part}
@@ -26,7 +27,7 @@ use Rattle.desk.proofs.Counting.{played-whole}
 use Rattle.desk.proofs.Desk.{desk-size}
 
 module _ (b : ℕ) (s : List ℕ) (a : Asked) (img img' : List ℕ) where
-  pub step-whole : {r : Played} → a.cut ≡ false → PlaysUpTo 0xFFFFFFFFFFFFFFFF (set_plan false (desk_session b) (request_in s a.item) img) img img' r
+  pub step-whole : {r : Played} → a.limit ≡ code.None → PlaysUpTo 0xFFFFFFFFFFFFFFFF (set_plan false (desk_session b) (request_in s a.item) img) img img' r
       → Plays (2 ^ 21) (step_played b (step_in s a) img) r img'
   unfolding step_played cut_or_whole
   step-whole {r} whole p =
@@ -42,11 +43,11 @@ module _ (b : ℕ) (s : List ℕ) (a : Asked) (img img' : List ℕ) where
         fewer = q.fewer;
       })
 
-  pub step_cut : {img'' : List ℕ} {p q : Played} → a.cut ≡ true → PlaysUpTo a.limit (set_plan false (desk_session b) (request_in s a.item) img) img img' p
+  pub step_cut : {img'' : List ℕ} {p q : Played} {n : ℕ} → a.limit ≡ code.Some n → PlaysUpTo n (set_plan false (desk_session b) (request_in s a.item) img) img img' p
       → Plays (2 ^ 20) (played_whole (start_up_plan (desk_setup b) img') img') q img''
       → Plays (2 ^ 21) (step_played b (step_in s a) img) (record { answer = p.answer; stores = p.stores + q.stores; erases = p.erases + q.erases }) img''
   unfolding step_played cut_or_whole then_started followed_by
-  step_cut {img''} {p} {q} cut first second =
+  step_cut {img''} {p} {q} {n} cut first second =
       let one = first.plays in
       let two = rw one.image at second in
       rw cut (record {

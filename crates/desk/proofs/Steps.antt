@@ -7,6 +7,7 @@ use mathlib.Core.Logic.{◌≢◌}
 use mathlib.Core.Bool.{Bool, true, false, cond}
 use mathlib.Core.List.{List, [], ◌∷◌}
 use mathlib.Core.Option.{Option, none, some}
+use Rattle.std.specs.Prelude as code
 use lib.ListN.{length, take, drop, length-drop}
 use lib.Seq.{length-take-le}
 use lib.Dec.{leb}
@@ -14,14 +15,9 @@ use borrow.Author.Tests.{ne_eqb, eq-eqb, le-leb, lt-leb, leb-true, leb-false}
 use Rattle.model.specs.Lists.{is_empty, is_some, part, on_some}
 use Rattle.model.specs.Profile.{Number, number_at, Item, item_at}
 use Rattle.profile.specs.declared.Numeral.{Numeral}
-use Rattle.profile.specs.declared.Numeral.TheVariants.{At, Malformed}
 use Rattle.profile.specs.declared.Setting.{Setting}
-use Rattle.profile.specs.declared.Found.{Found}
-use Rattle.profile.specs.declared.Found.TheVariants as found
 use Rattle.profile.specs.Reader.{number_of, item_of, request_in, Within, Ends}
 use Rattle.desk.specs.declared.Asked.{Asked}
-use Rattle.desk.specs.declared.Next.{Next}
-use Rattle.desk.specs.declared.Next.TheVariants.{Here, Missing}
 use Rattle.desk.specs.Script.{Step, Stepped, item_step, delete_step, cut_step, kind_step, step_at, steps_at}
 use Rattle.desk.specs.Reader.{step_in, step_of, Stops}
 
@@ -30,17 +26,17 @@ use Rattle.desk.specs.Reader.{step_in, step_of, Stops}
 abbrev behind : Option ℕ → Option Item → Option Stepped
 behind n o = on_some o (λ i. some (record { one = record { asked = i.asked; cut_after_def = n }; rest = i.rest })) none
 
-module _ (s : List ℕ) (at : ℕ) (x : Found) (e : item_of s x ≡ item_at (drop at s)) (n : Option ℕ) where
+module _ (s : List ℕ) (at : ℕ) (x : code.Option (Setting × ℕ)) (e : item_of s x ≡ item_at (drop at s)) (n : Option ℕ) where
   its-item : behind n (item_of s x) ≡ item_step n (drop at s)
   unfolding item_step
   its-item = ap (behind n) e
 
-  pub no_item : x ≡ found.Missing → step_of s Missing ≡ item_step n (drop at s)
+  pub no_item : x ≡ code.None → step_of s code.None ≡ item_step n (drop at s)
   unfolding item_of step_of
-  no_item f = ap (λ (y : Found). behind n (item_of s y)) (sym f) ∙ its-item
+  no_item f = ap (λ (y : code.Option (Setting × ℕ)). behind n (item_of s y)) (sym f) ∙ its-item
 
-  pub one-item : (t : Setting) (next : ℕ) → x ≡ found.Here t next → behind n (item_of s (found.Here t next)) ≡ item_step n (drop at s)
-  one-item t next f = ap (λ (y : Found). behind n (item_of s y)) (sym f) ∙ its-item
+  pub one-item : (t : Setting) (next : ℕ) → x ≡ code.Some (t, next) → behind n (item_of s (code.Some (t, next))) ≡ item_step n (drop at s)
+  one-item t next f = ap (λ (y : code.Option (Setting × ℕ)). behind n (item_of s y)) (sym f) ∙ its-item
 
 -- ---- a delete: its item has no data
 
@@ -55,48 +51,48 @@ not-empty : (l : List ℕ) → (length l ≡ 0 → ⊥) → is_empty l ≡ false
 not-empty [] h = absurd (h refl)
 not-empty (x ∷ l) h = refl
 
-module _ (s : List ℕ) (at : ℕ) (x : Found) (e : item_of s x ≡ item_at (drop at s)) where
-  pub no-delete : x ≡ found.Missing → step_of s Missing ≡ delete_step (drop at s)
+module _ (s : List ℕ) (at : ℕ) (x : code.Option (Setting × ℕ)) (e : item_of s x ≡ item_at (drop at s)) where
+  pub no-delete : x ≡ code.None → step_of s code.None ≡ delete_step (drop at s)
   unfolding delete_step step_of
   no-delete f = ap emptied (no_item s at x e none f)
 
-  module _ (t : Setting) (next : ℕ) (f : x ≡ found.Here t next) where
-    its-step : delete_step (drop at s) ≡ emptied (behind none (item_of s (found.Here t next)))
+  module _ (t : Setting) (next : ℕ) (f : x ≡ code.Some (t, next)) where
+    its-step : delete_step (drop at s) ≡ emptied (behind none (item_of s (code.Some (t, next))))
     unfolding delete_step
     its-step = ap emptied (sym (one-item s at x e none t next f))
 
     abbrev data-at : ℕ
     data-at = t.at + 16 + t.name
 
-    pub without-data : t.size ≡ 0 → behind none (item_of s (found.Here t next)) ≡ delete_step (drop at s)
+    pub without-data : t.size ≡ 0 → behind none (item_of s (code.Some (t, next))) ≡ delete_step (drop at s)
     unfolding item_of request_in
     without-data h =
         let none-there : is_empty (part data-at t.size s) ≡ true = ap (λ (n : ℕ). is_empty (take n (drop data-at s))) h ∙ empty-take (drop data-at s) in
         sym (its-step ∙ rw none-there)
 
-    pub with-data : t.size ≢ 0 → Within (length s) t → step_of s Missing ≡ delete_step (drop at s)
+    pub with-data : t.size ≢ 0 → Within (length s) t → step_of s code.None ≡ delete_step (drop at s)
     unfolding item_of request_in step_of
     with-data h k =
         let long : length (part data-at t.size s) ≡ t.size = length-take-le t.size (drop data-at s) (rw (length-drop data-at s) (omega arith)) in
         let some-there : is_empty (part data-at t.size s) ≡ false = not-empty (part data-at t.size s) (λ z. h (sym long ∙ z)) in
         sym (its-step ∙ rw some-there)
 
-pub found-ends : {size : ℕ} {x : Found} {t : Setting} {next : ℕ} → x ≡ found.Here t next → Ends size x → (next ≤ size) × Within size t
+pub found-ends : {size : ℕ} {x : code.Option (Setting × ℕ)} {t : Setting} {next : ℕ} → x ≡ code.Some (t, next) → Ends size x → (next ≤ size) × Within size t
 found-ends e l = rw e at l
 
 -- ---- behind a number
 
-module _ (f : ℕ → List ℕ → Option Stepped) (s : List ℕ) (at : ℕ) (x : Numeral) (e : number_of s x ≡ number_at (drop at s)) where
+module _ (f : ℕ → List ℕ → Option Stepped) (s : List ℕ) (at : ℕ) (x : code.Option Numeral) (e : number_of s x ≡ number_at (drop at s)) where
   abbrev then : Option Number → Option Stepped
   then o = on_some o (λ n. f n.value n.rest) none
 
-  pub no-number-there : x ≡ Malformed → step_of s Missing ≡ then (number_at (drop at s))
+  pub no-number-there : x ≡ code.None → step_of s code.None ≡ then (number_at (drop at s))
   unfolding number_of step_of
-  no-number-there h = ap (λ (r : Numeral). then (number_of s r)) (sym h) ∙ ap then e
+  no-number-there h = ap (λ (r : code.Option Numeral). then (number_of s r)) (sym h) ∙ ap then e
 
-  pub number-there : (v next : ℕ) → x ≡ At v next → f v (drop next s) ≡ then (number_at (drop at s))
+  pub number-there : (n : Numeral) → x ≡ code.Some n → f n.value (drop n.next s) ≡ then (number_at (drop at s))
   unfolding number_of
-  number-there v next h = ap (λ (r : Numeral). then (number_of s r)) (sym h) ∙ ap then e
+  number-there n h = ap (λ (r : code.Option Numeral). then (number_of s r)) (sym h) ∙ ap then e
 
 -- ---- the kinds
 
@@ -112,13 +108,13 @@ pub kind_2 : (k : ℕ) (s : List ℕ) → k ≡ 2 → cut_step s ≡ kind_step k
 unfolding kind_step
 kind_2 k s h = rw (ne_eqb k 0 (λ z. absurd (omega arith)), ne_eqb k 1 (λ z. absurd (omega arith)), eq-eqb k 2 h)
 
-pub kind-other : (s t : List ℕ) (k : ℕ) → k ≢ 0 → k ≢ 1 → k ≢ 2 → step_of t Missing ≡ kind_step k s
+pub kind-other : (s t : List ℕ) (k : ℕ) → k ≢ 0 → k ≢ 1 → k ≢ 2 → step_of t code.None ≡ kind_step k s
 unfolding kind_step step_of
 kind-other s t k f g h = rw (ne_eqb k 0 f, ne_eqb k 1 g, ne_eqb k 2 h)
 
 -- ---- one step of so many
 
-pub step-stops : {size : ℕ} {x : Next} {a : Asked} {next : ℕ} → x ≡ Here a next → Stops size x → (next ≤ size) × Within size a.item
+pub step-stops : {size : ℕ} {x : code.Option (Asked × ℕ)} {a : Asked} {next : ℕ} → x ≡ code.Some (a, next) → Stops size x → (next ≤ size) × Within size a.item
 step-stops e l = rw e at l
 
 abbrev onward : Step → Option (List Step) → Option (List Step)
@@ -128,7 +124,7 @@ unwrapped : (o : Option (List Step)) (t : Step) → is_some (onward t o) ≡ is_
 unwrapped none t = refl
 unwrapped (some ts) t = refl
 
-module _ (s : List ℕ) (at : ℕ) (x : Next) (e : step_of s x ≡ step_at (drop at s)) (n : ℕ) where
+module _ (s : List ℕ) (at : ℕ) (x : code.Option (Asked × ℕ)) (e : step_of s x ≡ step_at (drop at s)) (n : ℕ) where
   abbrev rest : Option Stepped → Option (List Step)
   rest o = on_some o (λ t. onward t.one (steps_at n t.rest)) none
 
@@ -136,16 +132,16 @@ module _ (s : List ℕ) (at : ℕ) (x : Next) (e : step_of s x ≡ step_at (drop
   unfolding steps_at
   its-rest = ap rest (sym e)
 
-  pub none-there : x ≡ Missing → is_some (steps_at (suc n) (drop at s)) ≡ false
+  pub none-there : x ≡ code.None → is_some (steps_at (suc n) (drop at s)) ≡ false
   unfolding step_of
-  none-there h = ap is_some (its-rest ∙ ap (λ (y : Next). rest (step_of s y)) h)
+  none-there h = ap is_some (its-rest ∙ ap (λ (y : code.Option (Asked × ℕ)). rest (step_of s y)) h)
 
   -- the steps from a place on are the one that was read there, and those from the next place on
-  pub first-there : (a : Asked) (next : ℕ) → x ≡ Here a next → steps_at (suc n) (drop at s) ≡ onward (step_in s a) (steps_at n (drop next s))
+  pub first-there : (a : Asked) (next : ℕ) → x ≡ code.Some (a, next) → steps_at (suc n) (drop at s) ≡ onward (step_in s a) (steps_at n (drop next s))
   unfolding step_of
-  first-there a next h = its-rest ∙ ap (λ (y : Next). rest (step_of s y)) h
+  first-there a next h = its-rest ∙ ap (λ (y : code.Option (Asked × ℕ)). rest (step_of s y)) h
 
-  pub one-there : (a : Asked) (next : ℕ) → x ≡ Here a next → is_some (steps_at (suc n) (drop at s)) ≡ is_some (steps_at n (drop next s))
+  pub one-there : (a : Asked) (next : ℕ) → x ≡ code.Some (a, next) → is_some (steps_at (suc n) (drop at s)) ≡ is_some (steps_at n (drop next s))
   one-there a next h = ap is_some (first-there a next h) ∙ unwrapped (steps_at n (drop next s)) (step_in s a)
 
 suc-leb : (m n : ℕ) → leb (suc m) (suc n) ≡ leb m n

@@ -6,6 +6,7 @@ use mathlib.Core.Path.{◌≡◌, refl, sym, ap, ◌∙◌}
 use mathlib.Core.Bool.{Bool, true, false, cond, true≢false}
 use mathlib.Core.List.{List, [], ◌∷◌}
 use mathlib.Core.Option.{Option, none, some}
+use Rattle.std.specs.Prelude as code
 use lib.ListN.{drop}
 use Rattle.model.specs.declared.Rule.TheVariants as rule
 use Rattle.model.specs.Lists.{is_empty, is_some, on_some}
@@ -14,10 +15,7 @@ use Rattle.report.specs.Varlist.{refused_line}
 use Rattle.output.specs.Text.{Wrote}
 use Rattle.output.proofs.Writing.{Partly, partly_none, partly-next, partly-all}
 use Rattle.desk.specs.declared.Asked.{Asked}
-use Rattle.desk.specs.declared.Next.{Next}
-use Rattle.desk.specs.declared.Next.TheVariants.{Here, Missing}
 use Rattle.desk.specs.declared.Form.{Form}
-use Rattle.desk.specs.declared.Form.TheVariants.{Right, Wrong}
 use Rattle.desk.specs.Script.{Step, Script, step_at, steps_at, script_of}
 use Rattle.desk.specs.Season.{empty_image, step_played, line_of, step_lines, season_text}
 use Rattle.desk.specs.Reader.{step_in, step_of, form_of, Holds}
@@ -34,14 +32,15 @@ pub record Stepping (s : List ℕ) (b count from : ℕ) : Type 0 where
   pub there : steps_at count (drop from s) ≡ some steps
   pub text : season_text s ≡ step_lines b steps (empty_image b) 0
 
-pub all-steps : (s : List ℕ) (b count from : ℕ) → form_of s (Right b count from) ≡ script_of s → is_some (steps_at count (drop from s)) ≡ true → Stepping s b count from
+pub all-steps : (s : List ℕ) (f : Form) → form_of s (code.Some f) ≡ script_of s → is_some (steps_at f.count (drop f.from s)) ≡ true
+    → Stepping s f.blocks f.count f.from
 unfolding season_text form_of
-all-steps s b count from e h = go (steps_at count (drop from s)) refl h
+all-steps s x e h = go (steps_at x.count (drop x.from s)) refl h
   where
-    its-script : (ts : List Step) → steps_at count (drop from s) ≡ some ts → script_of s ≡ some (record { blocks = b; steps = ts })
-    its-script ts f = sym e ∙ ap (λ (o : Option (List Step)). on_some o (λ l. some (record { blocks = b; steps = l })) none) f
+    its-script : (ts : List Step) → steps_at x.count (drop x.from s) ≡ some ts → script_of s ≡ some (record { blocks = x.blocks; steps = ts })
+    its-script ts f = sym e ∙ ap (λ (o : Option (List Step)). on_some o (λ l. some (record { blocks = x.blocks; steps = l })) none) f
 
-    go : (o : Option (List Step)) → steps_at count (drop from s) ≡ o → is_some o ≡ true → Stepping s b count from
+    go : (o : Option (List Step)) → steps_at x.count (drop x.from s) ≡ o → is_some o ≡ true → Stepping s x.blocks x.count x.from
     go (some ts) f h = record {
       steps = ts;
       there = f;
@@ -50,11 +49,11 @@ all-steps s b count from e h = go (steps_at count (drop from s)) refl h
     go none f h = absurd (true≢false (sym h))
 
 -- what was judged of a script, as it is told
-pub judged-right : (s : List ℕ) {x : Form} {b count from : ℕ} → x ≡ Right b count from → (form_of s x ≡ script_of s) × Holds s x
-    → (form_of s (Right b count from) ≡ script_of s) × Holds s (Right b count from)
+pub judged-right : (s : List ℕ) {x : code.Option Form} {f : Form} → x ≡ code.Some f → (form_of s x ≡ script_of s) × Holds s x
+    → (form_of s (code.Some f) ≡ script_of s) × Holds s (code.Some f)
 judged-right s e l = rw e at l
 
-pub judged-wrong : (s : List ℕ) {x : Form} → x ≡ Wrong → form_of s x ≡ script_of s → refused_line (rule_number rule.Script) ≡ season_text s
+pub judged-wrong : (s : List ℕ) {x : code.Option Form} → x ≡ code.None → form_of s x ≡ script_of s → refused_line (rule_number rule.Script) ≡ season_text s
 unfolding season_text form_of
 judged-wrong s {x} e l =
     ap (λ (o : Option Script). on_some o (λ p. step_lines p.blocks p.steps (empty_image p.blocks) 0) (refused_line (rule_number rule.Script)))
@@ -64,13 +63,13 @@ pub underway-none : {s : List ℕ} {b count from : ℕ} (out : List ℕ) → Ste
 underway-none out p = record { steps = p.steps; there = p.there; text = partly_none 0 out p.text }
 
 module _ {s : List ℕ} {b : ℕ} {whole : List ℕ} {left at : ℕ} {img : List ℕ} {erases : ℕ} {before out : List ℕ} {next : ℕ}
-    (u : Underway s b whole (suc left) at img erases before out next) {x : Next} (read : step_of s x ≡ step_at (drop at s)) where
+    (u : Underway s b whole (suc left) at img erases before out next) {x : code.Option (Asked × ℕ)} (read : step_of s x ≡ step_at (drop at s)) where
   -- there is a step
-  pub never-missing : x ≡ Missing → ⊥
+  pub never-missing : x ≡ code.None → ⊥
   never-missing h = true≢false (sym (ap is_some u.there) ∙ none-there s at x read left h)
 
   -- and its line is the next piece of the text
-  pub underway-next : {a : Asked} {k : ℕ} {out' : List ℕ} {next' : ℕ} → x ≡ Here a k → Wrote (line_of erases (step_played b (step_in s a) img)) next out out' next'
+  pub underway-next : {a : Asked} {k : ℕ} {out' : List ℕ} {next' : ℕ} → x ≡ code.Some (a, k) → Wrote (line_of erases (step_played b (step_in s a) img)) next out out' next'
       → Underway s b whole left k (step_played b (step_in s a) img).image (erases + (step_played b (step_in s a) img).erases) before out' next'
   unfolding step_lines
   underway-next {a} {k} {out'} {next'} h w = go (steps_at left (drop k s)) refl (sym (first-there s at x read left a k h) ∙ u.there)

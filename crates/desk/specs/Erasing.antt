@@ -2,7 +2,6 @@
 use Rattle.std.specs.Prelude.{ℕ, ◌+◌, ◌-◌, min, List, [], ◌∷◌}
 use Rattle.plan.specs.declared.Step.{Step}
 use Rattle.plan.specs.declared.Step.TheVariants.{Nothing, Mark, Erase, Program, Header}
-use Rattle.plan.specs.declared.Op.{Op}
 use Rattle.plan.specs.Plan.{size_of}
 
 abbrev pub erased_of_def : ℕ → Step → ℕ
@@ -12,6 +11,6 @@ erased_of_def n (Erase first count) = min n count
 erased_of_def n (Program at from len) = 0
 erased_of_def n (Header at from) = 0
 
-unfoldable pub erased_in : ℕ → List Op → ℕ
+unfoldable pub erased_in : ℕ → List Step → ℕ
 erased_in n [] = 0
-erased_in n (o ∷ os) = erased_of_def n o.step + erased_in (n - size_of 1 o.step) os
+erased_in n (o ∷ os) = erased_of_def n o + erased_in (n - size_of 1 o) os

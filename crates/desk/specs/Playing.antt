@@ -1,10 +1,13 @@
 -- What was played of a call or a step, by what the code gives back of it.
-use Rattle.std.specs.Prelude.{ℕ, ◌+◌, ◌^◌, ◌≤◌, ◌<◌, ◌≡◌, List, length}
+use Rattle.std.specs.Prelude.{ℕ, ◌+◌, ◌^◌, ◌≤◌, ◌<◌, ◌≡◌, Result, Ok, Err, List, length}
 use Rattle.model.specs.declared.Answer.{Answer}
 use Rattle.model.specs.declared.Answer.TheVariants.{Done, Stopped, Refused}
 use Rattle.model.specs.Set.{Plan}
 use Rattle.model.specs.Answers.{answer_of, stores_of}
-use Rattle.plan.specs.declared.Op.{Op}
+use Rattle.model.specs.declared.Rule.{Rule}
+use Rattle.plan.specs.declared.Step as plan
+use Rattle.plan.specs.declared.Planned.{Planned}
+use Rattle.plan.specs.Planned.{nothings}
 use Rattle.output.specs.Text.{Wrote}
 use Rattle.desk.specs.declared.Played.{Played}
 use Rattle.desk.specs.declared.Lined.{Lined}
@@ -12,8 +15,13 @@ use Rattle.desk.specs.Script.{Step}
 use Rattle.desk.specs.Season as season
 use Rattle.desk.specs.Erasing.{erased_in}
 
+-- the operations of what was planned: none of a call that is refused
+abbrev pub operations_of : Result Planned Rule → List plan.Step
+operations_of (Ok p) = p.plan
+operations_of (Err rule) = nothings
+
 -- what a call made of a plan's operations with n, by its answer: all of its stores, the first n, or none
-abbrev pub counted_as : Answer → List Op → ℕ → Played
+abbrev pub counted_as : Answer → List plan.Step → ℕ → Played
 counted_as (Done stores) ops n = record { answer = Done stores; stores = stores; erases = erased_in stores ops }
 counted_as Stopped ops n = record { answer = Stopped; stores = n; erases = erased_in n ops }
 counted_as (Refused rule) ops n = record { answer = Refused rule; stores = 0; erases = 0 }

@@ -1,29 +1,9 @@
 // The blocks that a plan erases, counted from its operations.
-ghost use Rattle.std.specs.Prelude.{◌≡◌, ◌-◌, ◌≤◌, min, length};
+ghost use Rattle.std.specs.Prelude.{◌≡◌, ◌≤◌, length};
 ghost use Rattle.plan.specs.Plan.{size_of};
 ghost use Rattle.desk.specs.Erasing.{erased_of_def, erased_in};
 
 use plan::{Plan, Step};
-
-// The smaller of two numbers.
-fn least(a: u64, b: u64) -> u64
-    ensures { result ≡ min a b }
-{
-    if a < b {
-        return a;
-    }
-    b
-}
-
-// What is left of a number.
-fn less(a: u64, b: u64) -> u64
-    ensures { result ≡ a - b }
-{
-    if a < b {
-        return 0;
-    }
-    a - b
-}
 
 // The stores of an operation, of one byte or block each.
 fn stores_of(step: Step) -> u64
@@ -43,11 +23,8 @@ fn erased_of(step: Step, n: u64) -> u64
     ensures { result ≡ erased_of_def n step }
 {
     match step {
-        Step::Nothing => 0,
-        Step::Mark(_, _) => 0,
-        Step::Erase(_, count) => least(n, count as u64),
-        Step::Program(_, _, _) => 0,
-        Step::Header(_, _) => 0,
+        Step::Erase(_, count) => n.min(count as u64),
+        Step::Nothing | Step::Mark(_, _) | Step::Program(_, _, _) | Step::Header(_, _) => 0,
     }
 }
 
@@ -55,15 +32,11 @@ fn erased_of(step: Step, n: u64) -> u64
 pub fn erased(plan: Plan, n: u64) -> u64
     ensures { (result ≡ erased_in n plan) × (result ≤ n) }
 {
-    let mut total: u64 = 0;
+    let mut total = 0;
     let mut left = n;
-    let mut i: usize = 0;
-    while i < plan::OPERATIONS {
-        let o = plan[i];
-        let step = o.step;
+    for step in plan {
         total += erased_of(step, left);
-        left = less(left, stores_of(step));
-        i += 1;
+        left = left.saturating_sub(stores_of(step));
     }
     total
 }

@@ -13,33 +13,26 @@ ghost use Rattle.desk.specs.Playing.{Steps};
 
 use model::{Answer, Layout, Rule};
 use profile::Setting;
-use region::{Turn, walk};
+use region::walk;
 
 mod erases;
 mod play;
 mod script;
 mod text;
 
-// What a step of a script asks: whether it is cut, after how many stores, and its item.
+// What a step of a script asks: after how many stores it is cut, if it is, and its item.
 #[derive(Clone, Copy)]
 pub struct Asked {
-    pub cut: bool,
-    pub limit: usize,
+    pub limit: Option<usize>,
     pub item: Setting,
-}
-
-// A step that was read, and the place after it.
-#[derive(Clone, Copy)]
-pub enum Next {
-    Here(Asked, usize),
-    Missing,
 }
 
 // Of a script that is right: b, the number of its steps, and the place of the first one.
 #[derive(Clone, Copy)]
-pub enum Form {
-    Right(usize, usize, usize),
-    Wrong,
+pub struct Form {
+    pub blocks: usize,
+    pub count: usize,
+    pub from: usize,
 }
 
 // What was played: the answer, the stores, and the blocks that these erased.
@@ -65,13 +58,10 @@ fn tail(region: &[u8]) -> usize
     ensures { result ≡ tail_at region.now }
 {
     let mut at = layout::REGION_HEADER;
-    loop {
-        let t = walk::turn(Layout::AUTHENTICATED, region, at);
-        let Turn::Entry(_, next) = t else {
-            return at;
-        };
+    while let Some((_, next)) = walk::turn(Layout::AUTHENTICATED, region, at) {
         at = next;
     }
+    at
 }
 
 // A step after so many erases: played, and its line written.
@@ -98,33 +88,33 @@ fn step(
 // The steps of a script that is right, from an empty image on.
 fn play_all(
     script: &[u8],
-    b: usize,
-    count: usize,
-    from: usize,
+    form: Form,
     image: &mut [u8],
     content: &mut [u8; layout::CONTENT],
     out: &mut [u8],
 ) -> usize
-    requires { (form_of script.now (Form.Right b count from) ≡ script_of script.now)
-        × Holds script.now (Form.Right b count from)
-        × (length image.old ≡ block * (2 * b + 1)) }
+    requires { (form_of script.now (Some form) ≡ script_of script.now)
+        × Holds script.now (Some form)
+        × (length image.old ≡ block * (2 * form.blocks + 1)) }
     ensures { Wrote (season_text script.now) 0 out.old out.new result × (result ≤ 46000) }
 {
-    play::empty(b, image, content);
+    let Form {
+        blocks,
+        count,
+        from,
+    } = form;
+    play::empty(blocks, image, content);
     let mut at = from;
-    let mut next: usize = 0;
-    let mut erases: u64 = 0;
-    let mut i: usize = 0;
-    while i < count {
-        let t = script::step(script, at);
-        let Next::Here(asked, after) = t else {
+    let mut next = 0;
+    let mut erases = 0;
+    for _ in 0..count {
+        let Some((asked, after)) = script::step(script, at) else {
             return next;
         };
-        let l = step(b, script, asked, erases, image, content, out, next);
-        next = l.next;
-        erases = l.erases;
+        let line = step(blocks, script, asked, erases, image, content, out, next);
+        next = line.next;
+        erases = line.erases;
         at = after;
-        i += 1;
     }
     next
 }
@@ -132,20 +122,18 @@ fn play_all(
 // The same, in the front of a larger image: as many bytes as an image of b blocks has.
 fn play_in(
     script: &[u8],
-    b: usize,
-    count: usize,
-    from: usize,
+    form: Form,
     image: &mut [u8],
     content: &mut [u8; layout::CONTENT],
     out: &mut [u8],
 ) -> usize
-    requires { (form_of script.now (Form.Right b count from) ≡ script_of script.now)
-        × Holds script.now (Form.Right b count from)
+    requires { (form_of script.now (Some form) ≡ script_of script.now)
+        × Holds script.now (Some form)
         × (length image.old ≡ 61440) }
     ensures { Wrote (season_text script.now) 0 out.old out.new result × (result ≤ 46000) }
 {
-    let size = layout::BLOCK * (2 * b + 1);
-    play_all(script, b, count, from, &mut image[..size], content, out)
+    let size = layout::BLOCK * (2 * form.blocks + 1);
+    play_all(script, form, &mut image[..size], content, out)
 }
 
 // What is printed of a script, whole. It is played in the image and the content: what these hold before does not matter, and what they hold after is left open. 46,000 bytes
@@ -158,9 +146,8 @@ pub fn season(
 ) -> usize
     ensures { Wrote (season_text script.now) 0 out.old out.new result × (result ≤ 46000) }
 {
-    let f = script::judge(script);
-    match f {
-        Form::Right(b, count, from) => play_in(script, b, count, from, image, content, out),
-        Form::Wrong => text::put_refused(out, Rule::Script),
+    match script::judge(script) {
+        Some(form) => play_in(script, form, image, content, out),
+        None => text::put_refused(out, Rule::Script),
     }
 }

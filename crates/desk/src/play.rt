@@ -9,16 +9,16 @@ ghost use Rattle.decision.specs.Decision.{request_of};
 ghost use Rattle.profile.specs.Reader.{request_in, Within};
 ghost use Rattle.desk.specs.Season.{empty_image, no_tenant_def, no_limits_def, desk_setup, desk_session, desk_context, played_whole, step_played};
 ghost use Rattle.desk.specs.Reader.{step_in};
-ghost use Rattle.desk.specs.Playing.{counted_as, Plays, PlaysUpTo};
+ghost use Rattle.desk.specs.Playing.{operations_of, counted_as, Plays, PlaysUpTo};
 
 use crate::{Asked, Played, erases};
 use decision::Asking;
-use model::{Answer, Context, Tenant, Terms};
-use plan::Plan;
+use model::{Answer, Context, Rule, Tenant, Terms};
+use plan::{Plan, Planned};
 use profile::Setting;
 
 // The n that stops no call: no list of stores is as long.
-const NO_LIMIT: u64 = 0xFFFFFFFFFFFFFFFF;
+const NO_LIMIT: u64 = u64::MAX;
 
 // A table of rules for settings that holds none.
 fn no_limits() -> [u8; 6912]
@@ -67,6 +67,16 @@ fn terms(b: usize, name: &[u8], vendor: &[u8; 16]) -> Terms
     let tenant = no_tenant();
     let said = session::terms_for(false, 0, 0, 0, 0, share(b), tenant, 0);
     session::terms(said, false, name, vendor)
+}
+
+// The operations of what was planned: none of a call that is refused.
+fn operations(planned: Result<Planned, Rule>) -> Plan
+    ensures { result ≡ operations_of planned }
+{
+    match planned {
+        Ok(planned) => planned.plan,
+        Err(_) => plan::nothing(),
+    }
 }
 
 // What a call made, by its answer: all of its stores, the first n, or none; and the blocks that these erase.
@@ -118,7 +128,7 @@ fn set(
     let planned = engine::write::plan_set(
         said, &limits, image, name, vendor, asking, bytes, content,
     );
-    let plan = planned.plan;
+    let plan = operations(planned);
     let answer = engine::write::set(
         context(n),
         said,
@@ -167,7 +177,7 @@ fn start_up(b: usize, image: &mut [u8], content: &mut [u8; layout::CONTENT]) -> 
     let tenant = no_tenant();
     let own = share(b);
     let planned = engine::start::plan_start_up(own, 0, tenant, image, content);
-    let plan = planned.plan;
+    let plan = operations(planned);
     let answer = engine::start::start_up(context(NO_LIMIT), own, 0, tenant, image, content);
     counted(answer, plan, NO_LIMIT)
 }
@@ -183,18 +193,17 @@ pub fn step(
     requires { (1 ≤ b) × (b ≤ 7) × (length image.old ≤ 61440) × Within (length script.now) asked.item }
     ensures { Plays (2 ^ 21) (step_played b (step_in script.now asked) image.old) result image.new }
 {
-    let item = asked.item;
-    if asked.cut {
-        let p = set_item(b, script, item, asked.limit as u64, image, content);
-        let q = start_up(b, image, content);
-        let answer = p.answer;
-        return Played {
-            answer,
-            stores: p.stores + q.stores,
-            erases: p.erases + q.erases,
-        };
+    let Asked { limit, item } = asked;
+    let Some(n) = limit else {
+        return set_item(b, script, item, NO_LIMIT, image, content);
+    };
+    let p = set_item(b, script, item, n as u64, image, content);
+    let q = start_up(b, image, content);
+    Played {
+        answer: p.answer,
+        stores: p.stores + q.stores,
+        erases: p.erases + q.erases,
     }
-    set_item(b, script, item, NO_LIMIT, image, content)
 }
 
 // The empty image: what formatting leaves.

@@ -37,7 +37,7 @@ fn put_word(out: &mut [u8], at: usize, answer: Answer) -> usize
     match answer {
         Answer::Done(_) => output::put_bytes(out, at, b"done"),
         Answer::Stopped => output::put_bytes(out, at, b"stopped"),
-        Answer::Refused(rule) => put_field(out, at, b"refused ", model::number(rule) as u64),
+        Answer::Refused(rule) => put_field(out, at, b"refused ", u64::from(u32::from(rule))),
     }
 }
 
@@ -58,6 +58,6 @@ pub fn put_line(out: &mut [u8], at: usize, p: Played, tail: usize, erases: u64) 
 pub fn put_refused(out: &mut [u8], rule: Rule) -> usize
     ensures { Wrote (refused_line (rule_number rule)) 0 out.old out.new result × (result ≤ 29) }
 {
-    let next = put_field(out, 0, b"refused ", model::number(rule) as u64);
+    let next = put_field(out, 0, b"refused ", u64::from(u32::from(rule)));
     output::put_byte(out, next, b'\n')
 }

@@ -10,11 +10,11 @@ pub slice_bounds-play_all-end-2 : goal.slice_bounds-play_all-end-2
 slice_bounds-play_all-end-2 c =
     let a = c.args in
     let p = c.requires in
-    sym (length-take-le (4096 * (2 * a.b + 1)) a.image.now (omega (arith, p.1.1, p.2)))
+    sym (length-take-le (4096 * (2 * a.form.blocks + 1)) a.image.now (omega (arith, p.1.1, p.2)))
 
 pub play_all-requires : goal.play_all-requires
 unfolding block
 play_all-requires c =
     let a = c.args in
     let p = c.requires in
-    (p.0, p.1, length-take-le (4096 * (2 * a.b + 1)) a.image.now (omega (arith, p.1.1, p.2)))
+    (p.0, p.1, length-take-le (4096 * (2 * a.form.blocks + 1)) a.image.now (omega (arith, p.1.1, p.2)))

@@ -1,5 +1,4 @@
--- `desk::tail` meets its contract. The loop's invariant: the walk from the first entry on ends where the walk from this place on does. Assumes nothing.
-use mathlib.Core.Path.{refl, sym, ap, ◌∙◌}
+use Rattle.std.proofs.Common.{refl, sym, ap, ◌∙◌}
 use Rattle.model.specs.Walk.{walk_end_def}
 use Rattle.model.specs.Region.{entries_in, tail_at_in}
 use Rattle.model.specs.Beside.{from_in}
@@ -11,15 +10,14 @@ pub loop-next-init : goal.loop-next-init
 unfolding tail_at_in entries_in from_in
 loop-next-init c = refl
 
-pub returns-in_default : goal.returns-in_default
-unfolding walk_end_def
-returns-in_default c =
-    let l = c in
-    let e = at-end c.turn-t.ensures c.in_default.is in
-    sym (l.loop-next.invariant ∙ ap (walk_end_def l.loop-next.at) e.walk)
-
 pub loop-next-smaller : goal.loop-next-smaller
-loop-next-smaller c = (at_entry c.turn-t.ensures c.in-Entry.is).less
+loop-next-smaller c = (at_entry c.turn.ensures c.in-Some.is).less
 
 pub loop-next-preserved : goal.loop-next-preserved
-loop-next-preserved c = c.loop-next.invariant ∙ tail-next (at_entry c.turn-t.ensures c.in-Entry.is)
+loop-next-preserved c = c.loop-next.invariant ∙ tail-next (at_entry c.turn.ensures c.in-Some.is)
+
+pub returns : goal.returns
+unfolding walk_end_def
+returns c =
+    let e = at-end c.turn.ensures c.in_default.is in
+    sym (c.loop-next.invariant ∙ ap (walk_end_def c.loop-next.at) e.walk)

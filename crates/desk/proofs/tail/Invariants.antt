@@ -1,7 +1,5 @@
 -- `desk::tail` meets its contract. The loop's invariant: the walk from the first entry on ends where the walk from this place on does. Assumes nothing.
-use Prim.Native.Nat.{◌-◌}
-use mathlib.Core.Path.{◌≡◌}
-use lib.ListN.{length}
+use Rattle.std.proofs.Common.{◌≡◌, ◌-◌, length}
 use Rattle.model.specs.Walk.{walk_end_def}
 use Rattle.model.specs.Region.{tail_at}
 use Rattle.model.specs.Beside.{from}

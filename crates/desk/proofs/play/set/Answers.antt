@@ -34,5 +34,5 @@ returns c =
     let desk = c.context.ensures in
     let told = made.0.0 ∙ ap (λ (x : Context). outcome x plan img) desk in
     let left = made.0.1 ∙ ap (λ (x : Context). image_after x plan img) desk in
-    rw c.counted.ensures.0
-    (planned-plays a.n plan img _ _ _ _ c.set-answer.result c.requires.2 planned told left c.counted.ensures.1)
+    rw (c.counted.ensures.0, c.operations-plan.ensures)
+    (planned-plays a.n plan img _ _ _ c.set-answer.result c.requires.2 c.plan_set-planned.result planned told left (rw (sym c.operations-plan.ensures) c.counted.ensures.1))

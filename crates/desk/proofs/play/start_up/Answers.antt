@@ -26,6 +26,6 @@ returns c =
     let told = made.0.0 ∙ ap (λ (x : Context). outcome x plan img) desk in
     let left = made.0.1 ∙ ap (λ (x : Context). image_after x plan img) desk in
     let n : ℕ = 0xFFFFFFFFFFFFFFFF in
-    let p = planned-plays n plan img _ _ _ _ c.start_up-answer.result c.requires.2 planned told left c.counted.ensures.1 in
+    let p = planned-plays n plan img _ _ _ c.start_up-answer.result c.requires.2 c.plan_start_up-planned.result planned told left (rw (sym c.operations-plan.ensures) c.counted.ensures.1) in
     let whole : length (stores_of 1 plan) ≤ n = omega (arith, p.short) in
-    rw (c.counted.ensures.0, ← played-whole n plan img whole) p.plays
+    rw (c.counted.ensures.0, c.operations-plan.ensures, ← played-whole n plan img whole) p.plays

@@ -2,12 +2,12 @@
 use Rattle.desk.proofs.Playing.{step_cut, step-whole}
 use Rattle.desk.proofs.play.step.Goals as goal
 
-pub returns-then-asked : goal.returns-then-asked
-returns-then-asked c =
+pub returns-in_default : goal.returns-in_default
+returns-in_default c =
     let a = c.args in
-    step_cut a.b a.script.now a.asked a.image.now _ c.if-asked.true c.set_item-p.ensures c.start_up-q.ensures
+    step-whole a.b a.script.now a.asked a.image.now _ c.in_default.is c.set_item.ensures
 
 pub returns : goal.returns
 returns c =
     let a = c.args in
-    step-whole a.b a.script.now a.asked a.image.now _ c.if-asked.false c.set_item.ensures
+    step_cut a.b a.script.now a.asked a.image.now _ c.in-Some.is c.set_item-p.ensures c.start_up-q.ensures

@@ -4,21 +4,18 @@ use Rattle.desk.specs.Reader.{step_of}
 use Rattle.desk.proofs.Steps.{no-delete, without-data, with-data, found-ends}
 use Rattle.desk.proofs.script.delete.Goals as goal
 
-pub returns-in_default : goal.returns-in_default
-returns-in_default c =
+pub returns-in_err-item : goal.returns-in_err-item
+returns-in_err-item c =
     let a = c.args in
-    let x = c.item-i in
-    (no-delete a.s.now a.at x.result x.ensures.0 c.in_default.is, tt)
+    rw c.from_residual.ensures (no-delete a.s.now a.at c.item.result c.item.ensures.0 c.in_err-item.was, tt)
 
-pub returns-then-item-eq0 : goal.returns-then-item-eq0
-unfolding item_of step_of
-returns-then-item-eq0 c =
+pub returns-then-item-ne0 : goal.returns-then-item-ne0
+returns-then-item-ne0 c =
     let a = c.args in
-    let x = c.item-i in
-    (without-data a.s.now a.at x.result x.ensures.0 _ _ c.in-Here.is c.if-item-eq0.true, found-ends c.in-Here.is x.ensures.1)
+    (with-data a.s.now a.at c.item.result c.item.ensures.0 _ _ c.in_ok-item.was c.if-item-ne0.true (found-ends c.in_ok-item.was c.item.ensures.1).1, tt)
 
 pub returns : goal.returns
+unfolding item_of step_of
 returns c =
     let a = c.args in
-    let x = c.item-i in
-    (with-data a.s.now a.at x.result x.ensures.0 _ _ c.in-Here.is c.if-item-eq0.false (found-ends c.in-Here.is x.ensures.1).1, tt)
+    (without-data a.s.now a.at c.item.result c.item.ensures.0 _ _ c.in_ok-item.was c.if-item-ne0.false, found-ends c.in_ok-item.was c.item.ensures.1)

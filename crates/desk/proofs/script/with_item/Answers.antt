@@ -4,17 +4,15 @@ use Rattle.desk.specs.Reader.{cut_at, step_of}
 use Rattle.desk.proofs.Steps.{no_item, one-item, found-ends}
 use Rattle.desk.proofs.script.with_item.Goals as goal
 
-pub returns-in_default : goal.returns-in_default
-returns-in_default c =
+pub returns-in_err-item : goal.returns-in_err-item
+returns-in_err-item c =
     let a = c.args in
-    let x = c.item-i in
-    (no_item a.s.now a.at x.result x.ensures.0 (cut_at a.cut a.limit) c.in_default.is, tt)
+    rw c.from_residual.ensures (no_item a.s.now a.at c.item.result c.item.ensures.0 (cut_at a.limit) c.in_err-item.was, tt)
 
 pub returns : goal.returns
 unfolding item_of step_of
 returns c =
-    let a = c.args in
-    let x = c.item-i in (
-      one-item a.s.now a.at x.result x.ensures.0 (cut_at a.cut a.limit) _ _ c.in-Here.is,
-      found-ends c.in-Here.is x.ensures.1,
+    let a = c.args in (
+      one-item a.s.now a.at c.item.result c.item.ensures.0 (cut_at a.limit) _ _ c.in_ok-item.was,
+      found-ends c.in_ok-item.was c.item.ensures.1,
     )

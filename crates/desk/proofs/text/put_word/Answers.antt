@@ -1,6 +1,6 @@
 -- `desk::text::put_word` meets its contract: a word for each answer. Assumes nothing.
 use native.Mathlib.Omega.{arith}
-use mathlib.Core.Path.{ap}
+use mathlib.Core.Path.{ap, ◌∙◌}
 use Rattle.output.specs.Text.{ascii}
 use Rattle.output.proofs.Writing.{wrote_as}
 use Rattle.report.specs.Varlist.{field}
@@ -22,6 +22,6 @@ returns-in-Stopped c =
 pub returns-in-Refused : goal.returns-in-Refused
 unfolding word_of ascii
 returns-in-Refused c =
-    let rule = ap (field (ascii "refused ")) c.number.ensures in
+    let rule = ap (field (ascii "refused ")) (c.from-in-Refused.ensures ∙ c.from.ensures) in
     let word = c.put_field.ensures in
     (rw c.in-Refused.is (wrote_as rule word.0), omega (arith, word.1))
