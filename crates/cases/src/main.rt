@@ -1,31 +1,26 @@
 // cases: for each file that an argument names, its name, and what varlist prints of it if it is an image, or the lines of its steps if it is a
-// script of calls.
+// script of calls. What standard output does not take is lost.
 #![tactic(auto)]
 
-mod fields;
 mod many;
 mod play;
 mod print;
 mod rules;
+mod step;
 mod tenants;
 
 use std::rt::{Env, Files};
 use std::{fs, io, str};
 
-// Whether a path ends as a script's does.
-fn is_script(path: &[u8]) -> bool {
-    if path.len() < 6 {
-        return false;
-    }
-    slices::equal(&path[path.len() - 6..], b".calls")
-}
+// As a script's path ends.
+const SCRIPT: &[u8] = b".calls";
 
 fn run(rt: &impl Print, path: &[u8], bytes: &[u8]) {
-    if is_script(path) {
+    if path.ends_with(SCRIPT) {
         play::play(rt, bytes);
-        return;
+    } else {
+        play::varlist(rt, bytes);
     }
-    play::varlist(rt, bytes);
 }
 
 // The file of a path, to be read. A path is text.
@@ -37,8 +32,8 @@ fn open<R: Files>(rt: &R, path: &[u8]) -> io::Result<R::File> {
 }
 
 fn run_file(rt: &(impl Files + Print + Eprint), path: &[u8]) {
-    print::word(rt, path);
-    print::end(rt);
+    let _ = rt.write_all(path);
+    let _ = println!(rt);
     let mut bytes = [0; 65536];
     let (n, _) = match open(rt, path) {
         Ok(file) => streams::read_full(file, &mut bytes),
@@ -51,7 +46,7 @@ fn run_file(rt: &(impl Files + Print + Eprint), path: &[u8]) {
     run(rt, path, &bytes[..n]);
 }
 
-// Whether there is an argument i; its file is run.
+// The file of an argument is run; whether there is such an argument.
 fn run_arg(rt: &(impl Env + Files + Print + Eprint), i: usize) -> bool {
     let mut path = [0; 4096];
     let n = rt.arg(i, &mut path).unwrap_or(0);
@@ -63,8 +58,9 @@ fn run_arg(rt: &(impl Env + Files + Print + Eprint), i: usize) -> bool {
 }
 
 fn main(rt: HostRuntime) {
-    let mut i: usize = 1;
-    while i < 100000 && run_arg(&rt, i) {
-        i += 1;
+    for i in 1..100000 {
+        if !run_arg(&rt, i) {
+            return;
+        }
     }
 }

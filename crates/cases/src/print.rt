@@ -1,60 +1,56 @@
-// Parts of a line, written to standard output. What that does not take is lost.
+// Parts of a line, as they are printed.
 use model::{Answer, Session};
+use std::fmt;
 
-pub(crate) fn word(rt: &impl Print, text: &[u8]) {
-    let _ = rt.write_all(text);
-}
+// Bytes in hexadecimal.
+#[derive(Clone, Copy)]
+pub(crate) struct Hex<'a>(pub &'a [u8]);
 
-pub(crate) fn number(rt: &impl Print, text: &[u8], n: u64) {
-    word(rt, text);
-    let _ = rt.print(n);
-}
-
-// Bytes in hexadecimal, at most as many as an image has.
-pub(crate) fn hex(rt: &impl Print, text: &[u8], bytes: &[u8]) {
-    word(rt, text);
-    let mut out = digits();
-    let n = output::put_hex(&mut out, 0, crate::fields::bytes(bytes, 0, 65536));
-    word(rt, slices::cut(&out, 0, n));
-}
-
-// Two digits for each byte of the largest buffer.
-fn digits() -> [u8; 131072] {
-    [0; 131072]
-}
-
-// What a call answered; whether it is done.
-pub(crate) fn answer(rt: &impl Print, call: &[u8], a: Answer) -> bool {
-    word(rt, call);
-    match a {
-        Answer::Done(stores) => {
-            number(rt, b" done ", stores);
-            true
+impl fmt::Display for Hex<'_> {
+    fn fmt<W: fmt::Write>(&self, f: &mut fmt::Formatter<W>) -> fmt::Result {
+        for byte in self.0 {
+            write!(f, "{byte:02X}")?;
         }
-        Answer::Stopped => {
-            word(rt, b" stopped");
-            false
-        }
-        Answer::Refused(rule) => {
-            number(rt, b" refused ", model::number(rule) as u64);
-            false
+        Ok(())
+    }
+}
+
+// What a call answered.
+#[derive(Clone, Copy)]
+pub(crate) struct Told(pub Answer);
+
+impl fmt::Display for Told {
+    fn fmt<W: fmt::Write>(&self, f: &mut fmt::Formatter<W>) -> fmt::Result {
+        match self.0 {
+            Answer::Done(stores) => write!(f, "done {stores}"),
+            Answer::Stopped => write!(f, "stopped"),
+            Answer::Refused(rule) => write!(f, "refused {}", u32::from(rule)),
         }
     }
 }
 
 // The size needed, where a call tells one.
-pub(crate) fn needed(rt: &impl Print, n: u32) {
-    if 0 < n {
-        number(rt, b" needed ", n as u64);
+#[derive(Clone, Copy)]
+pub(crate) struct Needed(pub u32);
+
+impl fmt::Display for Needed {
+    fn fmt<W: fmt::Write>(&self, f: &mut fmt::Formatter<W>) -> fmt::Result {
+        let needed = self.0;
+        if needed == 0 {
+            return Ok(());
+        }
+        write!(f, " needed {needed}")
     }
 }
 
 // Phase and number of locks.
-pub(crate) fn session(rt: &impl Print, s: Session) {
-    number(rt, b" phase ", s.phase as u64);
-    number(rt, b" count ", s.count as u64);
-}
+#[derive(Clone, Copy)]
+pub(crate) struct Held<'a>(pub &'a Session);
 
-pub(crate) fn end(rt: &impl Print) {
-    word(rt, b"\n");
+impl fmt::Display for Held<'_> {
+    fn fmt<W: fmt::Write>(&self, f: &mut fmt::Formatter<W>) -> fmt::Result {
+        let phase = self.0.phase;
+        let count = self.0.count;
+        write!(f, "phase {phase} count {count}")
+    }
 }
