@@ -9,7 +9,8 @@ ghost use Rattle.model.specs.Beside.{asked_bytes, asked_at};
 ghost use Rattle.query.specs.Many.{key_bytes, leads, Indexed, within, noted_at, none_met_def, met_as, NotedIn, Noted, AllMet};
 
 use model::Layout;
-use region::{Met, Placed, judge, marks, walk};
+use region::walk::{self, Stored};
+use region::{Met, Placed, judge, marks};
 use std::ops::Range;
 
 // How many bytes a place has.
@@ -176,13 +177,12 @@ pub fn find(region: &[u8], keys: &[u8], sizes: &[u32], found: &mut [Offsets])
 {
     let mut table = marks::no_marks();
     index(keys, sizes, &mut table);
-    let mut at: usize = layout::REGION_HEADER;
-    while let Some((entry, next)) = walk::turn(Layout::AUTHENTICATED, region, at) {
+    for e in walk::entries(Layout::AUTHENTICATED, region) {
+        let Stored { at, entry, .. } = e;
         let mark = marks::mark_of(Layout::AUTHENTICATED, &region[at..], entry);
         let told = table[mark.place];
         if told != 0 {
             note_entry(region, Placed { at, entry }, told, keys, sizes, found);
         }
-        at = next;
     }
 }
