@@ -27,19 +27,6 @@ use Rattle.region.specs.declared.Survey.{Survey}
 use Rattle.region.proofs.Turns.{Turned, Ended}
 use Rattle.region.proofs.Passing.{Passing, at_place, up-past, up_more, up-end, up-all}
 
--- ---- one entry before a list
-
-module _ (f : walk.Entry → Bool) {l : List walk.Entry} where
-  pub meeting-none : l ≡ [] → None ≡ first_at f l
-  meeting-none p = rw p
-
-  pub meeting-behind : {x : walk.Entry} {es : List walk.Entry} → l ≡ x ∷ es → f x ≡ false → {o : Option ℕ} → o ≡ first_at f es → o ≡ first_at f l
-  meeting-behind p h m = rw (p, h) m
-
-pub meeting-here : (form : Layout) (r : List ℕ) (at : ℕ) (e : numbers.Entry) (f : walk.Entry → Bool) {l es : List walk.Entry} → l ≡ entry_as form r at e ∷ es
-    → f (entry_as form r at e) ≡ true → Some at ≡ first_at f l
-meeting-here form r at e f p h = rw (p, h, at_place form r at e)
-
 -- ---- one entry more in a list
 
 module _ (f : walk.Entry → Bool) where
