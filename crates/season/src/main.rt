@@ -1,17 +1,9 @@
 // season: reads a script on standard input, plays it on an empty image, and prints a line for each of its steps; or that it is refused.
 #![tactic(auto)]
 
-ghost use Rattle.std.specs.Prelude.{◌≡◌, length};
-
-// One byte more than a script may have, so that a longer one is seen.
-fn input() -> [u8; 65537]
-    ensures { 65537 ≡ length result }
-{
-    [0; 65537]
-}
-
 fn main(rt: HostRuntime) {
-    let mut script = input();
+    // one byte more than a script may have, so that a longer one is seen
+    let mut script = [0; 65537];
     // what a read that fails leaves is the front of a script, which is none
     let (n, _) = streams::read_full(rt.stdin(), &mut script);
     let mut image = [0; desk::LARGEST_IMAGE];
