@@ -47,10 +47,7 @@ fn plan_items(
         stores,
     } = decision::items::weigh(said, held, locks, limits, region, file, settings);
     match what? {
-        Change::Nothing | Change::Remove => Ok(Planned {
-            plan: plan::nothing(),
-            deciding: None,
-        }),
+        Change::Nothing | Change::Remove => plan::accept(plan::nothing(), None),
         Change::Put => Ok(planner::items::fold(
             image,
             ready.blocks,

@@ -23,18 +23,18 @@ use session::Locks;
 use values::lookup;
 
 // "A mode alone is stored as a set stores": PlatMode's value is put.
-fn plan_alone(image: &[u8], standing: Standing, byte: u8, content: &mut [u8]) -> Planned
+fn plan_alone(image: &[u8], standing: Standing, byte: u8, content: &mut [u8]) -> Result<Planned, Rule>
     requires { Asked image.now standing.ready.blocks standing.ready.tail standing.ready.used standing.places (mode_value byte) × (length content.old ≡ 28672) }
-    ensures { PutPlanned image.now (mode_value byte) content.new (Ok result) }
+    ensures { PutPlanned image.now (mode_value byte) content.new result }
 {
     let name = fixed::mode_name();
     let vendor = fixed::global_vendor();
     let stamp = [0; 16];
     let data = [byte];
     let none = slices::cut(&data, 0, 0);
-    planner::put::put_value(
+    Ok(planner::put::put_value(
         image, standing, &name, &vendor, 0x07, &stamp, none, &data, content,
-    )
+    ))
 }
 
 // "user to audit, losing PK": one compaction, without PK's entry and PlatMode's, at these offsets, and with PlatMode's value last.
@@ -45,13 +45,13 @@ fn plan_losing(
     there: Option<usize>,
     byte: u8,
     content: &mut [u8],
-) -> Planned
+) -> Result<Planned, Rule>
     requires { Joinable image.now ready.blocks ready.used (Some pk) there false no_value byte × (length content.old ≡ 28672) }
-    ensures { FoldPlanned image.now (joint_changes false no_value byte) content.new (Ok result) }
+    ensures { FoldPlanned image.now (joint_changes false no_value byte) content.new result }
 {
     let zeros = [0; 16];
     let none = slices::cut(image, 0, 0);
-    planner::joint::fold(
+    Ok(planner::joint::fold(
         image,
         ready.blocks,
         ready.used,
@@ -66,7 +66,7 @@ fn plan_losing(
         none,
         byte,
         content,
-    )
+    ))
 }
 
 // A mode request over an image that is ready: rules 22, 6, 24 and 13, then the mode alone, or with it PK's loss.
@@ -94,18 +94,15 @@ fn plan_ready(
         places,
     } = modes::decide(said, held, locks, region, to);
     match what? {
-        Change::Nothing | Change::Remove => Ok(Planned {
-            plan: plan::nothing(),
-            deciding: None,
-        }),
+        Change::Nothing | Change::Remove => plan::accept(plan::nothing(), None),
         Change::Put => match pk {
             Some(pk) => {
                 let there = modes::offset(lookup::standing(places));
-                Ok(plan_losing(image, ready, pk, there, byte, content))
+                plan_losing(image, ready, pk, there, byte, content)
             }
             None => {
                 let standing = Standing { ready, places };
-                Ok(plan_alone(image, standing, byte, content))
+                plan_alone(image, standing, byte, content)
             }
         },
     }

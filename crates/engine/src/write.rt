@@ -35,19 +35,19 @@ fn plan_put(
     bytes: &[u8],
     value: NewValue,
     content: &mut [u8],
-) -> Planned
+) -> Result<Planned, Rule>
     requires { Asked image.now standing.ready.blocks standing.ready.tail standing.ready.used standing.places
         (value_by region.now name.now vendor.now bytes.now (else_found standing.places.added standing.places.replacing) value)
         × (length content.old ≡ 28672) }
     ensures { PutPlanned image.now
         (value_by region.now name.now vendor.now bytes.now (else_found standing.places.added standing.places.replacing) value)
-        content.new (Ok result) }
+        content.new result }
 {
     let places = standing.places;
     let stamp = value.stamp;
     let kept = decision::kept(region, places, value.keeps);
     let own = slices::from(bytes, value.own);
-    planner::put::put_value(
+    Ok(planner::put::put_value(
         image,
         standing,
         name,
@@ -57,7 +57,7 @@ fn plan_put(
         kept,
         own,
         content,
-    )
+    ))
 }
 
 // The byte that comes in the place of PlatMode's value: 3, or none.
@@ -80,21 +80,21 @@ fn plan_joint(
     mode: usize,
     deploys: bool,
     content: &mut [u8],
-) -> Planned
+) -> Result<Planned, Rule>
     requires { Joinable image.now standing.ready.blocks standing.ready.used (offset_of (else_found standing.places.added standing.places.replacing)) (Some mode) comes
         (value_by region.now name.now vendor.now bytes.now (else_found standing.places.added standing.places.replacing) value) (byte_by deploys)
         × (length content.old ≡ 28672) }
     ensures { FoldPlanned image.now (joint_changes comes
         (value_by region.now name.now vendor.now bytes.now (else_found standing.places.added standing.places.replacing) value)
         (byte_by deploys))
-        content.new (Ok result) }
+        content.new result }
 {
     let places = standing.places;
     let stamp = value.stamp;
     let pk = decision::modes::offset(lookup::standing(places));
     let kept = decision::kept(region, places, value.keeps);
     let own = slices::from(bytes, value.own);
-    planner::joint::fold(
+    Ok(planner::joint::fold(
         image,
         standing.ready.blocks,
         standing.ready.used,
@@ -109,7 +109,7 @@ fn plan_joint(
         own,
         byte(deploys),
         content,
-    )
+    ))
 }
 
 // A set over an image that is ready: rules 3 to 13, 17, 18, 21, 22 and 24, then what it does to the values.
@@ -148,24 +148,18 @@ fn plan_ready(
     );
     let standing = Standing { ready, places };
     match what? {
-        Change::Nothing => Ok(Planned {
-            plan: plan::nothing(),
-            deciding: None,
-        }),
+        Change::Nothing => plan::accept(plan::nothing(), None),
         Change::Remove => match beside {
-            Some(mode) => Ok(plan_joint(
+            Some(mode) => plan_joint(
                 image, region, standing, false, name, vendor, bytes, value, mode, deploys, content,
-            )),
-            None => Ok(Planned {
-                plan: planner::entries::delete(places),
-                deciding: Some(1),
-            }),
+            ),
+            None => plan::accept(planner::entries::delete(places), Some(1)),
         },
         Change::Put => match beside {
-            Some(mode) => Ok(plan_joint(
+            Some(mode) => plan_joint(
                 image, region, standing, true, name, vendor, bytes, value, mode, deploys, content,
-            )),
-            None => Ok(plan_put(image, region, standing, name, vendor, bytes, value, content)),
+            ),
+            None => plan_put(image, region, standing, name, vendor, bytes, value, content),
         },
     }
 }

@@ -1,8 +1,8 @@
 // The operations of a call on the image, as data: a planner makes them from the image lent shared, the executor of `flash` carries them out.
 #![tactic(auto)]
 
-ghost use Rattle.std.specs.Prelude.{◌≡◌};
-ghost use Rattle.plan.specs.Planned.{nothings};
+ghost use Rattle.std.specs.Prelude.{◌≡◌, Ok};
+ghost use Rattle.plan.specs.Planned.{accepted, nothings};
 ghost use Rattle.plan.specs.Numbers.{operation_of, operations_of, in_numbers_def};
 
 use model::{Layout, Rule};
@@ -43,6 +43,13 @@ pub fn nothing() -> Plan
     ensures { result ≡ nothings }
 {
     [Step::Nothing; OPERATIONS]
+}
+
+// A call that is to carry out a plan.
+pub fn accept(plan: Plan, deciding: Option<usize>) -> Result<Planned, Rule>
+    ensures { result ≡ Ok (accepted plan deciding) }
+{
+    Ok(Planned { plan, deciding })
 }
 
 // One operation in numbers, as a host reads it: kind 0 none; 1 a mark: the byte at `at` becomes `from` (len 1); 2 an erase: `len` blocks from block `at` on;
@@ -110,7 +117,11 @@ impl From<Step> for HostOp {
 fn operations(plan: Plan) -> [HostOp; OPERATIONS]
     ensures { result ≡ operations_of plan }
 {
-    plan.map(HostOp::from)
+    let mut ops = [HostOp::from(Step::Nothing); OPERATIONS];
+    for i in 0..OPERATIONS {
+        ops[i] = HostOp::from(plan[i]);
+    }
+    ops
 }
 
 // What was planned for a call, in numbers.

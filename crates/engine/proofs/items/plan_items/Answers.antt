@@ -1,7 +1,8 @@
 -- `engine::items::plan_items` meets its contract: the rule broken, no stores, or one compaction, as it was decided. Assumes nothing.
 use mathlib.Core.Logic.{inl, inr}
 use Rattle.std.specs.Prelude.{Ok}
-use mathlib.Core.Path.{ap, ◌∙◌}
+use mathlib.Core.Path.{ap, sym, subst, ◌∙◌}
+use Rattle.plan.specs.Planned.{Plans}
 use Rattle.plan.proofs.Parts.{refused-plans, nothing-plans}
 use Rattle.engine.proofs.Profiling.{weigh-asked, items_refused, items-nothing, never-removed, fold-asked, fold-plans}
 use Rattle.std.proofs.lemmas.Result.{err_from_is_err_and}
@@ -24,7 +25,7 @@ returns-in-Nothing c =
     let a = c.args in
     let p = c.requires in
     elim c.in-Nothing.is [
-      | inl e ↦ λ m s h. nothing-plans _ _ _ _ c.nothing.ensures (items-nothing a.said a.held a.locks.now a.limits.now p.ready c.cut-region.ensures p.reads p.apart c.weigh-what.ensures.0 m s h (c.in_ok-what.was ∙ ap Ok e))
+      | inl e ↦ λ m s h. subst (Plans _ _ _ _) (sym c.accept.ensures) (nothing-plans _ _ _ _ c.nothing.ensures (items-nothing a.said a.held a.locks.now a.limits.now p.ready c.cut-region.ensures p.reads p.apart c.weigh-what.ensures.0 m s h (c.in_ok-what.was ∙ ap Ok e)))
       | inr e ↦ λ m s h. absurd (never-removed a.said a.held a.locks.now a.limits.now p.ready c.cut-region.ensures p.reads p.apart c.weigh-what.ensures.0 m s h (c.in_ok-what.was ∙ ap Ok e))
     ]
 

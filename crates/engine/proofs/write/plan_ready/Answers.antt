@@ -1,7 +1,8 @@
 -- `engine::write::plan_ready` meets its contract: the rule broken, nothing, a delete, a put, or both changes at once, as it was decided. Assumes nothing.
 use Rattle.std.specs.Prelude.{Ok}
-use mathlib.Core.Path.{ap, ◌∙◌}
+use mathlib.Core.Path.{ap, sym, subst, ◌∙◌}
 use Rattle.decision.specs.Parts.{value_by}
+use Rattle.plan.specs.Planned.{Plans}
 use Rattle.plan.proofs.Parts.{refused-plans, nothing-plans}
 use Rattle.engine.proofs.Setting.{region-asked, said-foreign, set-refused, set-nothing, remove-asked, remove-plans, put-asked, put-plans, removed-asked, removed-plans, enrolled-asked, enrolled-plans}
 use Rattle.std.proofs.lemmas.Result.{err_from_is_err_and}
@@ -19,7 +20,7 @@ returns-in_err-what c =
 
 pub returns-in-Nothing : goal.returns-in-Nothing
 returns-in-Nothing c =
-    λ m s h. nothing-plans _ _ _ _ c.nothing.ensures (set-nothing _ _ _ _ _ _ _ _ _ _ c.requires.0 c.cut-region.ensures c.decide-what.ensures m s h (c.in_ok-what.was ∙ ap Ok c.in-Nothing.is))
+    λ m s h. subst (Plans _ _ _ _) (sym c.accept.ensures) (nothing-plans _ _ _ _ c.nothing.ensures (set-nothing _ _ _ _ _ _ _ _ _ _ c.requires.0 c.cut-region.ensures c.decide-what.ensures m s h (c.in_ok-what.was ∙ ap Ok c.in-Nothing.is)))
 
 pub plan_joint-requires : goal.plan_joint-requires
 plan_joint-requires c =
@@ -34,7 +35,7 @@ delete-requires c = remove-asked _ _ _ _ _ _ _ _ _ _ c.requires.0 c.cut-region.e
 
 pub returns-in-None : goal.returns-in-None
 returns-in-None c =
-    λ m s h. remove-plans _ _ _ _ _ _ _ _ _ _ c.requires.0 c.cut-region.ensures c.decide-what.ensures m s h (c.in_ok-what.was ∙ ap Ok c.in-Remove.is) c.in-None.is c.requires.1 (c.requires.2 m s) _ _ c.delete.ensures
+    λ m s h. subst (Plans _ _ _ _) (sym c.accept-in-None.ensures) (remove-plans _ _ _ _ _ _ _ _ _ _ c.requires.0 c.cut-region.ensures c.decide-what.ensures m s h (c.in_ok-what.was ∙ ap Ok c.in-Remove.is) c.in-None.is c.requires.1 (c.requires.2 m s) _ _ c.delete.ensures)
 
 pub plan_joint-requires-in-Some-beside : goal.plan_joint-requires-in-Some-beside
 unfolding value_by
