@@ -11,7 +11,7 @@ ghost use Rattle.model.specs.Rules.{first_broken};
 ghost use Rattle.limits.specs.Broken.{broken_by};
 ghost use Rattle.values.specs.Found.{old_data_def};
 ghost use Rattle.policy.specs.Descriptor.{stamp_of_def};
-ghost use Rattle.decision.specs.Parts.{judged_of, stands, equal_by, kind_by, stamp_over_def, stamp_kept, leaves_by, classed_by, old_sums, OldCounts, sums_after, room_by, room_after_def, result_by, outcome_by, limited_by, roomed_by};
+ghost use Rattle.decision.specs.Parts.{judged_of, stands, equal_by, kind_by, stamp_over_def, stamp_kept, leaves_by, classed_by, old_sums, OldCounts, sums_after, room_by, room_after_def, result_by, outcome_by, roomed_by};
 
 use crate::{Change, NewValue, Sums};
 use layout::fixed;

@@ -1,5 +1,5 @@
 // The blocks that a plan erases, counted from its operations.
-ghost use Rattle.std.specs.Prelude.{◌≡◌, ◌≤◌, length};
+ghost use Rattle.std.specs.Prelude.{◌≡◌, ◌≤◌};
 ghost use Rattle.plan.specs.Plan.{size_of};
 ghost use Rattle.desk.specs.Erasing.{erased_of_def, erased_in};
 

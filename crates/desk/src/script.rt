@@ -1,6 +1,5 @@
 // A script read at its places: numbers and items as in profiles.
 ghost use Rattle.std.specs.Prelude.{◌≡◌, length, drop};
-ghost use Rattle.std.proofs.Math.Option.{none};
 ghost use Rattle.model.specs.Lists.{is_some};
 ghost use Rattle.desk.specs.Script.{item_step, delete_step, cut_step, kind_step, step_at, steps_at, script_of};
 ghost use Rattle.desk.specs.Reader.{cut_at, step_of, Stops, form_of, Holds};

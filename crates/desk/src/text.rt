@@ -1,5 +1,5 @@
 // The lines that are printed, written into a lent buffer.
-ghost use Rattle.std.specs.Prelude.{◌≡◌, ◌+◌, ◌^◌, ◌<◌, ◌≤◌, length};
+ghost use Rattle.std.specs.Prelude.{◌+◌, ◌^◌, ◌<◌, ◌≤◌, length};
 ghost use Rattle.model.specs.Answers.{rule_number, answer_of};
 ghost use Rattle.output.specs.Text.{Wrote, decimal_of};
 ghost use Rattle.report.specs.Varlist.{field, refused_line};

@@ -1,6 +1,6 @@
 // The calls that store: set and format. Each is planned by a function that is lent the image shared and knows no n, and then carried out up to n. Of a session a set is
 // given what it says to it: there is one that says so, and what a set ensures holds of each.
-ghost use Rattle.std.specs.Prelude.{◌≡◌, Bool, ◌≤◌, Some, Ok, length};
+ghost use Rattle.std.specs.Prelude.{◌≡◌, Bool, Some, Ok, length};
 ghost use Rattle.model.specs.declared.Session.{Session};
 ghost use Rattle.model.specs.Name.{keyed};
 ghost use Rattle.model.specs.StartUp.{format_plan};

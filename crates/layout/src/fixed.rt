@@ -1,5 +1,5 @@
 // The fixed byte strings of the format: vendor GUIDs, certificate GUID, key names, a record's name, and the region's header.
-ghost use Rattle.std.specs.Prelude.{◌≡◌, ◌&&◌, ◌||◌, ◌+◌, ◌≤◌, ◌%◌, length, take, drop};
+ghost use Rattle.std.specs.Prelude.{◌≡◌, ◌&&◌, ◌||◌, ◌+◌, ◌≤◌, length, take, drop};
 ghost use Rattle.model.specs.Lists.{same};
 ghost use Rattle.model.specs.Image.{region_header_in};
 ghost use Rattle.model.specs.Region.{right_header_in};

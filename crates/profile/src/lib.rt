@@ -1,7 +1,7 @@
 // A profile's file: its numbers and items, read at their places.
 #![tactic(auto)]
 
-ghost use Rattle.std.specs.Prelude.{◌≡◌, ◌+◌, ◌^◌, ◌<◌, ◌≤◌, length, take, drop, get_or};
+ghost use Rattle.std.specs.Prelude.{◌≡◌, ◌+◌, ◌^◌, ◌<◌, ◌≤◌, length, drop, get_or};
 ghost use Rattle.std.specs.List.{list_any, slice_range};
 ghost use Rattle.model.specs.Lists.{part, among};
 ghost use Rattle.model.specs.Name.{same_key_def};

@@ -11,7 +11,7 @@ ghost use Rattle.model.specs.Region.{entries_in, right_live_def, is_entry_def};
 ghost use Rattle.region.specs.Walk.{entry_as};
 ghost use Rattle.region.specs.Judge.{plain_attributes_def, live_state_def, right_record_def, entry_sound_def, doubled_in, judged_in, UsualFront, RightSizes, UsualOf};
 ghost use Rattle.region.specs.Marks.{up_to};
-ghost use Rattle.region.specs.Met.{first_at, key_from, is_sought_def, nowhere, met_of, met_by, met_at_def, surveyed, searched_in};
+ghost use Rattle.region.specs.Met.{first_at, key_from, is_sought_def, met_of, met_by, met_at_def, surveyed, searched_in};
 
 use crate::{GivenUp, Met, Searched, Sound, Survey, Usual, marks, sorted, walk};
 use layout::Entry;

@@ -1,13 +1,10 @@
 // Entries of a region, looked up by name and GUID.
 ghost use Rattle.std.specs.Prelude.{◌≡◌, ◌-◌, ◌≤◌, length};
-ghost use Rattle.model.specs.Lists.{first};
 ghost use Rattle.model.specs.Name.{keyed};
 ghost use Rattle.model.specs.Region.{entries, added, replacing, standing};
-ghost use Rattle.model.specs.Beside.{from_in};
 ghost use Rattle.values.specs.Found.{found_of, else_found, old_data_def, NoneBefore};
 
 use crate::Places;
-use layout::Entry;
 use model::Layout;
 use region::{Placed, walk};
 
