@@ -23,7 +23,12 @@ use session::Locks;
 use values::lookup;
 
 // "A mode alone is stored as a set stores": PlatMode's value is put.
-fn plan_alone(image: &[u8], standing: Standing, byte: u8, content: &mut [u8]) -> Result<Planned, Rule>
+fn plan_alone(
+    image: &[u8],
+    standing: Standing,
+    byte: u8,
+    content: &mut [u8],
+) -> Result<Planned, Rule>
     requires { Asked image.now standing.ready.blocks standing.ready.tail standing.ready.used standing.places (mode_value byte) × (length content.old ≡ 28672) }
     ensures { PutPlanned image.now (mode_value byte) content.new result }
 {
