@@ -48,7 +48,7 @@ fn plan_items(
     } = decision::items::weigh(said, held, locks, limits, region, file, settings);
     match what? {
         Change::Nothing | Change::Remove => plan::accept(plan::nothing(), None),
-        Change::Put => Ok(planner::items::fold(
+        Change::Put => planner::items::fold(
             image,
             ready.blocks,
             ready.used,
@@ -57,7 +57,7 @@ fn plan_items(
             leave,
             stores,
             content,
-        )),
+        ),
     }
 }
 

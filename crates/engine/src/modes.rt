@@ -37,9 +37,9 @@ fn plan_alone(
     let stamp = [0; 16];
     let data = [byte];
     let none = slices::cut(&data, 0, 0);
-    Ok(planner::put::put_value(
+    planner::put::put_value(
         image, standing, &name, &vendor, 0x07, &stamp, none, &data, content,
-    ))
+    )
 }
 
 // "user to audit, losing PK": one compaction, without PK's entry and PlatMode's, at these offsets, and with PlatMode's value last.
@@ -56,7 +56,7 @@ fn plan_losing(
 {
     let zeros = [0; 16];
     let none = slices::cut(image, 0, 0);
-    Ok(planner::joint::fold(
+    planner::joint::fold(
         image,
         ready.blocks,
         ready.used,
@@ -71,7 +71,7 @@ fn plan_losing(
         none,
         byte,
         content,
-    ))
+    )
 }
 
 // A mode request over an image that is ready: rules 22, 6, 24 and 13, then the mode alone, or with it PK's loss.

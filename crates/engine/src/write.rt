@@ -47,7 +47,7 @@ fn plan_put(
     let stamp = value.stamp;
     let kept = decision::kept(region, places, value.keeps);
     let own = slices::from(bytes, value.own);
-    Ok(planner::put::put_value(
+    planner::put::put_value(
         image,
         standing,
         name,
@@ -57,7 +57,7 @@ fn plan_put(
         kept,
         own,
         content,
-    ))
+    )
 }
 
 // The byte that comes in the place of PlatMode's value: 3, or none.
@@ -94,7 +94,7 @@ fn plan_joint(
     let pk = decision::modes::offset(lookup::standing(places));
     let kept = decision::kept(region, places, value.keeps);
     let own = slices::from(bytes, value.own);
-    Ok(planner::joint::fold(
+    planner::joint::fold(
         image,
         standing.ready.blocks,
         standing.ready.used,
@@ -109,7 +109,7 @@ fn plan_joint(
         own,
         byte(deploys),
         content,
-    ))
+    )
 }
 
 // A set over an image that is ready: rules 3 to 13, 17, 18, 21, 22 and 24, then what it does to the values.

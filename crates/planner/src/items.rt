@@ -1,5 +1,5 @@
 // The plan of a profile that changes something: one compaction, with all its items folded in.
-ghost use Rattle.std.specs.Prelude.{◌≡◌, Ok, ◌++◌, ◌^◌, ◌≤◌, ◌<◌, length};
+ghost use Rattle.std.specs.Prelude.{◌≡◌, ◌++◌, ◌^◌, ◌≤◌, ◌<◌, length};
 ghost use Rattle.model.specs.Image.{region_header_def};
 ghost use Rattle.model.specs.Region.{values_of};
 ghost use Rattle.model.specs.Compact.{joined};
@@ -10,6 +10,7 @@ ghost use Rattle.profile.specs.Reader.{request_in, requests_in};
 ghost use Rattle.planner.specs.Asked.{FoldPlanned, stored_if, stored_by, Foldable};
 
 use crate::compaction;
+use model::Rule;
 use plan::{Planned, Step};
 use profile::{Setting, Settings};
 
@@ -79,9 +80,9 @@ pub fn fold(
     leave: [usize; 8],
     stores: [bool; 8],
     content: &mut [u8],
-) -> Planned
+) -> Result<Planned, Rule>
     requires { Foldable image.now b used (requests_in file.now p) leave stores × (p.count ≤ 8) × (length content.old ≡ 28672) }
-    ensures { FoldPlanned image.now (changes_alone (requests_in file.now p) (values_of image.now)) content.new (Ok result) }
+    ensures { FoldPlanned image.now (changes_alone (requests_in file.now p) (values_of image.now)) content.new result }
 {
     let n = put_after(
         content,
@@ -92,8 +93,8 @@ pub fn fold(
         stores,
     );
     let plan = compaction::compact_front(content, n, Step::Nothing, Step::Nothing, b, used);
-    Planned {
+    Ok(Planned {
         plan,
         deciding: Some(5),
-    }
+    })
 }

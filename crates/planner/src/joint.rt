@@ -1,5 +1,5 @@
 // The plan of a change of PK and one of PlatMode together: one compaction, with both folded in.
-ghost use Rattle.std.specs.Prelude.{◌≡◌, Ok, ◌++◌, ◌^◌, ◌≤◌, ◌<◌, length};
+ghost use Rattle.std.specs.Prelude.{◌≡◌, ◌++◌, ◌^◌, ◌≤◌, ◌<◌, length};
 ghost use Rattle.model.specs.Image.{region_header_def};
 ghost use Rattle.model.specs.Compact.{joined};
 ghost use Rattle.output.specs.Text.{Wrote};
@@ -8,6 +8,7 @@ ghost use Rattle.planner.specs.Asked.{valued, joint_changes, stored_pk, stored_m
 
 use crate::compaction;
 use layout::fixed;
+use model::Rule;
 use plan::{Planned, Step};
 
 // The entry of PK's value, if it comes.
@@ -94,12 +95,12 @@ pub fn fold(
     own: &[u8],
     byte: u8,
     content: &mut [u8],
-) -> Planned
+) -> Result<Planned, Rule>
     requires { Joinable image.now b used pk mode comes (valued name.now vendor.now attributes stamp.now (old.now ++ own.now)) byte
         × (length content.old ≡ 28672) }
     ensures { FoldPlanned image.now
         (joint_changes comes (valued name.now vendor.now attributes stamp.now (old.now ++ own.now)) byte)
-        content.new (Ok result) }
+        content.new result }
 {
     let n = put_after(
         content,
@@ -115,8 +116,8 @@ pub fn fold(
         byte,
     );
     let plan = compaction::compact_front(content, n, Step::Nothing, Step::Nothing, b, used);
-    Planned {
+    Ok(Planned {
         plan,
         deciding: Some(5),
-    }
+    })
 }

@@ -1,5 +1,5 @@
 // The plan of a put: the value that a set asks for is stored in the tail, or with a compaction. What is to be stored is composed in the content.
-ghost use Rattle.std.specs.Prelude.{◌≡◌, Ok, true, false, ◌++◌, ◌^◌, ◌≤◌, ◌<◌, length};
+ghost use Rattle.std.specs.Prelude.{◌≡◌, true, false, ◌++◌, ◌^◌, ◌≤◌, ◌<◌, length};
 ghost use Rattle.model.specs.Name.{keyed};
 ghost use Rattle.model.specs.Image.{region_header_def, region};
 ghost use Rattle.model.specs.Region.{entries, standing, sound, values};
@@ -12,7 +12,7 @@ ghost use Rattle.planner.specs.Asked.{valued, Asked, PutPlanned};
 
 use crate::{Standing, compaction, entries};
 use image::Ready;
-use model::Layout;
+use model::{Layout, Rule};
 use plan::{Planned, Step};
 use values::{Places, lookup};
 
@@ -59,12 +59,12 @@ fn fold(
     old: &[u8],
     own: &[u8],
     content: &mut [u8],
-) -> Planned
+) -> Result<Planned, Rule>
     requires { Asked image.now standing.ready.blocks standing.ready.tail standing.ready.used standing.places (valued name.now vendor.now attributes stamp.now (old.now ++ own.now))
         × (fits_tail (region image.now) (valued name.now vendor.now attributes stamp.now (old.now ++ own.now)) ≡ false)
         × (length content.old ≡ 28672) }
     ensures { PutPlanned image.now
-        (valued name.now vendor.now attributes stamp.now (old.now ++ own.now)) content.new (Ok result) }
+        (valued name.now vendor.now attributes stamp.now (old.now ++ own.now)) content.new result }
 {
     let Ready { blocks, used, .. } = standing.ready;
     let n = put_after(
@@ -79,10 +79,10 @@ fn fold(
         own,
     );
     let plan = compaction::compact_front(content, n, Step::Nothing, Step::Nothing, blocks, used);
-    Planned {
+    Ok(Planned {
         plan,
         deciding: Some(5),
-    }
+    })
 }
 
 // "In the tail": the entry is composed at the content's front, with FF in the place of its state.
@@ -96,20 +96,20 @@ fn in_tail(
     old: &[u8],
     own: &[u8],
     content: &mut [u8],
-) -> Planned
+) -> Result<Planned, Rule>
     requires { Asked image.now standing.ready.blocks standing.ready.tail standing.ready.used standing.places (valued name.now vendor.now attributes stamp.now (old.now ++ own.now))
         × (fits_tail (region image.now) (valued name.now vendor.now attributes stamp.now (old.now ++ own.now)) ≡ true)
         × (length content.old ≡ 28672) }
     ensures { PutPlanned image.now
-        (valued name.now vendor.now attributes stamp.now (old.now ++ own.now)) content.new (Ok result) }
+        (valued name.now vendor.now attributes stamp.now (old.now ++ own.now)) content.new result }
 {
     compose::put_entry(0xFF, content, 0, attributes, stamp, name, vendor, old, own);
     let tail = standing.ready.tail;
     let plan = entries::tail_write(standing.places, tail, name.len(), old.len() + own.len());
-    Planned {
+    Ok(Planned {
         plan,
         deciding: Some(6),
-    }
+    })
 }
 
 // The plan of a value that is put: "In the tail, if the rounded entry fits". Its data are those kept, then those given.
@@ -123,11 +123,11 @@ pub fn put_value(
     old: &[u8],
     own: &[u8],
     content: &mut [u8],
-) -> Planned
+) -> Result<Planned, Rule>
     requires { Asked image.now standing.ready.blocks standing.ready.tail standing.ready.used standing.places (valued name.now vendor.now attributes stamp.now (old.now ++ own.now))
         × (length content.old ≡ 28672) }
     ensures { PutPlanned image.now
-        (valued name.now vendor.now attributes stamp.now (old.now ++ own.now)) content.new (Ok result) }
+        (valued name.now vendor.now attributes stamp.now (old.now ++ own.now)) content.new result }
 {
     let size = layout::entry_size(Layout::AUTHENTICATED, name.len(), old.len() + own.len());
     if standing.ready.tail + size <= layout::BLOCK * standing.ready.blocks {
