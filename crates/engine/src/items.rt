@@ -47,17 +47,19 @@ fn plan_items(
         stores,
     } = decision::items::weigh(said, held, locks, limits, region, file, settings);
     match what? {
-        Change::Nothing | Change::Remove => plan::accept(plan::nothing(), None),
-        Change::Put => planner::items::fold(
-            image,
-            ready.blocks,
-            ready.used,
-            file,
-            settings,
-            leave,
-            stores,
-            content,
-        ),
+        Change::Nothing | Change::Remove => return plan::accept(plan::nothing(), None),
+        Change::Put => {
+            return planner::items::fold(
+                image,
+                ready.blocks,
+                ready.used,
+                file,
+                settings,
+                leave,
+                stores,
+                content,
+            );
+        }
     }
 }
 

@@ -99,15 +99,15 @@ fn plan_ready(
         places,
     } = modes::decide(said, held, locks, region, to);
     match what? {
-        Change::Nothing | Change::Remove => plan::accept(plan::nothing(), None),
+        Change::Nothing | Change::Remove => return plan::accept(plan::nothing(), None),
         Change::Put => match pk {
             Some(pk) => {
                 let there = modes::offset(lookup::standing(places));
-                plan_losing(image, ready, pk, there, byte, content)
+                return plan_losing(image, ready, pk, there, byte, content);
             }
             None => {
                 let standing = Standing { ready, places };
-                plan_alone(image, standing, byte, content)
+                return plan_alone(image, standing, byte, content);
             }
         },
     }

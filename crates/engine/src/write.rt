@@ -148,18 +148,26 @@ fn plan_ready(
     );
     let standing = Standing { ready, places };
     match what? {
-        Change::Nothing => plan::accept(plan::nothing(), None),
+        Change::Nothing => return plan::accept(plan::nothing(), None),
         Change::Remove => match beside {
-            Some(mode) => plan_joint(
-                image, region, standing, false, name, vendor, bytes, value, mode, deploys, content,
-            ),
-            None => plan::accept(planner::entries::delete(places), Some(1)),
+            Some(mode) => {
+                return plan_joint(
+                    image, region, standing, false, name, vendor, bytes, value, mode, deploys,
+                    content,
+                );
+            }
+            None => return plan::accept(planner::entries::delete(places), Some(1)),
         },
         Change::Put => match beside {
-            Some(mode) => plan_joint(
-                image, region, standing, true, name, vendor, bytes, value, mode, deploys, content,
-            ),
-            None => plan_put(image, region, standing, name, vendor, bytes, value, content),
+            Some(mode) => {
+                return plan_joint(
+                    image, region, standing, true, name, vendor, bytes, value, mode, deploys,
+                    content,
+                );
+            }
+            None => {
+                return plan_put(image, region, standing, name, vendor, bytes, value, content);
+            }
         },
     }
 }
