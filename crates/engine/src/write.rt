@@ -224,7 +224,8 @@ pub fn set(
     flash::carry_out(image, planned, content, c)
 }
 
-// The plan of a format: "Formatting meets 1 only".
+// The plan of a format: "Formatting meets 1 only". It is kept apart, so that its stack is taken only while it runs.
+#[inline(never)]
 pub fn plan_format(image: &[u8], content: &mut [u8; layout::CONTENT]) -> Result<Planned, Rule>
     ensures { Plans (format_plan image.now) image.now content.old content.new result }
 {

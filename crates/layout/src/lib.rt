@@ -37,11 +37,11 @@ pub struct Entry {
 pub fn u16_at(s: &[u8], i: usize) -> u32
     ensures { (result ≡ u16_at_def s.now i) × (result < 65536) }
 {
-    match slices::from(s, i) {
-        [] => 0,
-        [low] => u32::from(*low),
-        [low, high, ..] => u32::from(*low) + 256 * u32::from(*high),
+    if s.len() <= i {
+        return 0;
     }
+    let high = if i + 1 < s.len() { s[i + 1] } else { 0 };
+    u32::from(s[i]) + 256 * u32::from(high)
 }
 
 pub fn u32_at(s: &[u8], i: usize) -> u32

@@ -96,7 +96,9 @@ fn field(old: &[u8], own: &[u8], at: u32, width: u32) -> u32
     first + 256 * second + 65536 * (third + 256 * fourth)
 }
 
-// Whether data meet a rule: their size, and the field in them.
+// Whether data meet a rule: their size, and the field in them. It is kept apart: joined to its callers it reads the table at more places than the compiler follows,
+// which then copies a session that goes by value.
+#[inline(never)]
 fn meets(t: &[u8], old: &[u8], own: &[u8]) -> bool
     ensures { result ≡ meets (limit_of t.now) (old.now ++ own.now) }
 {

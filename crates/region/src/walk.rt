@@ -22,6 +22,7 @@ fn stride(y: Layout, e: Entry) -> usize
 }
 
 // What a turn of the walk finds at an offset: an entry's numbers and the offset of the next entry. At the end of the walk, and past it, nothing.
+#[inline(always)]
 pub fn turn(y: Layout, region: &[u8], at: usize) -> Option<(Entry, usize)>
     ensures { result ≡ turn_in y region.now at }
 {
@@ -131,6 +132,7 @@ impl<'a> Stored<'a> {
 
     // Whether it has this state, name and GUID. What is cheap to compare comes first, and the name before the GUID: variables of one vendor differ in their names, and
     // most of them in the eight bytes at the end, with which their comparison begins.
+    #[inline]
     pub fn is(&self, state: u8, name: &[u8], vendor: &[u8]) -> bool
         ensures { result ≡ is_entry_def state (keyed name.now vendor.now) (entry_of self.now) }
     {
@@ -163,6 +165,7 @@ impl<'a> Iterator for Walk<'a> {
 
     ghost remaining = { item_count left };
 
+    #[inline(always)]
     fn next(&mut self) -> Option<Stored<'a>> {
         let at = self.at;
         let (entry, next) = turn(self.form, self.region, at)?;

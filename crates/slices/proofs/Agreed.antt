@@ -7,14 +7,12 @@ use native.Mathlib.Omega.{arith}
 use mathlib.Core.Path.{◌≡◌, refl, sym, ap, ◌∙◌}
 use mathlib.Core.Bool.{Bool, true, false}
 use mathlib.Core.List.{List}
-use lib.ListN.{length, take, get_or, get_or-eq_default}
+use lib.ListN.{length, get_or, get_or-eq_default}
 use lib.Seq.{ext_get_or}
-use lib.Dec.{eqb, leb}
-use lib.Pointwise.{pointwise, bytes_decides}
+use lib.Dec.{leb}
 use borrow.Author.Tests.{leb-true, leb-false}
-use Rattle.std.proofs.lemmas.List.{get_or-take}
 use Rattle.model.specs.Lists.{same, u32_at}
-use Rattle.model.proofs.Tests.{both_ways, same_refl, same-eq}
+use Rattle.model.proofs.Tests.{same_refl, same-eq}
 use Rattle.slices.specs.Agree.{Agree, u64_at}
 
 -- ---- two lists
@@ -32,24 +30,27 @@ agree-end xs ys h = record {
   on = λ j k. get_or-eq_default xs 0 k ∙ sym (get_or-eq_default ys 0 (rw h at k));
 }
 
--- so they are equal just if their fronts are
-pub agree-front : (xs ys : List ℕ) (i : ℕ) → Agree xs ys i → pointwise eqb (take i xs) (take i ys) ≡ same xs ys
-agree-front xs ys i c = both_ways (pointwise eqb (take i xs) (take i ys)) (same xs ys) forth (λ t. (bytes_decides (take i xs) (take i ys)).1 (ap (take i) (same-eq xs ys t)))
+-- their fronts agree one byte further
+pub agree-one : (xs ys : List ℕ) (k : ℕ) → ((j : ℕ) → j < k → get_or xs j 0 ≡ get_or ys j 0) → get_or xs k 0 ≡ get_or ys k 0
+    → (j : ℕ) → j < k + 1 → get_or xs j 0 ≡ get_or ys j 0
+agree-one xs ys k front e j h = go (leb k j) refl
   where
-    forth : pointwise eqb (take i xs) (take i ys) ≡ true → same xs ys ≡ true
-    forth t =
-        let front = (bytes_decides (take i xs) (take i ys)).0 t in
-        let go : (j : ℕ) → (t : Bool) → leb i j ≡ t → get_or xs j 0 ≡ get_or ys j 0 =
-        λ j t.
-        elim t as (λ t. leb i j ≡ t → get_or xs j 0 ≡ get_or ys j 0) [
-          | true ↦ λ p. c.on j (leb-true i j p)
-          | false ↦ λ p.
-              let l : j < i = leb-false i j p in
-              sym (get_or-take i xs j 0 l) ∙ ap (λ (l : List ℕ). get_or l j 0) front ∙ get_or-take i ys j 0 l
-        ]
-        in
-        let whole : xs ≡ ys = ext_get_or 0 xs ys c.long (λ j k. go j (leb i j) refl) in
-        rw whole (same_refl ys)
+    go : (t : Bool) → leb k j ≡ t → get_or xs j 0 ≡ get_or ys j 0
+    go true p =
+        let l = leb-true k j p in
+        let q : j ≡ k = omega arith in
+        rw q e
+    go false p = front j (leb-false k j p)
+
+-- so they are equal if their fronts agree too
+pub agree-whole : (xs ys : List ℕ) (i : ℕ) → Agree xs ys i → ((j : ℕ) → j < i → get_or xs j 0 ≡ get_or ys j 0) → same xs ys ≡ true
+agree-whole xs ys i c front =
+    let e : xs ≡ ys = ext_get_or 0 xs ys c.long (λ j k. go j (leb i j) refl) in
+    rw e (same_refl ys)
+  where
+    go : (j : ℕ) → (t : Bool) → leb i j ≡ t → get_or xs j 0 ≡ get_or ys j 0
+    go j true p = c.on j (leb-true i j p)
+    go j false p = front j (leb-false i j p)
 
 -- ---- numbers of bytes
 

@@ -54,7 +54,12 @@ pub fn equal(a: &[u8], b: &[u8]) -> bool
             return false;
         }
     }
-    a[..i] == b[..i]
+    for k in 0..i {
+        if a[k] != b[k] {
+            return false;
+        }
+    }
+    true
 }
 
 // Whether every byte is FF, one by one: for what is left over by the quarters.

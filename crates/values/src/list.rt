@@ -16,6 +16,7 @@ use model::Layout;
 use region::walk::{self, Stored, Walk};
 
 // Whether an entry is its name's value: a 3F entry, or a 3E entry beside no 3F entry.
+#[inline(always)]
 pub fn stands(y: Layout, region: &[u8], e: &Stored) -> bool
     ensures { result ≡ is_value (entries_in y region.now) (entry_of e.now) }
 {
@@ -49,6 +50,7 @@ impl<'a> Iterator for Listed<'a> {
 
     ghost remaining = { item_count values_left };
 
+    #[inline(always)]
     fn next(&mut self) -> Option<Stored<'a>> {
         while let Some(e) = self.walk.next() {
             if stands(self.form, self.region, &e) {

@@ -3,7 +3,7 @@ use native.Mathlib.Omega.{arith}
 use mathlib.Core.Path.{sym, ◌∙◌}
 use lib.ListN.{length, get_or}
 use Rattle.slices.specs.Agree.{u64_at}
-use Rattle.slices.proofs.Agreed.{differ, agree-end, agree-eight, agree-front}
+use Rattle.slices.proofs.Agreed.{differ, agree-end, agree-eight, agree-one, agree-whole}
 use Rattle.slices.proofs.equal.Goals as goal
 
 pub returns-then-a-b : goal.returns-then-a-b
@@ -36,5 +36,16 @@ loop-i-preserved c =
     let e = sym c.standing_eight.ensures ∙ c.if-standing_eight.false ∙ c.standing_eight-in-loop-i.ensures in
     (omega arith, agree-eight a.a.now a.b.now hx hy (c.loop-i.i - 8) c.loop-i.i (omega arith) c.loop-i.invariant.1 e)
 
+pub loop-k-init : goal.loop-k-init
+loop-k-init c = λ j h. absurd (omega arith)
+
+pub returns-then-a-k : goal.returns-then-a-k
+returns-then-a-k c =
+    let a = c.args in
+    sym (differ a.a.now a.b.now (λ s. get_or s c.loop-k.k 0) c.if-a-k.true)
+
+pub loop-k-preserved : goal.loop-k-preserved
+loop-k-preserved c = agree-one c.args.a.now c.args.b.now c.loop-k.k c.loop-k.invariant c.if-a-k.false
+
 pub returns : goal.returns
-returns c = c.eq.ensures ∙ agree-front c.args.a.now c.args.b.now c.loop-i.i c.loop-i.invariant.1
+returns c = sym (agree-whole c.args.a.now c.args.b.now c.loop-i.i c.loop-i.invariant.1 (λ j h. c.loop-k.invariant j (omega arith)))
