@@ -1,5 +1,5 @@
 // A step that asks for several names in one call: a line for the call, one for each name, and one with the whole buffer, which has zeros where nothing is written.
-use crate::print::{Hex, Needed, Told};
+use crate::print::{Needed, Told, hex};
 use crate::step::{Names, SIZES};
 use model::{Answer, Context, View};
 
@@ -48,5 +48,7 @@ pub(crate) fn get_many(
             print_given(rt, one);
         }
     }
-    let _ = println!(rt; "buffer {}", Hex(buffer));
+    let _ = print!(rt; "buffer ");
+    hex(rt, buffer);
+    let _ = println!(rt);
 }

@@ -34,7 +34,7 @@ ghost use Rattle.std.specs.Prelude.{◌≡◌};
 ghost use Rattle.model.specs.Name.{keyed};
 ghost use Rattle.model.specs.Rules.{terms_for_def, terms_of};
 
-use crate::print::{Held, Hex, Needed, Told};
+use crate::print::{Held, Needed, Told, hex};
 use crate::step::{Named, Shown, Step};
 use crate::{many, rules, step, tenants};
 use decision::Asking;
@@ -209,11 +209,14 @@ fn print_got(rt: &impl Print, got: Got, buffer: &[u8]) {
     let told = Told(answer);
     let needed = Needed(needed);
     let _ = match answer {
-        Answer::Done(_) => println!(rt;
-            "get {told} size {size} attributes {:02X} data {}{needed}",
-            attributes % 256,
-            Hex(slices::cut(buffer, 0, size as usize))
-        ),
+        Answer::Done(_) => {
+            let _ = print!(rt;
+                "get {told} size {size} attributes {:02X} data ",
+                attributes % 256
+            );
+            hex(rt, slices::cut(buffer, 0, size as usize));
+            println!(rt; "{needed}")
+        }
         _ => println!(rt; "get {told}{needed}"),
     };
 }
@@ -242,10 +245,11 @@ fn next_name(rt: &impl Print, c: Context, view: View, room: u16, named: Named<'_
     let size = next.size;
     let needed = Needed(next.needed);
     let _ = match next.answer {
-        Answer::Done(_) => println!(rt;
-            "next-name {told} size {size} bytes {}{needed}",
-            Hex(slices::cut(&space, 0, size as usize))
-        ),
+        Answer::Done(_) => {
+            let _ = print!(rt; "next-name {told} size {size} bytes ");
+            hex(rt, slices::cut(&space, 0, size as usize));
+            println!(rt; "{needed}")
+        }
         _ => println!(rt; "next-name {told}{needed}"),
     };
 }
@@ -266,13 +270,17 @@ fn phase(rt: &impl Print, to: u32, s: Session) -> Session {
 
 fn poke(rt: &impl Print, at: u32, bytes: &[u8], image: &mut [u8]) {
     output::put_bytes(image, at as usize, bytes);
-    let _ = println!(rt; "bytes at {at} are {}", Hex(bytes));
+    let _ = print!(rt; "bytes at {at} are ");
+    hex(rt, bytes);
+    let _ = println!(rt);
 }
 
 fn show(rt: &impl Print, shown: Shown, image: &[u8]) {
     let Shown { at, size } = shown;
     let part = slices::cut(image, at as usize, usize::from(size));
-    let _ = println!(rt; "at {at} {}", Hex(part));
+    let _ = print!(rt; "at {at} ");
+    hex(rt, part);
+    let _ = println!(rt);
 }
 
 pub(crate) fn varlist(rt: &impl Print, image: &[u8]) {

@@ -1,17 +1,26 @@
 // Parts of a line, as they are printed.
+ghost use Rattle.std.specs.Prelude.{◌<◌, ◌^◌};
+
+use crate::step;
 use model::{Answer, Session};
 use std::fmt;
 
-// Bytes in hexadecimal.
-#[derive(Clone, Copy)]
-pub(crate) struct Hex<'a>(pub &'a [u8]);
+// The digits of bytes, two for each, in one write: as many as there is room for.
+fn digits<const ROOM: usize>(rt: &impl Print, bytes: &[u8])
+    requires { ROOM < 2 ^ 63 }
+{
+    let (bytes, _) = step::bytes(bytes, 65536);
+    let mut out = [0; ROOM];
+    let n = output::put_hex(&mut out, 0, bytes);
+    let _ = rt.write_all(slices::cut(&out, 0, n));
+}
 
-impl fmt::Display for Hex<'_> {
-    fn fmt<W: fmt::Write>(&self, f: &mut fmt::Formatter<W>) -> fmt::Result {
-        for byte in self.0 {
-            write!(f, "{byte:02X}")?;
-        }
-        Ok(())
+// Bytes in hexadecimal, at most as many as the largest buffer has. Most are few, and need no room for many.
+pub(crate) fn hex(rt: &impl Print, bytes: &[u8]) {
+    if bytes.len() <= 2048 {
+        digits::<4096>(rt, bytes)
+    } else {
+        digits::<131072>(rt, bytes)
     }
 }
 

@@ -91,7 +91,7 @@ pub(crate) enum Step<'a> {
 }
 
 // The first bytes, so many of them, and those behind them.
-fn bytes(s: &[u8], size: usize) -> (&[u8], &[u8])
+pub(crate) fn bytes(s: &[u8], size: usize) -> (&[u8], &[u8])
     ensures front { length result.0.now ≤ size }
     ensures back { length result.1.now ≡ length s.now - size }
 {
